@@ -1,0 +1,9 @@
+-- Laws that every crate above shares. A module holds a definition; its `Properties` holds the laws.
+-- Assumes nothing.
+pub mod Tests
+pub mod Sum
+pub mod Least
+pub mod First
+pub mod Count
+pub mod All
+pub mod Written

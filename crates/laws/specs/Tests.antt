@@ -1,7 +1,7 @@
 -- A test from a fact, in one set: what a branch of the code learnt, as the Boolean that a definition looks at.
 -- Assumes nothing.
-use mathlib.Core.Path.{_≡_, refl}
-use mathlib.Core.Bool.{Bool, true, false, _&&_, true≢false}
+use mathlib.Core.Path.{_≡_, refl, sym}
+use mathlib.Core.Bool.{Bool, true, false, not, _&&_, true≢false}
 use borrow.Author.Tests.{lt-ltb, le-ltb, le-leb, lt-leb, eq-eqb, ne-eqb}
 
 pub ruleset tests = (lt-ltb, le-ltb, le-leb, lt-leb, eq-eqb, ne-eqb)
@@ -18,3 +18,17 @@ and-right false b e = absurd (true≢false (cc))
 
 pub and-both : (a b : Bool) → a ≡ true → b ≡ true → (a && b) ≡ true
 and-both a b p q = rw (p, q)
+
+-- ---- a conjunction that the code goes through part by part: r is what a part answered, and a what it should
+
+pub and-stops : (a b r : Bool) → r ≡ a → not r ≡ true → false ≡ (a && b)
+and-stops true b true e t = absurd (true≢false (sym t))
+and-stops true b false e t = absurd (true≢false (sym e))
+and-stops false b r e t = refl
+
+pub and-goes : (a b r x : Bool) → r ≡ a → not r ≡ false → x ≡ b → x ≡ (a && b)
+and-goes true b r x e t q = q
+and-goes false b true x e t q = absurd (true≢false e)
+and-goes false b false x e t q = absurd (true≢false t)
+
+pub ruleset conjunction = (and-stops, and-goes)

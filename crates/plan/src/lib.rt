@@ -1,11 +1,22 @@
-ghost use mathlib.Core.Path.{_≡_};
-ghost use Prim.Native.Nat.{_+_, _*_, _≤_, _<_};
+// A plan: cards, a frame, projects and their unit kinds; and whether its record is in order.
+//
+// Document 01, "What the base holds" and the refusals 2 to 7 of "Numbers given back when we say
+// no". A plan goes by value. Every record is answered, whatever its fields hold.
+mod answer;
+mod check;
 
+pub use answer::Answer;
+pub use answer::Refusal;
+ghost use mathlib.Core.Path.{_≡_};
+ghost use Rattle.plan.specs.Record.{noProject, noKind, noPlan};
+
+// A project's ceiling and budget.
 pub struct Project {
     pub ceiling: u8,
     pub budget: u16,
 }
 
+// A unit kind: the project it names, and its separation, deadline and length in slices.
 pub struct Kind {
     pub project: u8,
     pub separation: u16,
@@ -13,6 +24,8 @@ pub struct Kind {
     pub length: u16,
 }
 
+// The counts of cards, projects and kinds, the frame's length, and a place for each project and
+// each kind. Places beyond the counts hold zeros.
 pub struct Plan {
     pub cards: u8,
     pub projects: u8,
@@ -22,43 +35,52 @@ pub struct Plan {
     pub kind: [Kind; 16],
 }
 
-impl Plan {
-    pub const MOST_CARDS: u8 = 8;
-
-    pub fn empty() -> Self {
-        let project = Project {
+impl Project {
+    pub fn empty() -> Self
+        ensures { λ r. ⌜ r ≡ noProject ⌝ }
+    {
+        Project {
             ceiling: 0,
             budget: 0,
-        };
-        let kind = Kind {
+        }
+    }
+}
+
+impl Kind {
+    pub const LONGEST: u16 = 4095;
+
+    pub fn empty() -> Self
+        ensures { λ r. ⌜ r ≡ noKind ⌝ }
+    {
+        Kind {
             project: 0,
             separation: 0,
             deadline: 0,
             length: 0,
-        };
+        }
+    }
+}
+
+impl Plan {
+    pub const CARDS: u8 = 8;
+
+    pub const PROJECTS: u8 = 8;
+
+    pub const KINDS: u8 = 16;
+
+    pub const FRAME: u8 = 64;
+
+    // The all-zero plan.
+    pub fn empty() -> Self
+        ensures { λ r. ⌜ r ≡ noPlan ⌝ }
+    {
         Plan {
             cards: 0,
             projects: 0,
             kinds: 0,
             frame: 0,
-            project: [project; 8],
-            kind: [kind; 16],
+            project: [Project::empty(); 8],
+            kind: [Kind::empty(); 16],
         }
-    }
-
-    pub fn sized(self) -> bool {
-        if self.cards == 0 {
-            return false;
-        }
-        if self.cards > Plan::MOST_CARDS {
-            return false;
-        }
-        true
-    }
-
-    pub fn cells(self) -> usize
-        ensures { λ r. ⌜ r ≡ self .cards * self .frame ⌝ }
-    {
-        (self.cards as usize) * (self.frame as usize)
     }
 }

@@ -9,26 +9,30 @@ use native.Mathlib.Omega.{arith}
 use Rattle.laws.specs.All.{allTo}
 use Rattle.laws.specs.Tests.{and-left, and-right}
 
-pub all-none : (f : ℕ → Bool) → allTo 0 f ≡ true
+-- ---- the steps of a loop that tests them all
+
+pub all-none : (f : ℕ → Bool) → true ≡ allTo 0 f
 unfolding allTo
 all-none f = refl
 
-pub all-more : (i : ℕ) (f : ℕ → Bool) → allTo i f ≡ true → f i ≡ true → allTo (i + 1) f ≡ true
+pub all-more : (i : ℕ) (f : ℕ → Bool) → true ≡ allTo i f → f i ≡ true → true ≡ allTo (i + 1) f
 unfolding allTo
-all-more i f e t = rw (add-one i, e, t)
+all-more i f e t = rw (add-one i, ← e, t)
 
-pub all-stop : (i n : ℕ) (f : ℕ → Bool) → allTo i f ≡ true → i ≤ n → n ≤ i → allTo n f ≡ true
-all-stop i n f p a b = let e : i ≡ n = omega arith in ap (λ (k : ℕ). allTo k f) (sym e) ∙ p
+pub all-stop : (i n : ℕ) (f : ℕ → Bool) → true ≡ allTo i f → i ≤ n → n ≤ i → true ≡ allTo n f
+all-stop i n f p a b = let e : i ≡ n = omega arith in p ∙ ap (λ (k : ℕ). allTo k f) e
 
 -- one that fails settles it
-pub all-fails : (n i : ℕ) (f : ℕ → Bool) → f i ≡ false → i < n → allTo n f ≡ false
+pub all-fails : (n i : ℕ) (f : ℕ → Bool) → f i ≡ false → i < n → false ≡ allTo n f
 unfolding allTo
 all-fails zero i f t l = absurd (omega arith)
-all-fails (suc n) i f t l = elim (decLt i n) [ yes q ↦ rw (all-fails n i f t q) | no q ↦ here (omega arith) (allTo n f) ]
+all-fails (suc n) i f t l = elim (decLt i n) [ yes q ↦ rw (← (all-fails n i f t q)) | no q ↦ here (omega arith) (allTo n f) ]
   where
-    here : i ≡ n → (b : Bool) → (b && f n) ≡ false
-    here e true = ap f (sym e) ∙ t
+    here : i ≡ n → (b : Bool) → false ≡ (b && f n)
+    here e true = sym t ∙ ap f e
     here e false = refl
+
+-- ---- what it says
 
 pub all-at : (n : ℕ) (f : ℕ → Bool) → allTo n f ≡ true → (i : ℕ) → i < n → f i ≡ true
 unfolding allTo

@@ -1,0 +1,78 @@
+use mathlib.Core.Path.{_≡_, refl}
+use Prim.Native.Nat.{_≤_, _-_}
+use native.Mathlib.Omega.{arith}
+use borrow.Author.Needs.{needs}
+use Rattle.plan.specs.declared.answer.Answer.the-variants.{Good}
+use Rattle.plan.specs.Answer.{eachTo}
+use Rattle.plan.specs.Answer.Properties.{each-none, each-more, each-stop, each-refused, refused, passed}
+use Rattle.plan.specs.Order.{projectInRange, projectsInRange}
+use Rattle.plan.proofs.Plan.projects_in_range.Statement.{statement}
+use Rattle.plan.proofs.Plan.projects_in_range.Tie as tie
+use Rattle.plan.proofs.Plan.projects_in_range.Reads as reads
+use Rattle.plan.proofs.Plan.projects_in_range.Lts as lts
+use Rattle.plan.proofs.Project.in_range.Reads as in-range-reads
+
+abbrev Inv-loop : tie.InvT-loop
+Inv-loop self j₀ j-end j = (j ≤ j-end) × (j-end ≡ self .projects) × (Good ≡ eachTo j (projectInRange self))
+
+abbrev μ-loop : tie.MeasureT-loop
+μ-loop self j₀ j-end j = j-end - j
+
+-- src/check.rt:159:9
+loop-holds : tie.Need-loop-holds Inv-loop μ-loop
+loop-holds c = (omega arith, refl, each-none _)
+
+-- src/check.rt:160:30
+cast-in-range : tie.Need-cast-in-range Inv-loop μ-loop
+cast-in-range c = search needs
+
+-- src/check.rt:160:17
+mul-in-range : tie.Need-mul-in-range Inv-loop μ-loop
+mul-in-range c = search needs
+
+-- src/check.rt:160:17
+element-copy-out-in-range : tie.Need-element-copy-out-in-range Inv-loop μ-loop
+element-copy-out-in-range c = search needs
+
+-- src/check.rt:160:17
+in-range-requires : tie.Need-in-range-requires Inv-loop μ-loop
+in-range-requires c κs = search needs
+
+-- src/check.rt:161:17
+returns : tie.Need-returns Inv-loop μ-loop
+unfolding projectsInRange
+returns c = search (each-refused, refused)
+
+-- src/check.rt:159:13
+add-j : tie.Need-add-j Inv-loop μ-loop
+add-j c = search needs
+
+-- src/check.rt:159:9
+loop-less : tie.Need-loop-less Inv-loop μ-loop
+loop-less c = search needs
+
+-- src/check.rt:159:9
+loop-again : tie.Need-loop-again Inv-loop μ-loop
+loop-again c = (omega arith, search, each-more _ _ (search) (search passed))
+
+-- src/check.rt:155:5
+returns-2 : tie.Need-returns-2 Inv-loop μ-loop
+unfolding projectsInRange
+returns-2 c = search each-stop
+
+pub projects-in-range-spec : {M : Type 1} → statement M
+projects-in-range-spec =
+    tie.close
+    (tie.spec
+    Inv-loop
+    μ-loop
+    loop-holds
+    cast-in-range
+    mul-in-range
+    element-copy-out-in-range
+    in-range-requires
+    returns
+    add-j
+    loop-less
+    loop-again
+    returns-2)

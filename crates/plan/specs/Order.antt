@@ -1,0 +1,118 @@
+-- Document 01, "What the base holds" and the refusals 2 to 7: when a plan's record is in order, and what is said where it is not.
+-- Assumes nothing.
+use Prim.Native.Nat.{ℕ, _*_}
+use mathlib.Core.Bool.{Bool, not, _&&_, _||_}
+use lib.Dec.{leb, ltb, eqb}
+use lib.ListN.{getD}
+use Rattle.laws.specs.Sum.{sumTo}
+use Rattle.laws.specs.All.{allTo}
+use Rattle.plan.specs.declared.Project.{Project}
+use Rattle.plan.specs.declared.Kind.{Kind}
+use Rattle.plan.specs.declared.Plan.{Plan}
+use Rattle.plan.specs.declared.answer.Answer.{Answer}
+use Rattle.plan.specs.declared.answer.Refusal.the-variants.{Bare, ByProject, ByKind}
+use Rattle.plan.specs.Record.{noProject, noKind}
+use Rattle.plan.specs.Answer.{refuse, _andThen_, eachTo}
+pub mod Properties
+
+-- ---- the plan's places
+
+-- project j of the plan
+abbrev pub projectOf : Plan → ℕ → Project
+projectOf p j = getD (p .project) j noProject
+
+-- kind i of the plan
+abbrev pub kindOf : Plan → ℕ → Kind
+kindOf p i = getD (p .kind) i noKind
+
+-- ---- the tests
+
+-- "1..most"
+unfoldable pub within : ℕ → ℕ → Bool
+within most x = not (eqb x 0) && leb x most
+
+-- "cards m 1..8; projects p 1..8; unit kinds n 1..16; frame length F 1..64"
+unfoldable pub sized : Plan → Bool
+sized p = within 8 (p .cards) && (within 8 (p .projects) && (within 16 (p .kinds) && within 64 (p .frame)))
+
+-- a place of a project that holds zeros
+unfoldable pub emptyProject : Project → Bool
+emptyProject v = eqb (v .ceiling) 0 && eqb (v .budget) 0
+
+-- a place of a kind that holds zeros
+unfoldable pub emptyKind : Kind → Bool
+emptyKind v = eqb (v .project) 0 && (eqb (v .separation) 0 && (eqb (v .deadline) 0 && eqb (v .length) 0))
+
+-- "places beyond p .. hold zeros", at place j
+abbrev pub tidyProject : Plan → ℕ → Bool
+tidyProject p j = ltb j (p .projects) || emptyProject (projectOf p j)
+
+-- "places beyond .. n hold zeros", at place i
+abbrev pub tidyKind : Plan → ℕ → Bool
+tidyKind p i = ltb i (p .kinds) || emptyKind (kindOf p i)
+
+-- "places beyond p .. hold zeros"
+unfoldable pub tidyProjects : Plan → Bool
+tidyProjects p = allTo 8 (tidyProject p)
+
+-- "places beyond .. n hold zeros"
+unfoldable pub tidyKinds : Plan → Bool
+tidyKinds p = allTo 16 (tidyKind p)
+
+-- "A project has a ceiling q (1..m) and a budget B (1..qF)"
+unfoldable pub inRange : ℕ → ℕ → Project → Bool
+inRange cards frame v = within cards (v .ceiling) && within (v .ceiling * frame) (v .budget)
+
+-- "1 <= C <= D <= T <= 4095"
+unfoldable pub timed : Kind → Bool
+timed v = not (eqb (v .length) 0) && (leb (v .length) (v .deadline) && (leb (v .deadline) (v .separation) && leb (v .separation) 4095))
+
+-- project j's budget B
+abbrev pub budgetOf : Plan → ℕ → ℕ
+budgetOf p j = projectOf p j .budget
+
+-- the sum of the budgets
+unfoldable pub budgets : Plan → ℕ
+budgets p = sumTo (p .projects) (budgetOf p)
+
+-- ---- the refusals
+
+-- "2: m, p, n or F out of range"
+unfoldable pub sizes : Plan → Answer
+sizes p = refuse (not (sized p)) (Bare 2)
+
+-- "3: .. an unused place not zero"
+unfoldable pub unused : Plan → Answer
+unused p = refuse (not (tidyProjects p)) (Bare 3) andThen refuse (not (tidyKinds p)) (Bare 3)
+
+-- "4: q or B out of range", of project j
+abbrev pub projectInRange : Plan → ℕ → Answer
+projectInRange p j = refuse (not (inRange (p .cards) (p .frame) (projectOf p j))) (ByProject 4 j)
+
+-- "4: q or B out of range", at the first such project
+unfoldable pub projectsInRange : Plan → Answer
+projectsInRange p = eachTo (p .projects) (projectInRange p)
+
+-- "5: kind names a project not below p", "6: not 1 <= C <= D <= T <= 4095", of kind i, 5 before 6
+unfoldable pub kindInRange : ℕ → Kind → ℕ → Answer
+kindInRange projects v i = refuse (not (ltb (v .project) projects)) (ByKind 5 i 0) andThen refuse (not (timed v)) (ByKind 6 i 0)
+
+-- the plan's kind i
+abbrev pub kindInRangeAt : Plan → ℕ → Answer
+kindInRangeAt p i = kindInRange (p .projects) (kindOf p i) i
+
+-- "kind by kind 5 before 6"
+unfoldable pub kindsInRange : Plan → Answer
+kindsInRange p = eachTo (p .kinds) (kindInRangeAt p)
+
+-- "7: budgets sum above mF"
+unfoldable pub budgetsFit : Plan → Answer
+budgetsFit p = refuse (not (leb (budgets p) (p .cards * p .frame))) (Bare 7)
+
+-- ".. 4, 5/6, 7"
+unfoldable pub ranges : Plan → Answer
+ranges p = projectsInRange p andThen (kindsInRange p andThen budgetsFit p)
+
+-- "Records: 2, 3, 4, 5/6, 7"
+unfoldable pub checked : Plan → Answer
+checked p = sizes p andThen (unused p andThen ranges p)

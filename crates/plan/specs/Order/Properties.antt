@@ -1,0 +1,214 @@
+-- Laws of the record's order: what a good answer says of each field, and that nothing less is asked.
+-- Assumes nothing.
+use mathlib.Core.Path.{_≡_, refl, sym, ap, _∙_}
+use mathlib.Core.Bool.{Bool, true, false, not, _&&_, _||_, true≢false}
+use Prim.Native.Nat.{ℕ, _*_, _≤_, _<_}
+use native.Mathlib.Omega.{arith}
+use lib.Dec.{leb, ltb, eqb}
+use borrow.Author.Tests.{lt-ltb, le-ltb, le-leb, ne-eqb, ltb-true, leb-true, eqb-true, eqb-false, not-true, not-false}
+use Rattle.laws.specs.Tests.{and-left, and-right, and-both}
+use Rattle.laws.specs.All.Properties.{all-at, all-of}
+use Rattle.plan.specs.declared.Project.{Project}
+use Rattle.plan.specs.declared.Kind.{Kind}
+use Rattle.plan.specs.declared.Plan.{Plan}
+use Rattle.plan.specs.declared.answer.Answer.{Answer}
+use Rattle.plan.specs.declared.answer.Answer.the-variants.{Good}
+use Rattle.plan.specs.declared.answer.Refusal.the-variants.{Bare, ByProject, ByKind}
+use Rattle.plan.specs.Record.{noProject, noKind}
+use Rattle.plan.specs.Answer.{refuse, _andThen_}
+use Rattle.plan.specs.Answer.Properties.{andThen-left, andThen-right, refuse-good, each-at, each-of}
+use Rattle.plan.specs.Order.{within, sized, emptyProject, emptyKind, tidyProject, tidyKind, tidyProjects, tidyKinds, inRange, timed, budgets, projectOf, kindOf, sizes, unused, projectInRange, projectsInRange, kindInRange, kindInRangeAt, kindsInRange, budgetsFit, ranges, checked}
+
+-- ---- "1..most"
+
+pub within-low : (most x : ℕ) → within most x ≡ true → 0 < x
+unfolding within
+within-low most x e = let z = eqb-false x 0 (not-true (eqb x 0) (and-left (not (eqb x 0)) (leb x most) e)) in omega arith
+
+pub within-high : (most x : ℕ) → within most x ≡ true → x ≤ most
+unfolding within
+within-high most x e = leb-true x most (and-right (not (eqb x 0)) (leb x most) e)
+
+pub within-of : (most x : ℕ) → 0 < x → x ≤ most → within most x ≡ true
+unfolding within
+within-of most x p q = rw (ne-eqb x 0 (λ e. omega arith), le-leb x most q)
+
+-- ---- the counts
+
+-- "cards m 1..8; projects p 1..8; unit kinds n 1..16; frame length F 1..64"
+pub record Sized (p : Plan) : Type 0 where
+  pub some-card : 0 < p .cards
+  pub cards-most : p .cards ≤ 8
+  pub some-project : 0 < p .projects
+  pub projects-most : p .projects ≤ 8
+  pub some-kind : 0 < p .kinds
+  pub kinds-most : p .kinds ≤ 16
+  pub some-slice : 0 < p .frame
+  pub frame-most : p .frame ≤ 64
+
+pub sized-says : (p : Plan) → sized p ≡ true → Sized p
+unfolding sized
+sized-says p e =
+    let m = and-left (within 8 (p .cards)) (within 8 (p .projects) && (within 16 (p .kinds) && within 64 (p .frame))) e in
+    let r = and-right (within 8 (p .cards)) (within 8 (p .projects) && (within 16 (p .kinds) && within 64 (p .frame))) e in
+    let q = and-left (within 8 (p .projects)) (within 16 (p .kinds) && within 64 (p .frame)) r in
+    let s = and-right (within 8 (p .projects)) (within 16 (p .kinds) && within 64 (p .frame)) r in
+    let n = and-left (within 16 (p .kinds)) (within 64 (p .frame)) s in
+    let f = and-right (within 16 (p .kinds)) (within 64 (p .frame)) s in
+    record {
+      some-card = within-low 8 (p .cards) m;
+      cards-most = within-high 8 (p .cards) m;
+      some-project = within-low 8 (p .projects) q;
+      projects-most = within-high 8 (p .projects) q;
+      some-kind = within-low 16 (p .kinds) n;
+      kinds-most = within-high 16 (p .kinds) n;
+      some-slice = within-low 64 (p .frame) f;
+      frame-most = within-high 64 (p .frame) f;
+    }
+
+pub sizes-says : (p : Plan) → sizes p ≡ Good → Sized p
+unfolding sizes
+sizes-says p e = sized-says p (not-false (sized p) (refuse-good (not (sized p)) (Bare 2) e))
+
+-- what the stage answered, opened
+pub sizes-opened : (p : Plan) (r : Answer) → r ≡ Good → r ≡ sizes p → Sized p
+sizes-opened p r e q = sizes-says p (sym q ∙ e)
+
+pub projects-opened : (p : Plan) (r : Answer) → r ≡ Good → r ≡ sizes p → p .projects ≤ 8
+projects-opened p r e q = sizes-opened p r e q .projects-most
+
+pub kinds-opened : (p : Plan) (r : Answer) → r ≡ Good → r ≡ sizes p → p .kinds ≤ 16
+kinds-opened p r e q = sizes-opened p r e q .kinds-most
+
+pub sizes-of : (p : Plan) → Sized p → sizes p ≡ Good
+unfolding sizes sized
+sizes-of p s =
+    rw (within-of 8 (p .cards) (s .some-card) (s .cards-most), within-of 8 (p .projects) (s .some-project) (s .projects-most), within-of 16 (p .kinds) (s .some-kind) (s .kinds-most), within-of 64 (p .frame) (s .some-slice) (s .frame-most))
+
+-- ---- a place: used, empty, or beyond the used ones and not empty. r is what the test of emptiness answered
+
+pub used-place : (j used n : ℕ) (e : Bool) → used ≡ n → j < used → (ltb j n || e) ≡ true
+used-place j used n e q l = rw (lt-ltb j n (omega arith))
+
+pub empty-place : (j n : ℕ) (e r : Bool) → r ≡ e → not r ≡ false → (ltb j n || e) ≡ true
+empty-place j n e true q t = rw (← q) (go (ltb j n))
+  where
+    go : (b : Bool) → (b || true) ≡ true
+    go true = refl
+    go false = refl
+empty-place j n e false q t = absurd (true≢false t)
+
+pub full-place : (j used n : ℕ) (e r : Bool) → used ≡ n → used ≤ j → r ≡ e → not r ≡ true → (ltb j n || e) ≡ false
+full-place j used n e true q l p t = absurd (true≢false (sym t))
+full-place j used n e false q l p t = rw (le-ltb j n (omega arith), ← p)
+
+-- ---- a project and a kind in range
+
+-- "A project has a ceiling q (1..m) and a budget B (1..qF)"
+pub record ProjectInRange (p : Plan) (v : Project) : Type 0 where
+  pub some-ceiling : 0 < v .ceiling
+  pub ceiling-most : v .ceiling ≤ p .cards
+  pub some-budget : 0 < v .budget
+  pub budget-most : v .budget ≤ v .ceiling * p .frame
+
+-- "A unit kind names its project and has a separation T, deadline D and length C with 1 <= C <= D <= T <= 4095"
+pub record KindInRange (p : Plan) (v : Kind) : Type 0 where
+  pub its-project : v .project < p .projects
+  pub some-length : 0 < v .length
+  pub length-most : v .length ≤ v .deadline
+  pub deadline-most : v .deadline ≤ v .separation
+  pub separation-most : v .separation ≤ 4095
+
+pub project-says : (p : Plan) (j : ℕ) → projectInRange p j ≡ Good → ProjectInRange p (projectOf p j)
+unfolding inRange
+project-says p j e =
+    let v = projectOf p j in
+    let t = not-false (inRange (p .cards) (p .frame) v) (refuse-good (not (inRange (p .cards) (p .frame) v)) (ByProject 4 j) e) in
+    let a = and-left (within (p .cards) (v .ceiling)) (within (v .ceiling * p .frame) (v .budget)) t in
+    let b = and-right (within (p .cards) (v .ceiling)) (within (v .ceiling * p .frame) (v .budget)) t in
+    record {
+      some-ceiling = within-low (p .cards) (v .ceiling) a;
+      ceiling-most = within-high (p .cards) (v .ceiling) a;
+      some-budget = within-low (v .ceiling * p .frame) (v .budget) b;
+      budget-most = within-high (v .ceiling * p .frame) (v .budget) b;
+    }
+
+pub project-of : (p : Plan) (j : ℕ) → ProjectInRange p (projectOf p j) → projectInRange p j ≡ Good
+unfolding inRange
+project-of p j r =
+    let v = projectOf p j in
+    rw (within-of (p .cards) (v .ceiling) (r .some-ceiling) (r .ceiling-most), within-of (v .ceiling * p .frame) (v .budget) (r .some-budget) (r .budget-most))
+
+pub kind-says : (p : Plan) (i : ℕ) → kindInRangeAt p i ≡ Good → KindInRange p (kindOf p i)
+unfolding kindInRange timed
+kind-says p i e =
+    let v = kindOf p i in
+    let five = refuse (not (ltb (v .project) (p .projects))) (ByKind 5 i 0) in
+    let six = refuse (not (timed v)) (ByKind 6 i 0) in
+    let a = not-false (ltb (v .project) (p .projects)) (refuse-good (not (ltb (v .project) (p .projects))) (ByKind 5 i 0) (andThen-left five six e)) in
+    let t = not-false (timed v) (refuse-good (not (timed v)) (ByKind 6 i 0) (andThen-right five six e)) in
+    let one = not (eqb (v .length) 0) in
+    let two = leb (v .length) (v .deadline) in
+    let three = leb (v .deadline) (v .separation) in
+    let four = leb (v .separation) 4095 in
+    let b = eqb-false (v .length) 0 (not-true (eqb (v .length) 0) (and-left one (two && (three && four)) t)) in
+    let r = and-right one (two && (three && four)) t in
+    let s = and-right two (three && four) r in
+    record {
+      its-project = ltb-true (v .project) (p .projects) a;
+      some-length = omega arith;
+      length-most = leb-true (v .length) (v .deadline) (and-left two (three && four) r);
+      deadline-most = leb-true (v .deadline) (v .separation) (and-left three four s);
+      separation-most = leb-true (v .separation) 4095 (and-right three four s);
+    }
+
+pub kind-of : (p : Plan) (i : ℕ) → KindInRange p (kindOf p i) → kindInRangeAt p i ≡ Good
+unfolding kindInRange timed
+kind-of p i r =
+    let v = kindOf p i in
+    rw (lt-ltb (v .project) (p .projects) (r .its-project), ne-eqb (v .length) 0 (λ e. omega (arith, r .some-length)), le-leb (v .length) (v .deadline) (r .length-most), le-leb (v .deadline) (v .separation) (r .deadline-most), le-leb (v .separation) 4095 (r .separation-most))
+
+-- ---- the whole record
+
+-- what a plan in order is, field by field
+pub record InOrder (p : Plan) : Type 0 where
+  pub counts : Sized p
+  pub projects-tidy : (j : ℕ) → j < 8 → tidyProject p j ≡ true
+  pub kinds-tidy : (i : ℕ) → i < 16 → tidyKind p i ≡ true
+  pub project-at : (j : ℕ) → j < p .projects → ProjectInRange p (projectOf p j)
+  pub kind-at : (i : ℕ) → i < p .kinds → KindInRange p (kindOf p i)
+  pub cells : budgets p ≤ p .cards * p .frame
+
+-- a good answer says that the plan is in order
+pub in-order : (p : Plan) → checked p ≡ Good → InOrder p
+unfolding checked unused ranges projectsInRange kindsInRange budgetsFit tidyProjects tidyKinds
+in-order p e =
+    let two = sizes p in
+    let three = unused p in
+    let four = projectsInRange p in
+    let six = kindsInRange p in
+    let seven = budgetsFit p in
+    let a = andThen-right two (three andThen ranges p) e in
+    let b = andThen-right three (ranges p) a in
+    let d = andThen-right four (six andThen seven) b in
+    let u = andThen-left three (ranges p) a in
+    let tp = refuse (not (tidyProjects p)) (Bare 3) in
+    let tk = refuse (not (tidyKinds p)) (Bare 3) in
+    record {
+      counts = sizes-says p (andThen-left two (three andThen ranges p) e);
+      projects-tidy = all-at 8 (tidyProject p) (not-false (tidyProjects p) (refuse-good (not (tidyProjects p)) (Bare 3) (andThen-left tp tk u)));
+      kinds-tidy = all-at 16 (tidyKind p) (not-false (tidyKinds p) (refuse-good (not (tidyKinds p)) (Bare 3) (andThen-right tp tk u)));
+      project-at = λ j l. project-says p j (each-at (p .projects) (projectInRange p) (andThen-left four (six andThen seven) b) j l);
+      kind-at = λ i l. kind-says p i (each-at (p .kinds) (kindInRangeAt p) (andThen-left six seven d) i l);
+      cells = leb-true (budgets p) (p .cards * p .frame) (not-false (leb (budgets p) (p .cards * p .frame)) (refuse-good (not (leb (budgets p) (p .cards * p .frame))) (Bare 7) (andThen-right six seven d)));
+    }
+
+-- and a plan in order has a good answer: nothing else is refused
+pub in-order-good : (p : Plan) → InOrder p → checked p ≡ Good
+unfolding checked unused ranges projectsInRange kindsInRange budgetsFit tidyProjects tidyKinds
+in-order-good p o =
+    rw (sizes-of p (o .counts), all-of 8 (tidyProject p) (o .projects-tidy), all-of 16 (tidyKind p) (o .kinds-tidy), each-of (p .projects) (projectInRange p) (λ j l. project-of p j (o .project-at j l)), each-of (p .kinds) (kindInRangeAt p) (λ i l. kind-of p i (o .kind-at i l)), le-leb (budgets p) (p .cards * p .frame) (o .cells))
+
+-- what the record check answered, opened
+pub check-opened : (p : Plan) (r : Answer) → r ≡ Good → r ≡ checked p → InOrder p
+check-opened p r e q = in-order p (sym q ∙ e)

@@ -1,0 +1,2 @@
+-- Laws of the layout.
+-- Assumes nothing.

@@ -1,0 +1,3 @@
+-- The layout of budgets onto cards: document 01, "Layout".
+-- Assumes nothing.
+pub mod Layout

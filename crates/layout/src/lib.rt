@@ -1,0 +1,1 @@
+// The layout of budgets onto cards: document 01, "Layout".

@@ -1,5 +1,6 @@
--- The promises: deadlines and budgets, as theorems.
+-- The promises to one project, as theorems: `Promises` states them, over the modules that it names. `OnTrack` is the proof.
 -- Assumes nothing.
+pub mod Counts
 pub mod Where
 pub mod Ranking
 pub mod Setup
@@ -10,3 +11,6 @@ pub mod Moment
 pub mod Rank
 pub mod Step
 pub mod Reached
+pub mod Frame
+pub mod OnTrack
+pub mod Promises

@@ -4,6 +4,7 @@ use mathlib.Core.Path.{_≡_}
 use mathlib.Core.Bool.{Bool, true, not, _&&_}
 use Prim.Native.Nat.{ℕ, _<_}
 use lib.Dec.{eqb}
+pub mod Properties
 
 -- "A unit kind names its project and has a separation T, deadline D and length C"; the verdict gives a width k for each kind, and the layout the cards held at each clock
 pub record Setup : Type 0 where

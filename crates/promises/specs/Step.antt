@@ -7,6 +7,7 @@ use Prim.Native.Nat.{ℕ, _+_, _-_, _≤_, _<_}
 use Rattle.promises.specs.Setup.{Setup, Own}
 use Rattle.promises.specs.Moment.{Moment}
 use Rattle.promises.specs.Rank.{served}
+pub mod Properties
 
 -- "Each chosen kind's left falls by one, the clock rises by one"
 pub record Slice (S : Setup) (before after : Moment) : Type 0 where

@@ -1,22 +1,18 @@
 -- Laws of ranks in a project.
 -- Assumes nothing.
-use mathlib.Core.Path.{_≡_, refl, sym, ap, _∙_}
-use mathlib.Core.Bool.{Bool, true, false, cond, _&&_, _||_, true≢false, false≢true}
-use Prim.Native.Nat.{ℕ, zero, suc, _+_, _≤_, _<_, min}
-use native.Mathlib.Decide.{decLe, decLt}
-use native.Mathlib.Omega.{arith}
-use lib.Dec.{ltb, eqb}
-use borrow.Author.Tests.{ltb-true, ltb-false, eqb-true, lt-ltb, le-ltb, eq-eqb, ne-eqb}
+use mathlib.Core.Path.{_≡_}
+use mathlib.Core.Bool.{true, false, _&&_}
+use Prim.Native.Nat.{ℕ, _≤_, _<_, min}
+use lib.Dec.{ltb}
+use borrow.Author.Tests.{ltb-true, lt-ltb}
 use Rattle.laws.specs.Count.{countTo}
 use Rattle.laws.specs.Tests.{and-left, and-right, and-both}
-use Rattle.promises.specs.Ranking.{rankIn, firstIn}
 use Rattle.promises.specs.Ranking.Properties.{Order, first-of, first-member, first-rank, not-first, rank-distinct, rank-at, first-count, first-above, sooner-le, sooner-order}
 use Rattle.promises.specs.Setup.{Setup, Own}
 use Rattle.promises.specs.Moment.{Moment}
 use Rattle.promises.specs.Rank.{active, outranks, rank, served, activeKinds, servedKinds}
 
 module _ (S : Setup) (m : Moment) where
-
   -- ---- a kind with slices left
 
   pub active-of : (i : ℕ) → Own S i → 0 < m .left i → active S m i ≡ true

@@ -1,16 +1,16 @@
 -- Laws of ranks: no two members share one, each number below their count is one, and h of them are the first h.
 -- Assumes nothing.
 use mathlib.Core.Path.{_≡_, refl, sym, ap, _∙_}
-use mathlib.Core.Bool.{Bool, true, false, cond, _&&_, _||_, true≢false, false≢true}
+use mathlib.Core.Bool.{Bool, true, false, cond, _&&_, true≢false, false≢true}
 use Prim.Native.Nat.{ℕ, zero, suc, _+_, _≤_, _<_, min}
 use native.Mathlib.Decide.{decLe, decLt}
 use native.Mathlib.Nat.{zero-min}
 use native.Mathlib.Omega.{arith}
 use lib.Dec.{ltb, eqb}
-use borrow.Author.Tests.{ltb-true, ltb-false, eqb-true, eqb-false, lt-ltb, le-ltb, eq-eqb, ne-eqb}
+use borrow.Author.Tests.{ltb-true, eqb-true, lt-ltb, le-ltb, eq-eqb, ne-eqb}
 use Rattle.laws.specs.Count.{countTo}
 use Rattle.laws.specs.Tests.{and-left, and-right, and-both}
-use Rattle.promises.specs.Where.Properties.{count-le-count, count-cong, count-lt-count, count-some, count-extra, count-never, count-one, count-parts}
+use Rattle.promises.specs.Counts.{count-le-count, count-cong, count-lt-count, count-some, count-extra, count-never, count-one, count-parts}
 use Rattle.promises.specs.Ranking.{rankIn, firstIn, sooner}
 
 -- an order: nothing is above itself, what is above is so onward, and of two one is above the other
@@ -122,8 +122,10 @@ module _ (n : ℕ) (member : ℕ → Bool) (above : ℕ → ℕ → Bool) (order
     where
       Higher : Type 0
       Higher = (j : ℕ) × (j < n) × ((member j && above j i) ≡ true) × (h ≤ rankIn n member above j)
+
       higher : h < rankIn n member above i → Higher
       higher s = beyond h (λ j. member j && above j i) (λ j t. and-left (member j) (above j i) t) s
+
       go : Higher → ((j : ℕ) → j < n → member j ≡ true → h ≤ rankIn n member above j → rankIn n member above j ≤ h + d → (k : ℕ) × (k < n) × (member k ≡ true) × (rankIn n member above k ≡ h)) → (k : ℕ) × (k < n) × (member k ≡ true) × (rankIn n member above k ≡ h)
       go t rec =
           let m = and-left (member (t .0)) (above (t .0) i) (t .2) in
@@ -141,6 +143,7 @@ module _ (n : ℕ) (member : ℕ → Bool) (above : ℕ → ℕ → Bool) (order
     where
       found : ((j : ℕ) × (j < n) × (member j ≡ true) × (rankIn n member above j ≡ h)) → 0 < countTo n (ofRank h)
       found t = count-some n (ofRank h) (t .0) (t .1) (and-both (member (t .0)) (eqb (rankIn n member above (t .0)) h) (t .2) (eq-eqb (rankIn n member above (t .0)) h (t .3)))
+
       members : countTo n (firstIn n member above (suc h)) ≤ countTo n member
       members = count-le-count n (firstIn n member above (suc h)) member (λ j l e. first-member n member above (suc h) j e)
 
@@ -181,11 +184,15 @@ module _ (d : ℕ → ℕ) where
           go : (b : Bool) → sooner d i i ≡ b → b ≡ false
           go true e = absurd (omega (arith, sooner-tie i i e (omega arith)))
           go false e = refl
+
       on : (i j k : ℕ) → sooner d i j ≡ true → sooner d j k ≡ true → sooner d i k ≡ true
       on i j k a b = sooner-of i k (omega (arith, sooner-le i j a, sooner-le j k b)) (λ l. omega (arith, sooner-tie i j a (omega (arith, sooner-le j k b)), sooner-tie j k b (omega (arith, sooner-le i j a))))
+
       later : (i j : ℕ) → sooner d i j ≡ false → d j ≤ d i
       later i j a = elim (decLt (d i) (d j)) [ yes p ↦ absurd (false≢true (sym a ∙ sooner-of i j (omega arith) (λ l. omega arith))) | no p ↦ omega arith ]
+
       higher : (i j : ℕ) → sooner d i j ≡ false → d i ≤ d j → j ≤ i
       higher i j a p = elim (decLt i j) [ yes q ↦ absurd (false≢true (sym a ∙ sooner-of i j p (λ l. q))) | no q ↦ omega arith ]
+
       ties : (i j : ℕ) → sooner d i j ≡ false → sooner d j i ≡ false → i ≡ j
       ties i j a b = omega (arith, higher i j a (later j i b), higher j i b (later i j a))

@@ -1,16 +1,19 @@
 -- Laws of `supplyFrom`: its first slice, and the most that it can be.
 -- Assumes nothing.
-use mathlib.Core.Path.{_≡_, refl, sym, ap, ap₂, _∙_}
-use Prim.Native.Nat.{ℕ, zero, suc, _+_, _*_, _≤_, _<_, min}
+use mathlib.Core.Path.{_≡_, ap₂, _∙_}
+use Prim.Native.Nat.{ℕ, _+_, _-_, _*_, _≤_, _<_, min}
 use native.Mathlib.Nat.{add-zero, add-assoc}
 use native.Mathlib.Omega.{arith}
 use Rattle.laws.specs.Sum.{sumTo}
-use Rattle.laws.specs.Sum.Properties.{sum-split, sum-bound, sum-cong, sum-none, sum-more}
+use Rattle.laws.specs.Sum.Properties.{sum-split, sum-bound, sum-cong}
 use Rattle.promises.specs.Supply.{supplyFrom}
 
-pub supply-next : (held : ℕ → ℕ) (k a t : ℕ) → supplyFrom held k a (1 + t) ≡ min k (held a) + supplyFrom held k (a + 1) t
+-- the first slice, and the rest from the next clock on
+pub supply-slice : (held : ℕ → ℕ) (k a b t u : ℕ) → 0 < t → b ≡ a + 1 → u ≡ t - 1 → supplyFrom held k a t ≡ min k (held a) + supplyFrom held k b u
 unfolding supplyFrom sumTo
-supply-next held k a t = sum-split 1 t (λ x. min k (held (a + x))) ∙ ap₂ _+_ (ap (λ (y : ℕ). 0 + min k (held y)) (add-zero a) ∙ omega arith) (sum-cong t _ _ (λ x l. ap (λ (y : ℕ). min k (held y)) (sym (add-assoc a 1 x))))
+supply-slice held k a b t u p e f =
+    let g : t ≡ 1 + u = omega arith in
+    rw (e, g) (sum-split 1 u (λ x. min k (held (a + x))) ∙ ap₂ _+_ (rw (add-zero a) (omega arith)) (sum-cong u _ _ (λ x l. rw (add-assoc a 1 x))))
 
 pub supply-most : (held : ℕ → ℕ) (k a t : ℕ) → supplyFrom held k a t ≤ t * k
 unfolding supplyFrom

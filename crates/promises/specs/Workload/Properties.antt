@@ -1,14 +1,11 @@
 -- Laws of a kind's part of the workload: it is at least what is left of a unit, with all the units that are still to come and be due in time.
 -- Every division of the proof stands here.
 -- Assumes nothing.
-use mathlib.Core.Path.{_≡_, refl, sym, ap, _∙_}
-use mathlib.Core.Bool.{Bool, true, false, cond}
+use mathlib.Core.Path.{_≡_}
 use Prim.Native.Nat.{ℕ, zero, suc, _+_, _-_, _*_, _/_, _%_, _≤_, _<_, min}
 use native.Mathlib.Decide.{decLe}
 use native.Mathlib.Nat.{div-add-mod', mod-lt, div-mul-le-self, le-div-iff-mul-le, div-lt-iff-lt-mul, add-div-right, zero-div, mul-le-mul-left}
 use native.Mathlib.Omega.{arith}
-use lib.Dec.{leb}
-use borrow.Author.Tests.{le-leb, lt-leb}
 use Rattle.promises.specs.Workload.{part}
 
 -- how many units of a kind, the first released in w slices or later, can be due within t slices
@@ -47,15 +44,15 @@ part-coming T D C t w a b c = go (t / T) (t % T) (div-add-mod' t T) (mod-lt t (o
   where
     n : ℕ
     n = t + T - (w + D)
+
     go : (q r : ℕ) → q * T + r ≡ t → r < T → C * (n / T) ≤ q * C + min C r
     go q r e l = elim (decLe D r) [ yes p ↦ omega (arith, mul-le-mul-left C (units-le T n (q + 1) (omega arith) (omega arith))) | no p ↦ omega (arith, mul-le-mul-left C (units-le T n q (omega arith) (omega arith))) ]
 
--- where l is left, due in y slices, and the next release is a separation after the last
-pub part-left : (T D C t w l y : ℕ) → D ≤ T → l ≤ C → 1 ≤ l → l ≤ y → y ≤ D → w + D ≡ y + T → cond (leb y t) l 0 + C * coming T D t w ≤ part T C t
+-- where l is left, due in y of them, and the next release is a separation after the last
+pub part-left : (T D C t w l y : ℕ) → 1 ≤ l → l ≤ C → l ≤ y → y ≤ D → D ≤ T → w + D ≡ y + T → y ≤ t → l + C * coming T D t w ≤ part T C t
 unfolding coming part
-part-left T D C t w l y a b c d e f =
-    elim (decLe y t) [ yes p ↦ rw (le-leb y t p, f, (let h : t + T - (y + T) ≡ t - y = omega arith in h)) (go (t / T) (t % T) (div-add-mod' t T) (mod-lt t (omega arith)) p) | no p ↦ rw (lt-leb y t (omega arith), f, (let h : t + T - (y + T) ≡ 0 = omega arith in h), zero-div T) (omega arith) ]
+part-left T D C t w l y a b c d e f p = let h : t + T - (w + D) ≡ t - y = omega arith in rw h (go (t / T) (t % T) (div-add-mod' t T) (mod-lt t (omega arith)))
   where
-    go : (q r : ℕ) → q * T + r ≡ t → r < T → y ≤ t → l + C * ((t - y) / T) ≤ q * C + min C r
-    go zero r g h p = omega (arith, mul-le-mul-left C (units-le T (t - y) 0 (omega arith) (omega arith)))
-    go (suc q) r g h p = elim (decLe y r) [ yes s ↦ omega (arith, mul-le-mul-left C (units-le T (t - y) (suc q) (omega arith) (omega arith))) | no s ↦ omega (arith, mul-le-mul-left C (units-le T (t - y) q (omega arith) (omega arith))) ]
+    go : (q r : ℕ) → q * T + r ≡ t → r < T → l + C * ((t - y) / T) ≤ q * C + min C r
+    go zero r g h = omega (arith, mul-le-mul-left C (units-le T (t - y) 0 (omega arith) (omega arith)))
+    go (suc q) r g h = elim (decLe y r) [ yes s ↦ omega (arith, mul-le-mul-left C (units-le T (t - y) (suc q) (omega arith) (omega arith))) | no s ↦ omega (arith, mul-le-mul-left C (units-le T (t - y) q (omega arith) (omega arith))) ]

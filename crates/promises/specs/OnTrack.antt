@@ -30,6 +30,10 @@ pub record Running (S : Setup) (m : Moment) (i : ℕ) : Type 0 where
   pub until : m .until i ≤ S .deadline i
   pub wait : m .wait i + S .deadline i ≡ m .until i + S .separation i
 
+-- what it needs, width times, and all that can get ahead of it: the supply until it is due has room for both
+abbrev pub Enough : Setup → Moment → ℕ → Type 0
+Enough S m i = S .width i * m .left i + ahead S m i ≤ supplyFrom (S .held) (S .width i) (m .clock) (m .until i)
+
 pub record OnTrack (S : Setup) (m : Moment) : Type 0 where
   pub running : (i : ℕ) → Own S i → 0 < m .left i → Running S m i
-  pub enough : (i : ℕ) → Own S i → 0 < m .left i → S .width i * m .left i + ahead S m i ≤ supplyFrom (S .held) (S .width i) (m .clock) (m .until i)
+  pub enough : (i : ℕ) → Own S i → 0 < m .left i → Enough S m i

@@ -34,22 +34,29 @@ due-late l u t p = rw (lt-leb u t p)
 pub due-le : (l u t : ℕ) → due l u t ≤ l
 due-le l u t = elim (decLe u t) [ yes p ↦ omega (arith, due-in l u t p) | no p ↦ omega (arith, due-late l u t (omega arith)) ]
 
+-- a slice leaves no more of it due one slice earlier
+due-slice : (l u l' u' t : ℕ) → 0 < t → l' ≤ l → (0 < l' → u' ≡ u - 1) → due l' u' (t - 1) ≤ due l u t
+due-slice l u l' u' t a b h = elim (decLt 0 l') [ yes p ↦ some (h p) | no p ↦ omega (arith, due-le l' u' (t - 1)) ]
+  where
+    some : u' ≡ u - 1 → due l' u' (t - 1) ≤ due l u t
+    some e = elim (decLe u t) [ yes q ↦ omega (arith, due-le l' u' (t - 1), due-in l u t q) | no q ↦ omega (arith, due-late l' u' (t - 1) (omega arith)) ]
+
 -- ---- a slice: one less of each kind that it serves before i, and no more of any
 
 module _ (S : Setup) (before after : Moment) (s : Slice S before after) (i j : ℕ) (oi : Own S i) (oj : Own S j) where
   pair-slice : 0 < S .separation j → 0 < after .left i → 0 < before .until i → aheadOf S after i j + cond (served S before j && outranks S before j i) 1 0 ≤ aheadOf S before i j
   unfolding aheadOf
-  pair-slice p q r =
-      rw (s .until i oi q, s .wait j oj) (omega (arith, mul-le-mul-left (S .length j) (coming-slice (S .separation j) (S .deadline j) (before .until i) (before .wait j) p r), go (served S before j) (outranks S before j i) refl refl))
+  pair-slice p q r = rw (s .until i oi q, s .wait j oj) (omega (arith, go (served S before j) (outranks S before j i) refl refl, to-come))
     where
+      to-come : S .length j * coming (S .separation j) (S .deadline j) (before .until i - 1) (before .wait j - 1) ≤ S .length j * coming (S .separation j) (S .deadline j) (before .until i) (before .wait j)
+      to-come = mul-le-mul-left (S .length j) (coming-slice (S .separation j) (S .deadline j) (before .until i) (before .wait j) p r)
+
       kept : due (after .left j) (after .until j) (before .until i - 1) ≤ due (before .left j) (before .until j) (before .until i)
-      kept =
-          let h = left-no-more S before after s j oj in
-          elim (decLt 0 (after .left j)) [ yes a ↦ elim (decLe (before .until j) (before .until i)) [ yes b ↦ omega (arith, due-le (after .left j) (after .until j) (before .until i - 1), due-in (before .left j) (before .until j) (before .until i) b) | no b ↦ omega (arith, due-late (after .left j) (after .until j) (before .until i - 1) (omega (arith, s .until j oj a))) ] | no a ↦ omega (arith, due-le (after .left j) (after .until j) (before .until i - 1)) ]
+      kept = due-slice (before .left j) (before .until j) (after .left j) (after .until j) (before .until i) r (left-no-more S before after s j oj) (s .until j oj)
 
       go : (a b : Bool) → served S before j ≡ a → outranks S before j i ≡ b → due (after .left j) (after .until j) (before .until i - 1) + cond (a && b) 1 0 ≤ due (before .left j) (before .until j) (before .until i)
       go true true x y =
-          omega (arith, due-le (after .left j) (after .until j) (before .until i - 1), left-served S before after s j oj x, due-in (before .left j) (before .until j) (before .until i) (outranks-until S before j i y))
+          omega (arith, left-served S before after s j oj x, due-le (after .left j) (after .until j) (before .until i - 1), due-in (before .left j) (before .until j) (before .until i) (outranks-until S before j i y))
       go true false x y = omega (arith, kept)
       go false b x y = omega (arith, kept)
 
@@ -71,12 +78,16 @@ pair-kept S before after i j p q = rw (p .until, q .left, q .until, q .wait)
 
 pair-window : (S : Setup) → Admitted S → (m : Moment) (i j : ℕ) → Own S j → (0 < m .left j → Running S m j) → m .left j ≤ m .until j → aheadOf S m i j ≤ part (S .separation j) (S .length j) (m .until i)
 unfolding aheadOf
-pair-window S a m i j o h t =
-    let x = a .some-length j o in
-    let y = a .length-fits j o in
-    let z = a .deadline-fits j o in
-    let coming-only = part-coming (S .separation j) (S .deadline j) (S .length j) (m .until i) (m .wait j) x y z in
-    elim (decLt 0 (m .left j)) [ yes p ↦ elim (decLe (m .until j) (m .until i)) [ yes q ↦ omega (arith, due-le (m .left j) (m .until j) (m .until i), part-left (S .separation j) (S .deadline j) (S .length j) (m .until i) (m .wait j) (m .left j) (m .until j) p (h p .left) t (h p .until) z (h p .wait) q) | no q ↦ omega (arith, due-late (m .left j) (m .until j) (m .until i) (omega arith)) ] | no p ↦ omega (arith, due-le (m .left j) (m .until j) (m .until i)) ]
+pair-window S a m i j o h t = elim (decLt 0 (m .left j)) [ yes p ↦ some p (h p) | no p ↦ omega (arith, none, due-le (m .left j) (m .until j) (m .until i)) ]
+  where
+    none : S .length j * coming (S .separation j) (S .deadline j) (m .until i) (m .wait j) ≤ part (S .separation j) (S .length j) (m .until i)
+    none = part-coming (S .separation j) (S .deadline j) (S .length j) (m .until i) (m .wait j) (a .some-length j o) (a .length-fits j o) (a .deadline-fits j o)
+
+    in-window : 0 < m .left j → Running S m j → m .until j ≤ m .until i → m .left j + S .length j * coming (S .separation j) (S .deadline j) (m .until i) (m .wait j) ≤ part (S .separation j) (S .length j) (m .until i)
+    in-window p r = part-left (S .separation j) (S .deadline j) (S .length j) (m .until i) (m .wait j) (m .left j) (m .until j) p (r .left) t (r .until) (a .deadline-fits j o) (r .wait)
+
+    some : 0 < m .left j → Running S m j → due (m .left j) (m .until j) (m .until i) + S .length j * coming (S .separation j) (S .deadline j) (m .until i) (m .wait j) ≤ part (S .separation j) (S .length j) (m .until i)
+    some p r = elim (decLe (m .until j) (m .until i)) [ yes q ↦ omega (arith, in-window p r q, due-le (m .left j) (m .until j) (m .until i)) | no q ↦ omega (arith, none, due-late (m .left j) (m .until j) (m .until i) (omega arith)) ]
 
 -- ---- all together
 
@@ -87,11 +98,16 @@ module _ (S : Setup) (a : Admitted S) where
   pub ahead-slice : (before after : Moment) → Slice S before after → (i : ℕ) → Own S i → 0 < after .left i → 0 < before .until i → ahead S after i + countTo (S .kinds) (λ j. served S before j && outranks S before j i) ≤ ahead S before i
   unfolding ahead
   ahead-slice before after s i o p q =
-      where-falls (S .kinds) (other S i) (λ j. served S before j && outranks S before j i) (aheadOf S after i) (aheadOf S before i) over (λ j l e. let x = other-own S i j l e in pair-slice S before after s i j o x (separated j x) p q)
+      where-falls (S .kinds) (other S i) (λ j. served S before j && outranks S before j i) (aheadOf S after i) (aheadOf S before i) over (λ j l e. go j (other-own S i j l e))
     where
+      go : (j : ℕ) → Own S j → aheadOf S after i j + cond (served S before j && outranks S before j i) 1 0 ≤ aheadOf S before i j
+      go j x = pair-slice S before after s i j o x (separated j x) p q
+
       over : (j : ℕ) → j < S .kinds → (served S before j && outranks S before j i) ≡ true → other S i j ≡ true
       over j l e =
-          other-of S i j (active-own S before j l (served-active S before j (and-left (served S before j) (outranks S before j i) e))) (λ x. false≢true (sym (ranked S before .never-itself i) ∙ (rw x at (and-right (served S before j) (outranks S before j i) e))))
+          let s = and-left (served S before j) (outranks S before j i) e in
+          let b = and-right (served S before j) (outranks S before j i) e in
+          other-of S i j (active-own S before j l (served-active S before j s)) (λ x. false≢true (sym (ranked S before .never-itself i) ∙ (rw x at b)))
 
   pub ahead-release : (before after : Moment) (j e : ℕ) → Release S j e before after → (i : ℕ) → Own S i → i ≢ j → ahead S after i ≤ ahead S before i
   unfolding ahead
@@ -102,4 +118,7 @@ module _ (S : Setup) (a : Admitted S) where
 
   pub ahead-window : (m : Moment) (i : ℕ) → m .until i ≡ S .deadline i → ((j : ℕ) → Own S j → j ≢ i → 0 < m .left j → Running S m j) → ((j : ℕ) → Own S j → j ≢ i → m .left j ≤ m .until j) → ahead S m i ≤ workload S i
   unfolding ahead workload
-  ahead-window m i u h t = rw (← u) (where-le (S .kinds) (other S i) (aheadOf S m i) (λ j. part (S .separation j) (S .length j) (m .until i)) (λ j l e. let w = other-own S i j l e in let d = other-differs S i j e in pair-window S a m i j w (h j w d) (t j w d)))
+  ahead-window m i u h t = rw (← u) (where-le (S .kinds) (other S i) (aheadOf S m i) (λ j. part (S .separation j) (S .length j) (m .until i)) (λ j l e. go j (other-own S i j l e) (other-differs S i j e)))
+    where
+      go : (j : ℕ) → Own S j → j ≢ i → aheadOf S m i j ≤ part (S .separation j) (S .length j) (m .until i)
+      go j o d = pair-window S a m i j o (h j o d) (t j o d)

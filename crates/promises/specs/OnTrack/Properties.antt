@@ -17,7 +17,7 @@ use Rattle.promises.specs.Rank.Properties.{unserved-outranked}
 use Rattle.promises.specs.Step.{Slice, Release}
 use Rattle.promises.specs.Step.Properties.{left-served, left-unserved, left-no-more}
 use Rattle.promises.specs.Reached.{Idle, Reached, fresh, sliced, released}
-use Rattle.promises.specs.OnTrack.{ahead, Running, OnTrack}
+use Rattle.promises.specs.OnTrack.{ahead, Running, Enough, OnTrack}
 use Rattle.promises.specs.OnTrack.Ahead.{ahead-slice, ahead-release, ahead-window}
 
 module _ (S : Setup) (a : Admitted S) where
@@ -52,32 +52,41 @@ module _ (S : Setup) (a : Admitted S) where
           let d = a .deadline-fits i o in
           record { left = omega (arith, left-no-more S before after s i o); until = omega (arith, s .until i o p); wait = omega (arith, s .until i o p, s .wait i o, not-yet i o p) }
 
-      enough : (i : ℕ) → Own S i → 0 < after .left i → S .width i * after .left i + ahead S after i ≤ supplyFrom (S .held) (S .width i) (after .clock) (after .until i)
+      enough : (i : ℕ) → Own S i → 0 < after .left i → Enough S after i
       enough i o p = go (served S before i) refl
         where
           before-it : S .width i * before .left i + ahead S before i ≤ min (S .width i) (S .held (before .clock)) + supplyFrom (S .held) (S .width i) (after .clock) (after .until i)
           before-it = rw (supply-slice (S .held) (S .width i) (before .clock) (after .clock) (before .until i) (after .until i) (not-yet i o p) (s .clock) (s .until i o p)) at (t .enough i o (was i o p))
 
-          go : (b : Bool) → served S before i ≡ b → S .width i * after .left i + ahead S after i ≤ supplyFrom (S .held) (S .width i) (after .clock) (after .until i)
+          go : (b : Bool) → served S before i ≡ b → Enough S after i
           go true e = omega (arith, before-it, ahead-slice S a before after s i o p (not-yet i o p), ap (λ (l : ℕ). S .width i * l) (left-served S before after s i o e))
           go false e = omega (arith, before-it, ahead-slice S a before after s i o p (not-yet i o p), ap (λ (l : ℕ). S .width i * l) (left-unserved S before after s i o e), unserved-outranked S before i o (was i o p) e)
 
   pub release-on-track : (before after : Moment) (j e : ℕ) → Release S j e before after → OnTrack S before → OnTrack S after
-  release-on-track before after j e r t = record { running = λ i o p. elim (ℕ-discrete i j) [ yes q ↦ rw q (new (rw q at o)) | no q ↦ old i o q p ]; enough = λ i o p. elim (ℕ-discrete i j) [ yes q ↦ rw q (new-enough (rw q at o)) | no q ↦ old-enough i o q p ] }
+  release-on-track before after j e r t = record { running = running; enough = enough }
     where
       old : (i : ℕ) → Own S i → i ≢ j → 0 < after .left i → Running S after i
       old i o d p = let k = r .others i o d in let h = t .running i o (omega arith) in record { left = omega arith; until = omega arith; wait = omega arith }
 
-      old-enough : (i : ℕ) → Own S i → i ≢ j → 0 < after .left i → S .width i * after .left i + ahead S after i ≤ supplyFrom (S .held) (S .width i) (after .clock) (after .until i)
-      old-enough i o d p = let k = r .others i o d in omega (arith, t .enough i o (omega arith), ahead-release S a before after j e r i o d, ap (λ (l : ℕ). S .width i * l) (k .left), ap₂ (supplyFrom (S .held) (S .width i)) (r .clock) (k .until))
+      old-enough : (i : ℕ) → Own S i → i ≢ j → 0 < after .left i → Enough S after i
+      old-enough i o d p =
+          let k = r .others i o d in
+          omega (arith, t .enough i o (omega arith), ahead-release S a before after j e r i o d, ap (λ (l : ℕ). S .width i * l) (k .left), ap₂ (supplyFrom (S .held) (S .width i)) (r .clock) (k .until))
 
       new : Own S j → Running S after j
       new o = let s = r .started o in record { left = omega arith; until = omega arith; wait = omega arith }
 
-      new-enough : Own S j → S .width j * after .left j + ahead S after j ≤ supplyFrom (S .held) (S .width j) (after .clock) (after .until j)
+      new-enough : Own S j → Enough S after j
       new-enough o =
           let s = r .started o in
-          omega (arith, a .fits j o (after .clock), mul-le-mul-left (S .width j) (new o .left), ahead-window S a after j (s .until) old (λ i w d. let k = r .others i w d in omega (arith, left-until before t i w)), ap (supplyFrom (S .held) (S .width j) (after .clock)) (s .until))
+          let w = ahead-window S a after j (s .until) old (λ i x d. let k = r .others i x d in omega (arith, left-until before t i x)) in
+          omega (arith, a .fits j o (after .clock), mul-le-mul-left (S .width j) (new o .left), w, ap (supplyFrom (S .held) (S .width j) (after .clock)) (s .until))
+
+      running : (i : ℕ) → Own S i → 0 < after .left i → Running S after i
+      running i o p = elim (ℕ-discrete i j) [ yes q ↦ rw q (new (rw q at o)) | no q ↦ old i o q p ]
+
+      enough : (i : ℕ) → Own S i → 0 < after .left i → Enough S after i
+      enough i o p = elim (ℕ-discrete i j) [ yes q ↦ rw q (new-enough (rw q at o)) | no q ↦ old-enough i o q p ]
 
   pub reached-on-track : (m : Moment) → Reached S m → OnTrack S m
   reached-on-track m (fresh h) = idle-on-track m h

@@ -31,12 +31,12 @@ module _ (S : Setup) (m : Moment) where
 
   pub ranked : Order (outranks S m)
   unfolding outranks
-  ranked = sooner-order (m .until)
+  ranked = sooner-order _
 
   -- who outranks another is due no later
   pub outranks-until : (j i : ℕ) → outranks S m j i ≡ true → m .until j ≤ m .until i
   unfolding outranks
-  outranks-until j i e = sooner-le (m .until) j i e
+  outranks-until j i e = sooner-le _ j i e
 
   -- ---- who is served
 

@@ -20,141 +20,152 @@ pub record Order (above : ℕ → ℕ → Bool) : Type 0 where
   pub total : (i j : ℕ) → above i j ≡ false → above j i ≡ false → i ≡ j
 
 -- the rank sees only the members, and what is above them
-pub rank-cong : (n : ℕ) (member member' : ℕ → Bool) (above above' : ℕ → ℕ → Bool) (i : ℕ) → ((j : ℕ) → j < n → member j ≡ member' j) → ((j : ℕ) → j < n → member j ≡ true → above j i ≡ above' j i) → rankIn n member above i ≡ rankIn n member' above' i
-unfolding rankIn
-rank-cong n member member' above above' i e h = count-cong n (λ j. member j && above j i) (λ j. member' j && above' j i) (λ j l. go j (member j) (e j l) (h j l))
-  where
-    go : (j : ℕ) (b : Bool) → b ≡ member' j → (b ≡ true → above j i ≡ above' j i) → (b && above j i) ≡ (member' j && above' j i)
-    go j true p q = rw (← p) (q refl)
-    go j false p q = rw (← p)
+module _ (n : ℕ) (member member' : ℕ → Bool) (above above' : ℕ → ℕ → Bool) (i : ℕ) where
+  pub rank-cong : ((j : ℕ) → j < n → member j ≡ member' j) → ((j : ℕ) → j < n → member j ≡ true → above j i ≡ above' j i) → rankIn n member above i ≡ rankIn n member' above' i
+  unfolding rankIn
+  rank-cong e h = count-cong n (λ j. member j && above j i) (λ j. member' j && above' j i) (λ j l. go j (member j) (e j l) (h j l))
+    where
+      go : (j : ℕ) (b : Bool) → b ≡ member' j → (b ≡ true → above j i ≡ above' j i) → (b && above j i) ≡ (member' j && above' j i)
+      go j true p q = rw (← p) (q refl)
+      go j false p q = rw (← p)
 
 -- ---- who is one of the first h
 
-module _ (n : ℕ) (member : ℕ → Bool) (above : ℕ → ℕ → Bool) (h i : ℕ) where
-  pub first-of : member i ≡ true → rankIn n member above i < h → firstIn n member above h i ≡ true
+module _ (n : ℕ) (member : ℕ → Bool) (above : ℕ → ℕ → Bool) where
+  abbrev rank : ℕ → ℕ
+  rank i = rankIn n member above i
+
+  abbrev first : ℕ → ℕ → Bool
+  first h i = firstIn n member above h i
+
+  pub first-of : (h i : ℕ) → member i ≡ true → rank i < h → first h i ≡ true
   unfolding firstIn
-  first-of e l = and-both (member i) (ltb (rankIn n member above i) h) e (lt-ltb (rankIn n member above i) h l)
+  first-of h i e l = and-both (member i) (ltb (rank i) h) e (lt-ltb (rank i) h l)
 
-  pub first-member : firstIn n member above h i ≡ true → member i ≡ true
+  pub first-member : (h i : ℕ) → first h i ≡ true → member i ≡ true
   unfolding firstIn
-  first-member e = and-left (member i) (ltb (rankIn n member above i) h) e
+  first-member h i e = and-left (member i) (ltb (rank i) h) e
 
-  pub first-rank : firstIn n member above h i ≡ true → rankIn n member above i < h
+  pub first-rank : (h i : ℕ) → first h i ≡ true → rank i < h
   unfolding firstIn
-  first-rank e = ltb-true (rankIn n member above i) h (and-right (member i) (ltb (rankIn n member above i) h) e)
+  first-rank h i e = ltb-true (rank i) h (and-right (member i) (ltb (rank i) h) e)
 
-  pub not-first : member i ≡ true → firstIn n member above h i ≡ false → h ≤ rankIn n member above i
-  not-first e f = elim (decLt (rankIn n member above i) h) [ yes l ↦ absurd (false≢true (sym f ∙ first-of e l)) | no l ↦ omega arith ]
+  pub not-first : (h i : ℕ) → member i ≡ true → first h i ≡ false → h ≤ rank i
+  not-first h i e f = elim (decLt (rank i) h) [ yes l ↦ absurd (false≢true (sym f ∙ first-of h i e l)) | no l ↦ omega arith ]
 
--- ---- ranks in an order
+  -- a member of rank h
+  abbrev pub OfRank : ℕ → Type 0
+  OfRank h = (i : ℕ) × (i < n) × (member i ≡ true) × (rank i ≡ h)
 
-module _ (n : ℕ) (member : ℕ → Bool) (above : ℕ → ℕ → Bool) (order : Order above) where
-  -- who is above has a lower rank
-  pub rank-lt : (j i : ℕ) → j < n → member j ≡ true → above j i ≡ true → rankIn n member above j < rankIn n member above i
-  unfolding rankIn
-  rank-lt j i l e a =
-      count-lt-count n (λ k. member k && above k j) (λ k. member k && above k i) j l (rw (e, order .never-itself j)) (and-both (member j) (above j i) e a) (λ k m t. and-both (member k) (above k i) (and-left (member k) (above k j) t) (order .onward k j i (and-right (member k) (above k j) t) a))
+  -- ---- in an order
 
-  -- a rank is below the count of members
-  pub rank-lt-members : (i : ℕ) → i < n → member i ≡ true → rankIn n member above i < countTo n member
-  unfolding rankIn
-  rank-lt-members i l e = count-lt-count n (λ k. member k && above k i) member i l (rw (e, order .never-itself i)) e (λ k m t. and-left (member k) (above k i) t)
+  module _ (order : Order above) where
+    -- who is above has a lower rank
+    pub rank-lt : (j i : ℕ) → j < n → member j ≡ true → above j i ≡ true → rank j < rank i
+    unfolding rankIn
+    rank-lt j i l e a = count-lt-count n (λ k. member k && above k j) (λ k. member k && above k i) j l (rw (e, order .never-itself j)) (and-both (member j) (above j i) e a) on
+      where
+        on : (k : ℕ) → k < n → (member k && above k j) ≡ true → (member k && above k i) ≡ true
+        on k m t = and-both (member k) (above k i) (and-left (member k) (above k j) t) (order .onward k j i (and-right (member k) (above k j) t) a)
 
-  -- a lower rank means above
-  pub above-of-rank : (j i : ℕ) → i < n → member i ≡ true → rankIn n member above j < rankIn n member above i → above j i ≡ true
-  above-of-rank j i l e r = go (above j i) (above i j) refl refl
-    where
-      go : (a b : Bool) → above j i ≡ a → above i j ≡ b → above j i ≡ true
-      go true b p q = p
-      go false true p q = absurd (omega (arith, rank-lt i j l e q))
-      go false false p q = absurd (omega (arith, ap (λ (k : ℕ). rankIn n member above k) (order .total j i p q)))
+    -- a rank is below the count of members
+    pub rank-lt-members : (i : ℕ) → i < n → member i ≡ true → rank i < countTo n member
+    unfolding rankIn
+    rank-lt-members i l e = count-lt-count n (λ k. member k && above k i) member i l (rw (e, order .never-itself i)) e (λ k m t. and-left (member k) (above k i) t)
 
-  -- no two members share a rank
-  pub rank-distinct : (i j : ℕ) → i < n → j < n → member i ≡ true → member j ≡ true → rankIn n member above i ≡ rankIn n member above j → i ≡ j
-  rank-distinct i j l m p q e = go (above i j) (above j i) refl refl
-    where
-      go : (a b : Bool) → above i j ≡ a → above j i ≡ b → i ≡ j
-      go true b s t = absurd (omega (arith, rank-lt i j l p s))
-      go false true s t = absurd (omega (arith, rank-lt j i m q t))
-      go false false s t = order .total i j s t
+    -- a lower rank means above
+    pub above-of-rank : (j i : ℕ) → i < n → member i ≡ true → rank j < rank i → above j i ≡ true
+    above-of-rank j i l e r = go (above j i) (above i j) refl refl
+      where
+        go : (a b : Bool) → above j i ≡ a → above i j ≡ b → above j i ≡ true
+        go true b p q = p
+        go false true p q = absurd (omega (arith, rank-lt i j l e q))
+        go false false p q = absurd (omega (arith, ap (rankIn n member above) (order .total j i p q)))
 
-  -- those of rank h
-  ofRank : ℕ → ℕ → Bool
-  ofRank h i = member i && eqb (rankIn n member above i) h
+    -- no two members share a rank
+    pub rank-distinct : (i j : ℕ) → i < n → j < n → member i ≡ true → member j ≡ true → rank i ≡ rank j → i ≡ j
+    rank-distinct i j l m p q e = go (above i j) (above j i) refl refl
+      where
+        go : (a b : Bool) → above i j ≡ a → above j i ≡ b → i ≡ j
+        go true b s t = absurd (omega (arith, rank-lt i j l p s))
+        go false true s t = absurd (omega (arith, rank-lt j i m q t))
+        go false false s t = order .total i j s t
 
-  ofRank-one : (h : ℕ) → countTo n (ofRank h) ≤ 1
-  unfolding ofRank
-  ofRank-one h =
-      count-one n (ofRank h) (λ i j l m p q. rank-distinct i j l m (and-left (member i) (has i) p) (and-left (member j) (has j) q) (omega (arith, eqb-true (rankIn n member above i) h (and-right (member i) (has i) p), eqb-true (rankIn n member above j) h (and-right (member j) (has j) q))))
-    where
-      has : ℕ → Bool
-      has i = eqb (rankIn n member above i) h
+    -- ---- the first h, one rank after the other
 
-  first-none : countTo n (firstIn n member above 0) ≡ 0
-  unfolding firstIn
-  first-none = count-never n (firstIn n member above 0) (λ i l. go (member i) (rankIn n member above i))
-    where
-      go : (b : Bool) (r : ℕ) → (b && ltb r 0) ≡ false
-      go true r = le-ltb r 0 (omega arith)
-      go false r = refl
+    ofRank : ℕ → ℕ → Bool
+    ofRank h i = member i && eqb (rank i) h
 
-  first-more : (h : ℕ) → countTo n (firstIn n member above (suc h)) ≡ countTo n (firstIn n member above h) + countTo n (ofRank h)
-  unfolding firstIn ofRank
-  first-more h = count-parts n (firstIn n member above h) (ofRank h) (firstIn n member above (suc h)) (λ i l. go (member i) (rankIn n member above i))
-    where
-      go : (b : Bool) (r : ℕ) → cond (b && ltb r (suc h)) 1 0 ≡ cond (b && ltb r h) 1 0 + cond (b && eqb r h) 1 0
-      go false r = refl
-      go true r =
-          elim (decLt r h) [ yes p ↦ rw (lt-ltb r (suc h) (omega arith), lt-ltb r h p, ne-eqb r h (λ e. omega arith)) | no p ↦ elim (decLe r h) [ yes q ↦ rw (lt-ltb r (suc h) (omega arith), le-ltb r h (omega arith), eq-eqb r h (omega arith)) | no q ↦ rw (le-ltb r (suc h) (omega arith), le-ltb r h (omega arith), ne-eqb r h (λ e. omega arith)) ] ]
+    ofRank-one : (h : ℕ) → countTo n (ofRank h) ≤ 1
+    unfolding ofRank
+    ofRank-one h = count-one n (ofRank h) (λ i j l m p q. rank-distinct i j l m (and-left (member i) (eqb (rank i) h) p) (and-left (member j) (eqb (rank j) h) q) (omega (arith, has i p, has j q)))
+      where
+        has : (i : ℕ) → (member i && eqb (rank i) h) ≡ true → rank i ≡ h
+        has i p = eqb-true (rank i) h (and-right (member i) (eqb (rank i) h) p)
 
-  first-le : (h : ℕ) → countTo n (firstIn n member above h) ≤ h
-  first-le zero = omega (arith, first-none)
-  first-le (suc h) = omega (arith, first-le h, first-more h, ofRank-one h)
+    first-none : countTo n (first 0) ≡ 0
+    unfolding firstIn
+    first-none = count-never n (first 0) (λ i l. go (member i) (rank i))
+      where
+        go : (b : Bool) (r : ℕ) → (b && ltb r 0) ≡ false
+        go true r = le-ltb r 0 (omega arith)
+        go false r = refl
 
-  -- of more than h members, one is not of the first h
-  beyond : (h : ℕ) (f : ℕ → Bool) → ((j : ℕ) → f j ≡ true → member j ≡ true) → h < countTo n f → (j : ℕ) × (j < n) × (f j ≡ true) × (h ≤ rankIn n member above j)
-  beyond h f m p = let t = count-extra n f (firstIn n member above h) (omega (arith, first-le h)) in (t .0, t .1, t .2, not-first n member above h (t .0) (m (t .0) (t .2)) (t .3))
+    first-more : (h : ℕ) → countTo n (first (suc h)) ≡ countTo n (first h) + countTo n (ofRank h)
+    unfolding firstIn ofRank
+    first-more h = count-parts n (first h) (ofRank h) (first (suc h)) (λ i l. go (member i) (rank i))
+      where
+        at-most : (r : ℕ) → r ≤ h → cond (ltb r (suc h)) 1 0 ≡ cond (ltb r h) 1 0 + cond (eqb r h) 1 0
+        at-most r p = rw (lt-ltb r (suc h) (omega arith)) (elim (decLt r h) [ yes q ↦ rw (lt-ltb r h q, ne-eqb r h (λ e. omega arith)) | no q ↦ rw (le-ltb r h (omega arith), eq-eqb r h (omega arith)) ])
 
-  rank-down : (h d i : ℕ) → i < n → member i ≡ true → h ≤ rankIn n member above i → rankIn n member above i ≤ h + d → (j : ℕ) × (j < n) × (member j ≡ true) × (rankIn n member above j ≡ h)
-  unfolding rankIn
-  rank-down h zero i l e p q = (i, l, e, omega arith)
-  rank-down h (suc d) i l e p q = elim (decLe (rankIn n member above i) h) [ yes s ↦ (i, l, e, omega arith) | no s ↦ go (higher (omega arith)) (rank-down h d) ]
-    where
-      Higher : Type 0
-      Higher = (j : ℕ) × (j < n) × ((member j && above j i) ≡ true) × (h ≤ rankIn n member above j)
+        go : (b : Bool) (r : ℕ) → cond (b && ltb r (suc h)) 1 0 ≡ cond (b && ltb r h) 1 0 + cond (b && eqb r h) 1 0
+        go false r = refl
+        go true r = elim (decLe r h) [ yes p ↦ at-most r p | no p ↦ rw (le-ltb r (suc h) (omega arith), le-ltb r h (omega arith), ne-eqb r h (λ e. omega arith)) ]
 
-      higher : h < rankIn n member above i → Higher
-      higher s = beyond h (λ j. member j && above j i) (λ j t. and-left (member j) (above j i) t) s
+    first-le : (h : ℕ) → countTo n (first h) ≤ h
+    first-le zero = omega (arith, first-none)
+    first-le (suc h) = omega (arith, first-le h, first-more h, ofRank-one h)
 
-      go : Higher → ((j : ℕ) → j < n → member j ≡ true → h ≤ rankIn n member above j → rankIn n member above j ≤ h + d → (k : ℕ) × (k < n) × (member k ≡ true) × (rankIn n member above k ≡ h)) → (k : ℕ) × (k < n) × (member k ≡ true) × (rankIn n member above k ≡ h)
-      go t rec =
-          let m = and-left (member (t .0)) (above (t .0) i) (t .2) in
-          rec (t .0) (t .1) m (t .3) (omega (arith, rank-lt (t .0) i (t .1) m (and-right (member (t .0)) (above (t .0) i) (t .2))))
+    -- of more than h members, one is not of the first h
+    beyond : (h : ℕ) (f : ℕ → Bool) → ((j : ℕ) → f j ≡ true → member j ≡ true) → h < countTo n f → (j : ℕ) × (j < n) × (f j ≡ true) × (h ≤ rank j)
+    beyond h f m p = let t = count-extra n f (first h) (omega (arith, first-le h)) in (t .0, t .1, t .2, not-first h (t .0) (m (t .0) (t .2)) (t .3))
 
-  -- each number below the count of members is a rank
-  pub rank-at : (h : ℕ) → h < countTo n member → (j : ℕ) × (j < n) × (member j ≡ true) × (rankIn n member above j ≡ h)
-  rank-at h p = let t = beyond h member (λ j e. e) p in rank-down h (rankIn n member above (t .0)) (t .0) (t .1) (t .2) (t .3) (omega arith)
+    -- so a member that is not of the first h has one of rank h, itself or above it
+    rank-down : (h d i : ℕ) → i < n → member i ≡ true → h ≤ rank i → rank i ≤ h + d → OfRank h
+    unfolding rankIn
+    rank-down h zero i l e p q = (i, l, e, omega arith)
+    rank-down h (suc d) i l e p q = elim (decLe (rank i) h) [ yes s ↦ (i, l, e, omega arith) | no s ↦ go (beyond h over (λ j t. and-left (member j) (above j i) t) (omega arith)) (rank-down h d) ]
+      where
+        over : ℕ → Bool
+        over j = member j && above j i
 
-  -- h of them are the first h, or all of them are
-  pub first-count : (h : ℕ) → countTo n (firstIn n member above h) ≡ min h (countTo n member)
-  unfolding ofRank
-  first-count zero = first-none ∙ sym (zero-min (countTo n member))
-  first-count (suc h) = elim (decLt h (countTo n member)) [ yes p ↦ omega (arith, first-count h, first-more h, ofRank-one h, found (rank-at h p)) | no p ↦ omega (arith, first-count h, first-more h, members) ]
-    where
-      found : ((j : ℕ) × (j < n) × (member j ≡ true) × (rankIn n member above j ≡ h)) → 0 < countTo n (ofRank h)
-      found t = count-some n (ofRank h) (t .0) (t .1) (and-both (member (t .0)) (eqb (rankIn n member above (t .0)) h) (t .2) (eq-eqb (rankIn n member above (t .0)) h (t .3)))
+        go : ((j : ℕ) × (j < n) × (over j ≡ true) × (h ≤ rank j)) → ((j : ℕ) → j < n → member j ≡ true → h ≤ rank j → rank j ≤ h + d → OfRank h) → OfRank h
+        go t rec = let m = and-left (member (t .0)) (above (t .0) i) (t .2) in rec (t .0) (t .1) m (t .3) (omega (arith, rank-lt (t .0) i (t .1) m (and-right (member (t .0)) (above (t .0) i) (t .2))))
 
-      members : countTo n (firstIn n member above (suc h)) ≤ countTo n member
-      members = count-le-count n (firstIn n member above (suc h)) member (λ j l e. first-member n member above (suc h) j e)
+    -- each number below the count of members is a rank
+    pub rank-at : (h : ℕ) → h < countTo n member → OfRank h
+    rank-at h p = let t = beyond h member (λ j e. e) p in rank-down h (rank (t .0)) (t .0) (t .1) (t .2) (t .3) (omega arith)
 
-  -- one that is not of the first h has them all above it
-  pub first-above : (h i : ℕ) → i < n → member i ≡ true → h ≤ rankIn n member above i → countTo n (λ j. firstIn n member above h j && above j i) ≡ h
-  first-above h i l e p =
-      omega (arith, count-cong n (λ j. firstIn n member above h j && above j i) (firstIn n member above h) (λ j m. go j (firstIn n member above h j) refl), first-count h, rank-lt-members i l e)
-    where
-      go : (j : ℕ) (b : Bool) → firstIn n member above h j ≡ b → (b && above j i) ≡ b
-      go j true t = above-of-rank j i l e (omega (arith, first-rank n member above h j t))
-      go j false t = refl
+    -- h of them are the first h, or all of them are
+    pub first-count : (h : ℕ) → countTo n (first h) ≡ min h (countTo n member)
+    unfolding ofRank
+    first-count zero = first-none ∙ sym (zero-min (countTo n member))
+    first-count (suc h) =
+        elim (decLt h (countTo n member)) [ yes p ↦ omega (arith, first-count h, first-more h, ofRank-one h, found (rank-at h p)) | no p ↦ omega (arith, first-count h, first-more h, members) ]
+      where
+        found : OfRank h → 0 < countTo n (ofRank h)
+        found t = count-some n (ofRank h) (t .0) (t .1) (and-both (member (t .0)) (eqb (rank (t .0)) h) (t .2) (eq-eqb (rank (t .0)) h (t .3)))
+
+        members : countTo n (first (suc h)) ≤ countTo n member
+        members = count-le-count n (first (suc h)) member (λ j l e. first-member (suc h) j e)
+
+    -- one that is not of the first h has them all above it
+    pub first-above : (h i : ℕ) → i < n → member i ≡ true → h ≤ rank i → countTo n (λ j. first h j && above j i) ≡ h
+    first-above h i l e p = omega (arith, count-cong n (λ j. first h j && above j i) (first h) (λ j m. go j (first h j) refl), first-count h, rank-lt-members i l e)
+      where
+        go : (j : ℕ) (b : Bool) → first h j ≡ b → (b && above j i) ≡ b
+        go j true t = above-of-rank j i l e (omega (arith, first-rank h j t))
+        go j false t = refl
 
 -- ---- by d, then by number
 

@@ -1,8 +1,8 @@
 -- Laws of a slice: what is left after it.
 -- Assumes nothing.
-use mathlib.Core.Path.{_≡_, ap, _∙_}
-use mathlib.Core.Bool.{Bool, true, false, cond}
-use Prim.Native.Nat.{ℕ, _+_, _-_, _≤_}
+use mathlib.Core.Path.{_≡_}
+use mathlib.Core.Bool.{true, false}
+use Prim.Native.Nat.{ℕ, _+_, _≤_}
 use native.Mathlib.Omega.{arith}
 use Rattle.promises.specs.Setup.{Setup, Own}
 use Rattle.promises.specs.Moment.{Moment}
@@ -12,10 +12,10 @@ use Rattle.promises.specs.Step.{Slice}
 
 module _ (S : Setup) (before after : Moment) (s : Slice S before after) (i : ℕ) (o : Own S i) where
   pub left-served : served S before i ≡ true → after .left i + 1 ≡ before .left i
-  left-served e = let h : after .left i ≡ before .left i - 1 = s .left i o ∙ ap (λ (b : Bool). before .left i - cond b 1 0) e in omega (arith, active-left S before i (served-active S before i e))
+  left-served e = omega (arith, (rw e at (s .left i o)), active-left S before i (served-active S before i e))
 
   pub left-unserved : served S before i ≡ false → after .left i ≡ before .left i
-  left-unserved e = let h : after .left i ≡ before .left i - 0 = s .left i o ∙ ap (λ (b : Bool). before .left i - cond b 1 0) e in omega arith
+  left-unserved e = omega (arith, (rw e at (s .left i o)))
 
   pub left-no-more : after .left i ≤ before .left i
   left-no-more = omega (arith, s .left i o)

@@ -40,13 +40,10 @@ units-le T n q p l = let h : n / T < q + 1 = div-lt-iff-lt-mul {x = n} {y = q + 
 -- where nothing is left
 pub part-coming : (T D C t w : ℕ) → 1 ≤ C → C ≤ D → D ≤ T → C * coming T D t w ≤ part T C t
 unfolding coming part
-part-coming T D C t w a b c = go (t / T) (t % T) (div-add-mod' t T) (mod-lt t (omega arith))
-  where
-    n : ℕ
-    n = t + T - (w + D)
-
-    go : (q r : ℕ) → q * T + r ≡ t → r < T → C * (n / T) ≤ q * C + min C r
-    go q r e l = elim (decLe D r) [ yes p ↦ omega (arith, mul-le-mul-left C (units-le T n (q + 1) (omega arith) (omega arith))) | no p ↦ omega (arith, mul-le-mul-left C (units-le T n q (omega arith) (omega arith))) ]
+part-coming T D C t w a b c =
+    let e = div-add-mod' t T in
+    let l = mod-lt t (let p : 0 < T = omega arith in p) in
+    elim (decLe D (t % T)) [ yes p ↦ omega (arith, mul-le-mul-left C (units-le T (t + T - (w + D)) (t / T + 1) (omega arith) (omega arith))) | no p ↦ omega (arith, mul-le-mul-left C (units-le T (t + T - (w + D)) (t / T) (omega arith) (omega arith))) ]
 
 -- where l is left, due in y of them, and the next release is a separation after the last
 pub part-left : (T D C t w l y : ℕ) → 1 ≤ l → l ≤ C → l ≤ y → y ≤ D → D ≤ T → w + D ≡ y + T → y ≤ t → l + C * coming T D t w ≤ part T C t

@@ -11,7 +11,6 @@ use Rattle.plan.specs.Record.{noProject, noKind}
 use Rattle.plan.specs.Order.{projectOf, kindOf}
 use Rattle.plan_bytes.specs.Pack.{pack, unpack}
 use Rattle.plan_bytes.specs.Bytes.{numberTo, bytesOf}
-
 pub mod Properties
 
 -- ---- "fields in order (bits)"
@@ -105,7 +104,8 @@ headed s =
       kinds = getD (headerFields s) 2 0;
       frame = getD (headerFields s) 3 0;
       project = replicate 8 noProject;
-      kind = replicate 16 noKind }
+      kind = replicate 16 noKind;
+    }
 
 -- the bytes after the header
 abbrev pub afterHeader : List ℕ → List ℕ
@@ -124,4 +124,5 @@ decoded s =
       kinds = headed s .kinds;
       frame = headed s .frame;
       project = projectsFrom (headed s .projects) (afterHeader s);
-      kind = kindsFrom (headed s .kinds) (afterProjects s) }
+      kind = kindsFrom (headed s .kinds) (afterProjects s);
+    }

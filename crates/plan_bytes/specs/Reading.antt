@@ -15,7 +15,6 @@ use Rattle.plan.specs.Answer.{refuse, _andThen_}
 use Rattle.plan.specs.Order.{sizes, ranges}
 use Rattle.plan_bytes.specs.declared.Reading.{Reading}
 use Rattle.plan_bytes.specs.Parts.{headerFields, projectFields, kindFields, projectAt, kindAt, afterHeader, afterProjects, headed, decoded, size}
-
 pub mod Properties
 
 -- ---- the spare bits, "which are zero"

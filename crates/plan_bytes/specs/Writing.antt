@@ -13,7 +13,6 @@ use Rattle.plan.specs.Answer.{refuse, _andThen_}
 use Rattle.plan.specs.Order.{checked}
 use Rattle.plan_bytes.specs.declared.Written.{Written}
 use Rattle.plan_bytes.specs.Parts.{encoded, size}
-
 pub mod Properties
 
 -- "Writing plan bytes .. adds 9 and not 8"

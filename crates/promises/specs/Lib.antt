@@ -1,8 +1,5 @@
 -- The promises to one project, as theorems: `Promises` states them, over the modules that it names. `OnTrack` is the proof.
 -- Assumes nothing.
-pub mod Counts
-pub mod Where
-pub mod Ranking
 pub mod Setup
 pub mod Supply
 pub mod Workload

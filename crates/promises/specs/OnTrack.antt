@@ -4,7 +4,7 @@ use mathlib.Core.Path.{_≡_}
 use mathlib.Core.Bool.{cond}
 use Prim.Native.Nat.{ℕ, _+_, _*_, _≤_, _<_}
 use lib.Dec.{leb}
-use Rattle.promises.specs.Where.{sumWhere}
+use Rattle.laws.specs.Where.{sumWhere}
 use Rattle.promises.specs.Setup.{Setup, Own, other}
 use Rattle.promises.specs.Supply.{supplyFrom}
 use Rattle.promises.specs.Workload.Properties.{coming}

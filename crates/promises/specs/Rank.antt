@@ -4,7 +4,7 @@ use mathlib.Core.Bool.{Bool, _&&_}
 use Prim.Native.Nat.{ℕ}
 use lib.Dec.{ltb}
 use Rattle.laws.specs.Count.{countTo}
-use Rattle.promises.specs.Ranking.{rankIn, firstIn, sooner}
+use Rattle.laws.specs.Ranking.{rankIn, firstIn, sooner}
 use Rattle.promises.specs.Setup.{Setup}
 use Rattle.promises.specs.Moment.{Moment}
 pub mod Properties

@@ -2,7 +2,7 @@
 -- Assumes nothing.
 use Prim.Native.Nat.{ℕ, _+_, _*_, _/_, _%_, min}
 use Rattle.promises.specs.Setup.{Setup, other}
-use Rattle.promises.specs.Where.{sumWhere}
+use Rattle.laws.specs.Where.{sumWhere}
 pub mod Properties
 
 -- one kind's part of W, in t slices: "floor(Di/Tj)Cj + min(Cj, Di mod Tj)"

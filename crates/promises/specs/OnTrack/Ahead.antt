@@ -10,7 +10,7 @@ use native.Mathlib.Omega.{arith}
 use borrow.Author.Tests.{le-leb, lt-leb}
 use Rattle.laws.specs.Count.{countTo}
 use Rattle.laws.specs.Tests.{and-left, and-right}
-use Rattle.promises.specs.Where.Properties.{where-le, where-falls}
+use Rattle.laws.specs.Where.Properties.{where-le, where-falls}
 use Rattle.promises.specs.Setup.{Setup, Own, other}
 use Rattle.promises.specs.Setup.Properties.{other-of, other-own, other-differs}
 use Rattle.promises.specs.Workload.{part, workload}

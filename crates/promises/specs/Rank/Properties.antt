@@ -7,7 +7,7 @@ use lib.Dec.{ltb}
 use borrow.Author.Tests.{ltb-true, lt-ltb}
 use Rattle.laws.specs.Count.{countTo}
 use Rattle.laws.specs.Tests.{and-left, and-right, and-both}
-use Rattle.promises.specs.Ranking.Properties.{Order, first-of, first-member, first-rank, not-first, rank-distinct, rank-at, first-count, first-above, sooner-le, sooner-order}
+use Rattle.laws.specs.Ranking.Properties.{Order, first-of, first-member, first-rank, not-first, rank-distinct, rank-at, first-count, first-above, sooner-le, sooner-order}
 use Rattle.promises.specs.Setup.{Setup, Own}
 use Rattle.promises.specs.Moment.{Moment}
 use Rattle.promises.specs.Rank.{active, outranks, rank, served, activeKinds, servedKinds}

@@ -4,10 +4,10 @@ use mathlib.Core.Path.{_≡_, refl}
 use mathlib.Core.Bool.{Bool, true, false, cond, false≢true}
 use Prim.Native.Nat.{ℕ, zero, suc, _+_, _≤_, _<_}
 use native.Mathlib.Omega.{arith}
 use Rattle.laws.specs.Sum.{sumTo}
 use Rattle.laws.specs.Sum.Properties.{sum-le}
 use Rattle.laws.specs.Count.{countTo}
-use Rattle.promises.specs.Where.{sumWhere}
+use Rattle.laws.specs.Where.{sumWhere}
 
 pub where-le : (n : ℕ) (p : ℕ → Bool) (f g : ℕ → ℕ) → ((x : ℕ) → x < n → p x ≡ true → f x ≤ g x) → sumWhere n p f ≤ sumWhere n p g
 unfolding sumWhere

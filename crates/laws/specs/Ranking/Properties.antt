@@ -8,10 +8,10 @@ use native.Mathlib.Nat.{zero-min}
 use native.Mathlib.Omega.{arith}
 use lib.Dec.{ltb, eqb}
 use borrow.Author.Tests.{ltb-true, eqb-true, lt-ltb, le-ltb, eq-eqb, ne-eqb}
 use Rattle.laws.specs.Count.{countTo}
 use Rattle.laws.specs.Tests.{and-left, and-right, and-both}
-use Rattle.promises.specs.Counts.{count-le-count, count-cong, count-lt-count, count-some, count-extra, count-never, count-one, count-parts}
-use Rattle.promises.specs.Ranking.{rankIn, firstIn, sooner}
+use Rattle.laws.specs.Count.Properties.{count-le-count, count-cong, count-lt-count, count-some, count-extra, count-never, count-one, count-parts}
+use Rattle.laws.specs.Ranking.{rankIn, firstIn, sooner}
 
 -- an order: nothing is above itself, what is above is so onward, and of two one is above the other
 pub record Order (above : ℕ → ℕ → Bool) : Type 0 where

@@ -49,9 +49,17 @@ unfoldable pub partsTo : ℕ → (ℕ → List ℕ) → List ℕ
 partsTo zero f = []
 partsTo (suc n) f = partsTo n f ++ f n
 
+-- project j's bytes
+abbrev pub projectBytesAt : Plan → ℕ → List ℕ
+projectBytesAt p j = projectBytes (projectOf p j)
+
+-- unit kind i's bytes
+abbrev pub kindBytesAt : Plan → ℕ → List ℕ
+kindBytesAt p i = kindBytes (kindOf p i)
+
 -- the plan's bytes: the header, each project, each unit kind
 unfoldable pub encoded : Plan → List ℕ
-encoded p = (headerBytes p ++ partsTo (p .projects) (λ j. projectBytes (projectOf p j))) ++ partsTo (p .kinds) (λ i. kindBytes (kindOf p i))
+encoded p = headerBytes p ++ partsTo (p .projects) (projectBytesAt p) ++ partsTo (p .kinds) (kindBytesAt p)
 
 -- ---- the parts' fields, read from where each starts
 

@@ -108,6 +108,9 @@ module _ (frame slice : ℕ) (l : slice < frame) where
       let e : x + k * frame + (frame - 1 - slice) ≡ x + (frame - 1 - slice) + k * frame = omega arith in
       below-closed (x + k * frame) ∙ ap (λ (n : ℕ). n / frame) e ∙ add-mul-div-right (x + (frame - 1 - slice)) k f ∙ ap (λ (n : ℕ). n + k) (sym (below-closed x))
 
+  pub below-frame : (k : ℕ) → cardsBelow frame (k * frame) slice ≡ k
+  below-frame k = let e : 0 + k * frame ≡ k * frame = omega arith in rw e at (below-frames 0 k) ∙ omega (arith, below-start)
+
   -- less than a frame holds at most one
   pub below-part : (x k : ℕ) → k ≤ frame → cardsBelow frame (x + k) slice ≤ cardsBelow frame x slice + 1
   below-part x k h = omega (arith, below-grows (x + k) (x + 1 * frame) (omega (arith, one-mul frame)), below-frames x 1)
@@ -152,8 +155,8 @@ module _ (first budget frame s : ℕ) (f : 0 < frame) where
       let d = div-add-mod' budget frame in
       omega (arith, run-below, below-frames frame (s % frame) slice-in first (budget / frame), below-grows frame (s % frame) slice-in (first + budget / frame * frame) (first + budget) (omega arith))
 
-  pub run-one-more : heldFrom first budget frame s ≤ budget / frame + 1
-  run-one-more =
+  pub run-most : heldFrom first budget frame s ≤ budget / frame + 1
+  run-most =
       let d = div-add-mod' budget frame in
       let r : budget % frame < frame = mod-lt budget f in
       let e : first + budget / frame * frame + budget % frame ≡ first + budget = omega arith in

@@ -1,10 +1,11 @@
 -- Laws of the layout.
 -- Assumes nothing.
 use mathlib.Core.Path.{_≡_, refl, sym, ap, ap₂, _∙_}
-use mathlib.Core.Bool.{Bool, true, false, _&&_, true≢false}
+use mathlib.Core.Bool.{true, _&&_}
+use mathlib.Core.Logic.{_⊎_, inl, inr}
 use Prim.Native.Nat.{ℕ, zero, suc, _+_, _-_, _*_, _/_, _%_, _≤_, _<_, min}
 use native.Mathlib.Decide.{decLe, decLt}
-use native.Mathlib.Nat.{mod-lt, zero-add}
+use native.Mathlib.Nat.{mod-lt, mod-mod, add-mod-right}
 use native.Mathlib.Numerals.{add-one}
 use native.Mathlib.Omega.{arith}
 use lib.Dec.{leb, ltb}
@@ -13,12 +14,13 @@ use Rattle.laws.specs.Tests.{and-left, and-right}
 use Rattle.laws.specs.Sum.{sumTo}
 use Rattle.laws.specs.Sum.Properties.{sum-none, sum-suc, sum-cong}
 use Rattle.laws.specs.Count.{countTo}
+use Rattle.laws.specs.Count.Properties.{count-le}
 use Rattle.plan.specs.declared.Plan.{Plan}
 use Rattle.plan.specs.Order.{budgetOf, budgets, projectOf}
 use Rattle.plan.specs.Order.Properties.{InOrder}
 use Rattle.layout.specs.Counts.{count-cong, count-between, between-yes, between-low, between-high}
 use Rattle.layout.specs.Cards.{cardsBelow, heldFrom}
-use Rattle.layout.specs.Cards.Properties.{below-start, below-frames, below-grows, cell-below, below-cell, cell-past, past-cell, run-closed, run-period, run-mod, run-least, run-one-more, run-ceiling, run-frame}
+use Rattle.layout.specs.Cards.Properties.{below-start, below-grows, below-frame, below-cell, past-cell, run-closed, run-least, run-most, run-ceiling, run-frame}
 use Rattle.layout.specs.Layout.{cellAt, firstCell, owns, held}
 
 -- ---- first cells
@@ -98,6 +100,13 @@ pub first-most : (p : Plan) → InOrder p → (j : ℕ) → j ≤ p .projects �
 unfolding firstCell budgets
 first-most p o j l = omega (arith, first-grows p j (p .projects) l, o .cells)
 
+-- at a slice they end at the last card or before it
+pub below-cards : (p : Plan) → InOrder p → (s i : ℕ) → i ≤ p .projects → cardsBelow (p .frame) (firstCell p i) (s % p .frame) ≤ p .cards
+below-cards p o s i h =
+    let slice-in : s % p .frame < p .frame = mod-lt s (o .counts .some-slice) in
+    let e : cardsBelow (p .frame) (p .cards * p .frame) (s % p .frame) ≡ p .cards = below-frame (p .frame) (s % p .frame) slice-in (p .cards) in
+    omega (arith, e, below-grows (p .frame) (s % p .frame) slice-in (firstCell p i) (p .cards * p .frame) (first-most p o i h))
+
 module _ (p : Plan) (o : InOrder p) (j : ℕ) (l : j < p .projects) where
   pub last-most : firstCell p j + budgetOf p j ≤ p .cards * p .frame
   last-most = omega (arith, first-suc p j, first-most p o (suc j) (omega arith))
@@ -111,12 +120,6 @@ module _ (p : Plan) (o : InOrder p) (j : ℕ) (l : j < p .projects) where
     slice-in : s % p .frame < p .frame
     slice-in = mod-lt s (o .counts .some-slice)
 
-    -- no card of the next project's first cell, nor any below, is past the last card
-    below-cards : (i : ℕ) → i ≤ p .projects → cardsBelow (p .frame) (firstCell p i) (s % p .frame) ≤ p .cards
-    below-cards i h =
-        let e : cardsBelow (p .frame) (p .cards * p .frame) (s % p .frame) ≡ p .cards = rw zero-add at (below-frames (p .frame) (s % p .frame) slice-in 0 (p .cards)) ∙ ap (λ (n : ℕ). n + p .cards) (below-start (p .frame) (s % p .frame) slice-in) ∙ zero-add (p .cards) in
-        omega (arith, e, below-grows (p .frame) (s % p .frame) slice-in (firstCell p i) (p .cards * p .frame) (first-most p o i h))
-
     pub held-closed : held p j s ≡ cardsBelow (p .frame) (firstCell p (j + 1)) (s % p .frame) - cardsBelow (p .frame) (firstCell p j) (s % p .frame)
     unfolding held
     held-closed =
@@ -125,8 +128,62 @@ module _ (p : Plan) (o : InOrder p) (j : ℕ) (l : j < p .projects) where
         let a : low ≤ high = below-grows (p .frame) (s % p .frame) slice-in (firstCell p j) (firstCell p (j + 1)) (omega (arith, first-next p j)) in
         count-cong (p .cards) (λ card. owns p j (cellAt (p .frame) card (s % p .frame))) (λ card. leb low card && ltb card high) (λ card q. owns-card p j (s % p .frame) slice-in card)
         ∙ count-between (p .cards) low high a
-        ∙ omega (arith, a, below-cards j (omega arith), below-cards (j + 1) (omega arith))
+        ∙ omega (arith, a, below-cards p o s j (omega arith), below-cards p o s (j + 1) (omega arith))
 
     -- h(s) is that of a run of B cells from the project's first cell on
     pub held-from : held p j s ≡ heldFrom (firstCell p j) (budgetOf p j) (p .frame) s
     held-from = held-closed ∙ rw (first-next p j) (sym (run-closed (firstCell p j) (budgetOf p j) (p .frame) s (o .counts .some-slice)))
+
+    -- "So a project holds at slice s either floor(B/F) or that plus one card"
+    pub held-least : budgetOf p j / p .frame ≤ held p j s
+    held-least = rw held-from (run-least (firstCell p j) (budgetOf p j) (p .frame) s (o .counts .some-slice))
+
+    pub held-most : held p j s ≤ budgetOf p j / p .frame + 1
+    held-most = rw held-from (run-most (firstCell p j) (budgetOf p j) (p .frame) s (o .counts .some-slice))
+
+    pub held-either : (held p j s ≡ budgetOf p j / p .frame) ⊎ (held p j s ≡ budgetOf p j / p .frame + 1)
+    held-either = elim (decLe (held p j s) (budgetOf p j / p .frame)) [ yes q ↦ inl (omega (arith, held-least)) | no q ↦ inr (omega (arith, held-most)) ]
+
+    -- ".. never more than q"
+    pub held-ceiling : held p j s ≤ projectOf p j .ceiling
+    held-ceiling = rw held-from (run-ceiling (firstCell p j) (budgetOf p j) (p .frame) s (o .counts .some-slice) (projectOf p j .ceiling) (o .project-at j l .budget-most))
+
+    -- its cards at a slice are the `held` cards from `cardsBelow` of its first cell on, and no others
+    pub held-owned : (k : ℕ) → k < held p j s → owns p j (cellAt (p .frame) (cardsBelow (p .frame) (firstCell p j) (s % p .frame) + k) (s % p .frame)) ≡ true
+    held-owned k h = card-owned p j (s % p .frame) slice-in (cardsBelow (p .frame) (firstCell p j) (s % p .frame) + k) (omega arith) (omega (arith, held-closed))
+
+    pub owned-held : (card : ℕ) → owns p j (cellAt (p .frame) card (s % p .frame)) ≡ true → card < cardsBelow (p .frame) (firstCell p j) (s % p .frame) + held p j s
+    owned-held card e = omega (arith, held-closed, owned-from p j (s % p .frame) slice-in card e, owned-to p j (s % p .frame) slice-in card e)
+
+  -- over any F slices in a row it holds exactly B
+  pub held-frame : (a : ℕ) → sumTo (p .frame) (λ s. held p j (a + s)) ≡ budgetOf p j
+  held-frame a =
+      sum-cong (p .frame) (λ s. held p j (a + s)) (λ s. heldFrom (firstCell p j) (budgetOf p j) (p .frame) (a + s)) (λ s q. held-from (a + s))
+      ∙ run-frame (firstCell p j) (budgetOf p j) (p .frame) a (o .counts .some-slice)
+
+-- the projects together hold no more cards than there are
+pub held-together : (p : Plan) → InOrder p → (s : ℕ) → sumTo (p .projects) (λ j. held p j s) ≤ p .cards
+held-together p o s = omega (arith, upTo (p .projects) (omega arith), below-cards p o s (p .projects) (omega arith))
+  where
+    slice-in' : s % p .frame < p .frame
+    slice-in' = mod-lt s (o .counts .some-slice)
+
+    upTo : (n : ℕ) → n ≤ p .projects → sumTo n (λ j. held p j s) ≡ cardsBelow (p .frame) (firstCell p n) (s % p .frame)
+    upTo zero h = sym (sum-none (λ j. held p j s)) ∙ sym (rw (first-start p) (below-start (p .frame) (s % p .frame) slice-in'))
+    upTo (suc n) h =
+        omega (arith, sum-suc n (λ j. held p j s), upTo n (omega arith), held-closed p o n (omega arith) s, ap (λ (i : ℕ). cardsBelow (p .frame) (firstCell p i) (s % p .frame)) (add-one n), below-grows (p .frame) (s % p .frame) slice-in' (firstCell p n) (firstCell p (suc n)) (first-grows p n (suc n) (omega arith)))
+
+-- ---- h(s) of any plan
+
+-- "taken modulo F"
+pub held-period : (p : Plan) (j s : ℕ) → held p j (s + p .frame) ≡ held p j s
+unfolding held
+held-period p j s = rw (add-mod-right s (p .frame))
+
+pub held-mod : (p : Plan) (j s : ℕ) → held p j (s % p .frame) ≡ held p j s
+unfolding held
+held-mod p j s = rw (mod-mod s (p .frame))
+
+pub held-cards : (p : Plan) (j s : ℕ) → held p j s ≤ p .cards
+unfolding held
+held-cards p j s = count-le (p .cards) (λ card. owns p j (cellAt (p .frame) card (s % p .frame)))

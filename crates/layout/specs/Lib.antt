@@ -3,3 +3,5 @@
 pub mod Counts
 pub mod Cards
 pub mod Layout
+pub mod Table
+pub mod Walk

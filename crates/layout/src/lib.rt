@@ -1,4 +1,7 @@
 // The layout of budgets onto cards: document 01, "Layout".
+mod table;
+
+pub use table::TableWritten;
 ghost use mathlib.Core.Path.{_≡_};
 ghost use Rattle.layout.specs.Cards.{cardsBelow};
 

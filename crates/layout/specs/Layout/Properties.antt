@@ -3,7 +3,7 @@
 use mathlib.Core.Path.{_≡_, refl, sym, ap, ap₂, _∙_}
 use mathlib.Core.Bool.{true, _&&_}
 use mathlib.Core.Logic.{_⊎_, inl, inr}
-use Prim.Native.Nat.{ℕ, zero, suc, _+_, _-_, _*_, _/_, _%_, _≤_, _<_, min}
+use Prim.Native.Nat.{ℕ, zero, suc, _+_, _-_, _*_, _/_, _%_, _≤_, _<_, pred}
 use native.Mathlib.Decide.{decLe, decLt}
 use native.Mathlib.Nat.{mod-lt, mod-mod, add-mod-right}
 use native.Mathlib.Numerals.{add-one}
@@ -13,6 +13,7 @@ use borrow.Author.Tests.{leb-true, ltb-true}
 use Rattle.laws.specs.Tests.{and-left, and-right}
 use Rattle.laws.specs.Sum.{sumTo}
 use Rattle.laws.specs.Sum.Properties.{sum-none, sum-suc, sum-cong}
+use Rattle.laws.specs.First.Properties.{first-le, first-holds, first-some}
 use Rattle.laws.specs.Count.{countTo}
 use Rattle.laws.specs.Count.Properties.{count-le}
 use Rattle.plan.specs.declared.Plan.{Plan}
@@ -21,7 +22,7 @@ use Rattle.plan.specs.Order.Properties.{InOrder}
 use Rattle.layout.specs.Counts.{count-cong, count-between, between-yes, between-low, between-high}
 use Rattle.layout.specs.Cards.{cardsBelow, heldFrom}
 use Rattle.layout.specs.Cards.Properties.{below-start, below-grows, below-frame, below-cell, past-cell, run-closed, run-least, run-most, run-ceiling, run-frame}
-use Rattle.layout.specs.Layout.{cellAt, firstCell, owns, held}
+use Rattle.layout.specs.Layout.{cellAt, firstCell, owns, slotOf, held}
 
 -- ---- first cells
 
@@ -68,6 +69,44 @@ one-owner p i j x a b =
         | no r ↦ omega arith
       ]
     ]
+
+-- ---- slots: "project number plus 1, or 0 for a free cell"
+
+pub slot-most : (p : Plan) (x : ℕ) → slotOf p x ≤ p .projects
+unfolding slotOf
+slot-most p x = first-le (p .projects) (λ number. owns p (pred number) x)
+
+-- the project that a slot names owns the cell
+pub slot-owner : (p : Plan) (j x : ℕ) → slotOf p x ≡ suc j → owns p j x ≡ true
+unfolding slotOf
+slot-owner p j x e = rw e at (first-holds (p .projects) (λ number. owns p (pred number) x) (omega arith))
+
+slot-some : (p : Plan) (j x : ℕ) → j < p .projects → owns p j x ≡ true → 0 < slotOf p x
+unfolding slotOf
+slot-some p j x l e = first-some (p .projects) (λ number. owns p (pred number) x) (suc j) (omega arith) (omega arith) e
+
+-- a project's cell has its slot
+pub slot-owned : (p : Plan) (j x : ℕ) → j < p .projects → owns p j x ≡ true → slotOf p x ≡ suc j
+slot-owned p j x l e = named (slotOf p x) refl
+  where
+    named : (n : ℕ) → slotOf p x ≡ n → slotOf p x ≡ suc j
+    named zero q = absurd (omega (arith, slot-some p j x l e))
+    named (suc i) q = q ∙ ap suc (one-owner p i j x (slot-owner p i x q) e)
+
+-- "What is left is free": past every project's cells, and nowhere before
+pub slot-free : (p : Plan) (x : ℕ) → firstCell p (p .projects) ≤ x → slotOf p x ≡ 0
+slot-free p x h = named (slotOf p x) refl
+  where
+    named : (n : ℕ) → slotOf p x ≡ n → slotOf p x ≡ 0
+    named zero q = q
+    named (suc j) q = absurd (omega (arith, slot-most p x, owns-to p j x (slot-owner p j x q), first-suc p j, first-grows p (suc j) (p .projects) (omega (arith, slot-most p x))))
+
+pub free-slot : (p : Plan) (x : ℕ) → slotOf p x ≡ 0 → firstCell p (p .projects) ≤ x
+free-slot p x e = upTo (p .projects) (omega arith)
+  where
+    upTo : (n : ℕ) → n ≤ p .projects → firstCell p n ≤ x
+    upTo zero l = omega (arith, first-start p)
+    upTo (suc n) l = elim (decLt x (firstCell p (suc n))) [ yes q ↦ absurd (omega (arith, slot-owned p n x (omega arith) (owns-yes p n x (upTo n (omega arith)) (omega (arith, first-suc p n))))) | no q ↦ omega arith ]
 
 -- ---- a project's cards at a slice are consecutive: from card `cardsBelow` of its first cell on, up to that of the next project's
 

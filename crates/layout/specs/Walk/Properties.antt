@@ -2,17 +2,45 @@
 -- Assumes nothing.
 use mathlib.Core.Path.{_≡_, refl, sym, ap, _∙_}
 use mathlib.Core.Bool.{true}
-use Prim.Native.Nat.{ℕ, zero, suc, _+_, _-_, _≤_, _<_}
+use mathlib.Core.List.{List}
+use Prim.Native.Nat.{ℕ, zero, suc, _+_, _-_, _*_, _≤_, _<_}
 use native.Mathlib.Decide.{decLt}
+use native.Mathlib.Nat.{mul-le-mul, mul-le-mul-right, suc-mul}
 use native.Mathlib.Numerals.{add-one}
 use native.Mathlib.Omega.{arith}
+use lib.ListN.{length, set, getD, replicate}
 use borrow.Author.Tests.{lt-ltb, le-ltb, ne-eqb}
+use Rattle.laws.specs.Written.{written}
+use Rattle.laws.specs.Written.Properties.{written-suc, written-at}
 use Rattle.plan.specs.declared.Plan.{Plan}
 use Rattle.plan.specs.Order.{budgetOf}
 use Rattle.plan.specs.Order.Properties.{InOrder}
-use Rattle.layout.specs.Layout.{firstCell, owns, slotOf}
-use Rattle.layout.specs.Layout.Properties.{first-suc, first-start, owns-yes, owns-from, owns-to, slot-owner, slot-owned, slot-free, free-slot, slot-most}
-use Rattle.layout.specs.Walk.{slotAfter}
+use Rattle.layout.specs.Layout.{cellAt, firstCell, slotOf}
+use Rattle.layout.specs.Layout.Properties.{first-suc, first-next, first-start, last-most, owns-yes, owns-from, owns-to, slot-owner, slot-owned, slot-free, free-slot, slot-most}
+use Rattle.layout.specs.Walk.{firstCells, slotAfter}
+
+-- ---- bounds
+
+-- "cards m 1..8; .. frame length F 1..64": a frame has at most 512 cells
+pub cells-most : (p : Plan) → InOrder p → p .cards * p .frame ≤ 512
+cells-most p o = mul-le-mul (o .counts .cards-most) (o .counts .frame-most)
+
+-- ---- first cells, one after the other
+
+pub first-cells-start : (p : Plan) → 0 ≡ firstCell p 0
+first-cells-start p = sym (first-start p)
+
+pub first-cells-more : (p : Plan) (j cell : ℕ) → cell ≡ firstCell p j → cell + budgetOf p j ≡ firstCell p (j + 1)
+first-cells-more p j cell e = rw e (sym (first-next p j))
+
+pub first-cells-most : (p : Plan) (j cell : ℕ) → InOrder p → j < p .projects → cell ≡ firstCell p j → cell + budgetOf p j < 513
+first-cells-most p j cell o l e = omega (arith, last-most p o j l, cells-most p o)
+
+pub first-cells-end : (p : Plan) (j cell : ℕ) (m : List ℕ) → m ≡ written j (firstCell p) (replicate 9 0) → cell ≡ firstCell p j → j ≤ p .projects → p .projects ≤ j → set m (p .projects) cell ≡ firstCells p
+unfolding firstCells
+first-cells-end p j cell m e q a b =
+    let h : j ≡ p .projects = omega arith in
+    rw (e, q, h) (sym (written-suc (p .projects) (firstCell p) (replicate 9 0)))
 
 -- ---- from a cell to the next
 
@@ -33,8 +61,43 @@ walk-step p o x = from (slotOf p (x - 1)) refl
         let high = owns-to p j (x - 1) mine in
         let most : suc j ≤ p .projects = omega (arith, slot-most p (x - 1)) in
         rw (ne-eqb (suc j) 0 (λ h. omega arith))
-        (elim (decLt x (firstCell p (suc j)))
-        [ yes q ↦ rw (lt-ltb x (firstCell p (suc j)) q) (sym (slot-owned p j x (omega arith) (owns-yes p j x (omega arith) (omega (arith, first-suc p j)))))
-        | no q ↦ rw (le-ltb x (firstCell p (suc j)) (omega arith)) (elim (decLt (suc j) (p .projects))
-          [ yes r ↦ rw (lt-ltb (suc j) (p .projects) r) (add-one (suc j) ∙ sym (slot-owned p (suc j) x r (owns-yes p (suc j) x (omega arith) (omega (arith, first-suc p j, o .project-at (suc j) r .some-budget)))))
-          | no r ↦ rw (le-ltb (suc j) (p .projects) (omega arith)) (sym (slot-free p x (omega (arith, ap (firstCell p) (let z : p .projects ≡ suc j = omega arith in z))))) ]) ])
+        (elim (decLt x (firstCell p (suc j))) [
+          | yes q ↦ rw (lt-ltb x (firstCell p (suc j)) q) (sym (slot-owned p j x (omega arith) (owns-yes p j x (omega arith) (omega (arith, first-suc p j)))))
+          | no q ↦ rw (le-ltb x (firstCell p (suc j)) (omega arith)) (elim (decLt (suc j) (p .projects)) [
+            | yes r ↦ rw (lt-ltb (suc j) (p .projects) r) (add-one (suc j) ∙ sym (slot-owned p (suc j) x r (owns-yes p (suc j) x (omega arith) (omega (arith, first-suc p j, o .project-at (suc j) r .some-budget)))))
+            | no r ↦ rw (le-ltb (suc j) (p .projects) (omega arith)) (sym (slot-free p x (omega (arith, ap (firstCell p) (let z : p .projects ≡ suc j = omega arith in z)))))
+          ])
+        ])
+
+-- ---- a card's row, slice by slice. cell is the cell that the walk stands at, and slot the slot of the one before it
+
+pub row-start : (frame card : ℕ) → card * frame ≡ cellAt frame card 0
+unfolding cellAt
+row-start frame card = omega arith
+
+pub row-next : (frame card s cell : ℕ) → cell ≡ cellAt frame card s → cell + 1 ≡ cellAt frame card (s + 1)
+unfolding cellAt
+row-next frame card s cell e = omega arith
+
+pub row-most : (p : Plan) (card : ℕ) → InOrder p → card < p .cards → card * p .frame + p .frame ≤ 512
+row-most p card o l = omega (arith, cells-most p o, suc-mul card (p .frame), mul-le-mul-right (p .frame) (let h : suc card ≤ p .cards = omega arith in h))
+
+pub row-slot : (p : Plan) (card s cell slot r : ℕ) (first : List ℕ) → InOrder p → first ≡ firstCells p → cell ≡ cellAt (p .frame) card s → slot ≡ slotOf p (cellAt (p .frame) card s - 1) → r ≡ slotAfter slot (getD first slot 0) (p .projects) cell → r ≡ slotOf p (cellAt (p .frame) card s)
+unfolding firstCells
+row-slot p card s cell slot r first o f at before e =
+    let x = cellAt (p .frame) card s in
+    let bound = slot-most p (x - 1) in
+    let long : length (replicate 9 (let z : ℕ = 0 in z)) ≡ 9 = refl in
+    let end : getD first slot 0 ≡ firstCell p (slotOf p (x - 1)) = rw (f, before) (written-at (suc (p .projects)) (firstCell p) (replicate 9 0) 0 (slotOf p (x - 1)) (omega arith) (omega (arith, o .counts .projects-most))) in
+    e ∙ rw (end, before, at) (walk-step p o x)
+
+-- the cell before the next slice's is this slice's
+pub row-back : (p : Plan) (card s r : ℕ) → r ≡ slotOf p (cellAt (p .frame) card s) → r ≡ slotOf p (cellAt (p .frame) card (s + 1) - 1)
+unfolding cellAt
+row-back p card s r e = e ∙ ap (slotOf p) (omega arith)
+
+pub slot-index : (p : Plan) (x r : ℕ) → InOrder p → r ≡ slotOf p x → r < 9
+slot-index p x r o e = omega (arith, slot-most p x, o .counts .projects-most)
+
+pub row-index : (p : Plan) (card s cell slot r : ℕ) (first : List ℕ) → InOrder p → first ≡ firstCells p → cell ≡ cellAt (p .frame) card s → slot ≡ slotOf p (cellAt (p .frame) card s - 1) → r ≡ slotAfter slot (getD first slot 0) (p .projects) cell → r < 9
+row-index p card s cell slot r first o f at before e = slot-index p (cellAt (p .frame) card s) r o (row-slot p card s cell slot r first o f at before e)

@@ -5,19 +5,20 @@ use mathlib.Core.Bool.{true}
 use mathlib.Core.List.{List}
 use Prim.Native.Nat.{ℕ, zero, suc, _+_, _-_, _*_, _≤_, _<_}
 use native.Mathlib.Decide.{decLt}
-use native.Mathlib.Nat.{mul-le-mul, mul-le-mul-right, suc-mul}
+use native.Mathlib.Nat.{mul-le-mul, mul-le-mul-right, suc-mul, add-mul, one-mul}
 use native.Mathlib.Numerals.{add-one}
 use native.Mathlib.Omega.{arith}
 use lib.ListN.{length, set, getD, replicate}
 use borrow.Author.Tests.{lt-ltb, le-ltb, ne-eqb}
 use Rattle.laws.specs.Written.{written}
-use Rattle.laws.specs.Written.Properties.{written-suc, written-at}
+use Rattle.laws.specs.Written.Properties.{written-none, written-suc, written-again, written-stop, written-at}
 use Rattle.plan.specs.declared.Plan.{Plan}
 use Rattle.plan.specs.Order.{budgetOf}
 use Rattle.plan.specs.Order.Properties.{InOrder}
 use Rattle.layout.specs.Layout.{cellAt, firstCell, slotOf}
 use Rattle.layout.specs.Layout.Properties.{first-suc, first-next, first-start, last-most, owns-yes, owns-from, owns-to, slot-owner, slot-owned, slot-free, free-slot, slot-most}
-use Rattle.layout.specs.Walk.{firstCells, slotAfter}
+use Rattle.layout.specs.Table.{tableLength, tableOver}
+use Rattle.layout.specs.Walk.{firstCells, slotAfter, rowOf, rowsOf}
 
 -- ---- bounds
 
@@ -101,3 +102,60 @@ slot-index p x r o e = omega (arith, slot-most p x, o .counts .projects-most)
 
 pub row-index : (p : Plan) (card s cell slot r : ℕ) (first : List ℕ) → InOrder p → first ≡ firstCells p → cell ≡ cellAt (p .frame) card s → slot ≡ slotOf p (cellAt (p .frame) card s - 1) → r ≡ slotAfter slot (getD first slot 0) (p .projects) cell → r < 9
 row-index p card s cell slot r first o f at before e = slot-index p (cellAt (p .frame) card s) r o (row-slot p card s cell slot r first o f at before e)
+
+-- ---- the rows, card by card
+
+pub rows-none : (p : Plan) → replicate 8 (replicate 64 0) ≡ rowsOf p 0
+unfolding rowsOf
+rows-none p = written-none (rowOf p) (replicate 8 (replicate 64 0))
+
+pub rows-again : (p : Plan) (c : ℕ) (rows : List (List ℕ)) (row : List ℕ) → rows ≡ rowsOf p c → row ≡ rowOf p c → set rows c row ≡ rowsOf p (c + 1)
+unfolding rowsOf
+rows-again p c rows row e f = written-again c (rowOf p) (replicate 8 (replicate 64 0)) rows row e f
+
+pub rows-stop : (p : Plan) (c n : ℕ) (rows : List (List ℕ)) → rows ≡ rowsOf p c → c ≤ n → n ≤ c → rows ≡ rowsOf p n
+unfolding rowsOf
+rows-stop p c n rows e a b = written-stop c n (rowOf p) (replicate 8 (replicate 64 0)) rows e a b
+
+pub rows-start : (p : Plan) → InOrder p → 1 ≡ slotOf p (cellAt (p .frame) 0 0 - 1)
+unfolding cellAt
+rows-start p o = sym (walk-start p o) ∙ ap (slotOf p) (omega arith)
+
+row-at : (p : Plan) (c s : ℕ) → InOrder p → s < p .frame → getD (rowOf p c) s 0 ≡ slotOf p (cellAt (p .frame) c s)
+unfolding rowOf
+row-at p c s o l = written-at (p .frame) (λ (slice : ℕ). slotOf p (cellAt (p .frame) c slice)) (replicate 64 0) 0 s l (omega (arith, o .counts .frame-most))
+
+-- the cell before the next card's first is this card's last
+pub rows-back : (p : Plan) (c : ℕ) (row : List ℕ) → InOrder p → row ≡ rowOf p c → getD row (p .frame - 1) 0 ≡ slotOf p (cellAt (p .frame) (c + 1) 0 - 1)
+unfolding cellAt
+rows-back p c row o e =
+    let some = o .counts .some-slice in
+    let last : getD row (p .frame - 1) 0 ≡ slotOf p (cellAt (p .frame) c (p .frame - 1)) = rw e (row-at p c (p .frame - 1) o (omega arith)) in
+    last ∙ ap (slotOf p) (omega (arith, add-mul c 1 (p .frame), one-mul (p .frame)))
+
+pub rows-slot : (p : Plan) (c s at : ℕ) (rows : List (List ℕ)) (d : List ℕ) → InOrder p → rows ≡ rowsOf p (p .cards) → c < p .cards → s < p .frame → at ≡ cellAt (p .frame) c s → getD (getD rows c d) s 0 ≡ slotOf p at
+unfolding rowsOf
+rows-slot p c s at rows d o e a b q =
+    rw (e, written-at (p .cards) (rowOf p) (replicate 8 (replicate 64 0)) d c a (omega (arith, o .counts .cards-most)), q) (row-at p c s o b)
+
+-- ---- the bytes, card by card. at is the byte that is written next
+
+pub bytes-start : (frame : ℕ) → 0 ≡ cellAt frame 0 0
+unfolding cellAt
+bytes-start frame = omega arith
+
+pub bytes-over : (frame c s at : ℕ) → at ≡ cellAt frame c s → s ≤ frame → frame ≤ s → at ≡ cellAt frame (c + 1) 0
+unfolding cellAt
+bytes-over frame c s at e a b = omega (arith, add-mul c 1 frame, one-mul frame)
+
+-- there is room for the rest of the card
+pub bytes-room : (p : Plan) (c s at n k : ℕ) → at ≡ cellAt (p .frame) c s → s ≤ p .frame → c < p .cards → k ≡ n → tableLength p ≤ n → at + (p .frame - s) ≤ k
+unfolding cellAt tableLength
+bytes-room p c s at n k e b a f q = omega (arith, suc-mul c (p .frame), mul-le-mul-right (p .frame) (let h : suc c ≤ p .cards = omega arith in h))
+
+pub bytes-done : (p : Plan) (c at : ℕ) (entry exit : List ℕ) → at ≡ cellAt (p .frame) c 0 → c ≤ p .cards → p .cards ≤ c → exit ≡ written at (slotOf p) entry → exit ≡ tableOver p entry
+unfolding cellAt tableLength tableOver
+bytes-done p c at entry exit e a b q =
+    let h : c ≡ p .cards = omega arith in
+    let z : at ≡ p .cards * p .frame = e ∙ rw h (omega arith) in
+    q ∙ ap (λ (n : ℕ). written n (slotOf p) entry) z

@@ -1,2 +1,49 @@
--- Laws of the slot table.
+-- Laws of the slot table: each way out of the code, and what the table holds.
 -- Assumes nothing.
+use mathlib.Core.Path.{_≡_, refl, sym, ap, _∙_}
+use mathlib.Core.List.{List}
+use Prim.Native.Nat.{ℕ, _*_, _≤_, _<_}
+use native.Mathlib.Nat.{mul-le-mul, mul-le-mul-right, suc-mul}
+use native.Mathlib.Omega.{arith}
+use lib.Dec.{ltb}
+use lib.ListN.{length, getD}
+use borrow.Author.Tests.{lt-ltb, le-ltb}
+use Rattle.laws.specs.Written.Properties.{written-at, written-kept, written-length}
+use Rattle.plan.specs.declared.Plan.{Plan}
+use Rattle.plan.specs.declared.answer.Answer.{Answer}
+use Rattle.plan.specs.declared.answer.Answer.the-variants.{Good, No}
+use Rattle.plan.specs.declared.answer.Refusal.{Refusal}
+use Rattle.plan.specs.declared.answer.Refusal.the-variants.{Bare}
+use Rattle.plan.specs.Order.{checked}
+use Rattle.plan.specs.Order.Properties.{InOrder, check-opened}
+use Rattle.layout.specs.Layout.{cellAt, slotOf}
+use Rattle.layout.specs.Table.{tableLength, tableOver, tableAnswer, Tabled}
+
+-- ---- the ways out. a is what the record check answered
+
+pub table-refused : (p : Plan) (bytes : List ℕ) (a : Answer) (w : Refusal) → a ≡ No w → a ≡ checked p → Tabled p bytes bytes (record { answer = a; count = 0 })
+unfolding tableAnswer
+table-refused p bytes a w e q = record { answer = rw (← q, e); count = rw (← q, e); bytes = rw (← q, e) }
+
+pub table-short : (p : Plan) (bytes : List ℕ) (a : Answer) → a ≡ Good → a ≡ checked p → length bytes < p .cards * p .frame → Tabled p bytes bytes (record { answer = No (Bare 9); count = 0 })
+unfolding tableAnswer tableLength
+table-short p bytes a e q l =
+    let t = lt-ltb (length bytes) (p .cards * p .frame) l in
+    record { answer = rw (← q, e, t); count = rw (← q, e, t); bytes = rw (← q, e, t) }
+
+pub table-good : (p : Plan) (entry exit : List ℕ) (a : Answer) → a ≡ Good → a ≡ checked p → p .cards * p .frame ≤ length entry → exit ≡ tableOver p entry → Tabled p entry exit (record { answer = Good; count = p .cards * p .frame })
+unfolding tableAnswer tableLength
+table-good p entry exit a e q l f =
+    let t = le-ltb (length entry) (p .cards * p .frame) l in
+    record { answer = rw (← q, e, t); count = rw (← q, e, t); bytes = rw (← q, e, t) f }
+
+pub ruleset table-ways = (table-refused, table-short, table-good)
+
+-- what the check's good answer gives to the code after it
+
+pub opened-cells : (p : Plan) (a : Answer) → a ≡ Good → a ≡ checked p → p .cards * p .frame < 513
+opened-cells p a e q = let o = check-opened p a e q in omega (arith, mul-le-mul (o .counts .cards-most) (o .counts .frame-most))
+
+pub opened-room : (p : Plan) (n : ℕ) → p .cards * p .frame ≤ n → tableLength p ≤ n
+unfolding tableLength
+opened-room p n l = l

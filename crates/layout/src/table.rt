@@ -70,6 +70,7 @@ fn write_slots(plan: Plan, out: &mut [u8])
 {
     let first = first_cells(plan);
     let mut rows = [[0u8; 64]; 8];
+    // Cell 0 is project 0's.
     let mut before: u8 = 1;
     for c in 0..plan.cards {
         let slots = row(plan, &first, c, before);

@@ -2,13 +2,13 @@
 -- Assumes nothing.
 use mathlib.Core.Path.{_≡_, refl, sym, ap, _∙_}
 use mathlib.Core.List.{List}
-use Prim.Native.Nat.{ℕ, _*_, _≤_, _<_}
+use Prim.Native.Nat.{ℕ, suc, _+_, _*_, _≤_, _<_}
 use native.Mathlib.Nat.{mul-le-mul, mul-le-mul-right, suc-mul}
 use native.Mathlib.Omega.{arith}
 use lib.Dec.{ltb}
 use lib.ListN.{length, getD}
 use borrow.Author.Tests.{lt-ltb, le-ltb}
-use Rattle.laws.specs.Written.Properties.{written-at, written-kept, written-length}
+use Rattle.laws.specs.Written.Properties.{written-at, written-kept}
 use Rattle.plan.specs.declared.Plan.{Plan}
 use Rattle.plan.specs.declared.answer.Answer.{Answer}
 use Rattle.plan.specs.declared.answer.Answer.the-variants.{Good, No}
@@ -47,3 +47,15 @@ opened-cells p a e q = let o = check-opened p a e q in omega (arith, mul-le-mul 
 pub opened-room : (p : Plan) (n : ℕ) → p .cards * p .frame ≤ n → tableLength p ≤ n
 unfolding tableLength
 opened-room p n l = l
+
+-- ---- what a good table holds
+
+-- a card's byte at a slice is the slot of its cell
+pub table-slot : (p : Plan) (bytes : List ℕ) (card slice : ℕ) → tableLength p ≤ length bytes → card < p .cards → slice < p .frame → getD (tableOver p bytes) (cellAt (p .frame) card slice) 0 ≡ slotOf p (cellAt (p .frame) card slice)
+unfolding tableOver tableLength cellAt
+table-slot p bytes card slice l a b = written-at (p .cards * p .frame) (slotOf p) bytes 0 (card * p .frame + slice) (omega (arith, suc-mul card (p .frame), mul-le-mul-right (p .frame) (let h : suc card ≤ p .cards = omega arith in h))) l
+
+-- "bytes past those needed keep their value"
+pub table-kept : (p : Plan) (bytes : List ℕ) (x : ℕ) → tableLength p ≤ x → getD (tableOver p bytes) x 0 ≡ getD bytes x 0
+unfolding tableOver
+table-kept p bytes x l = written-kept (tableLength p) (slotOf p) bytes 0 x l

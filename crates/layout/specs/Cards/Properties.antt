@@ -1,12 +1,12 @@
 -- Laws of the cells of a slice.
 -- Assumes nothing.
-use mathlib.Core.Path.{_≡_, refl, sym, ap, ap₂, _∙_}
+use mathlib.Core.Path.{_≡_, refl, sym, ap, _∙_}
 use mathlib.Core.Bool.{Bool, true, false, cond}
 use Prim.Native.Nat.{ℕ, zero, suc, _+_, _-_, _*_, _/_, _%_, _≤_, _<_}
 use native.Mathlib.Decide.{decLe, decLt}
-use native.Mathlib.Nat.{add-mul, one-mul, suc-mul, div-add-mod', mod-lt, mod-mod, add-mod-right, div-eq-of-lt-le, le-div-iff-mul-le, add-div-right, add-mul-div-right, div-mul-le-self, lt-div-mul-add}
+use native.Mathlib.Nat.{add-mul, one-mul, div-add-mod', mod-lt, mod-mod, add-mod-right, div-eq-of-lt-le, le-div-iff-mul-le, add-mul-div-right}
 use native.Mathlib.Omega.{arith}
-use lib.Dec.{ltb, eqb}
+use lib.Dec.{eqb}
 use borrow.Author.Tests.{lt-ltb, le-ltb, eq-eqb, ne-eqb, eqb-true, eqb-false}
 use Rattle.laws.specs.Sum.{sumTo}
 use Rattle.laws.specs.Sum.Properties.{sum-add, sum-cong, sum-zero}

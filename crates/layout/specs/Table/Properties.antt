@@ -1,11 +1,10 @@
 -- Laws of the slot table: each way out of the code, and what the table holds.
 -- Assumes nothing.
-use mathlib.Core.Path.{_≡_, refl, sym, ap, _∙_}
+use mathlib.Core.Path.{_≡_}
 use mathlib.Core.List.{List}
 use Prim.Native.Nat.{ℕ, suc, _+_, _*_, _≤_, _<_}
 use native.Mathlib.Nat.{mul-le-mul, mul-le-mul-right, suc-mul}
 use native.Mathlib.Omega.{arith}
-use lib.Dec.{ltb}
 use lib.ListN.{length, getD}
 use borrow.Author.Tests.{lt-ltb, le-ltb}
 use Rattle.laws.specs.Written.Properties.{written-at, written-kept}
@@ -15,7 +14,7 @@ use Rattle.plan.specs.declared.answer.Answer.the-variants.{Good, No}
 use Rattle.plan.specs.declared.answer.Refusal.{Refusal}
 use Rattle.plan.specs.declared.answer.Refusal.the-variants.{Bare}
 use Rattle.plan.specs.Order.{checked}
-use Rattle.plan.specs.Order.Properties.{InOrder, check-opened}
+use Rattle.plan.specs.Order.Properties.{check-opened}
 use Rattle.layout.specs.Layout.{cellAt, slotOf}
 use Rattle.layout.specs.Table.{tableLength, tableOver, tableAnswer, Tabled}
 

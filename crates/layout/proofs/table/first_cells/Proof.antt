@@ -1,4 +1,3 @@
-use Rattle.layout.specs.Walk.Properties.{first-cells-end}
 use mathlib.Core.Path.{_≡_, refl}
 use Prim.Native.Nat.{_≤_, _-_}
 use native.Mathlib.Omega.{arith}
@@ -6,9 +5,8 @@ use lib.ListN.{replicate}
 use borrow.Author.Needs.{needs}
 use Rattle.laws.specs.Written.{written}
 use Rattle.laws.specs.Written.Properties.{written-none, written-again}
+use Rattle.layout.specs.Walk.Properties.{first-cells-end, first-cells-start, first-cells-more, first-cells-most}
 use Rattle.layout.specs.Layout.{firstCell}
-use Rattle.layout.specs.Walk.{firstCells}
-use Rattle.layout.specs.Walk.Properties.{first-cells-start, first-cells-more, first-cells-most}
 use Rattle.layout.proofs.table.first_cells.Statement.{statement}
 use Rattle.layout.proofs.table.first_cells.Tie as tie
 use Rattle.layout.proofs.table.first_cells.Reads as reads

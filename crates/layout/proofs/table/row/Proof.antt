@@ -1,12 +1,11 @@
-use Rattle.layout.specs.Walk.Properties.{row-slot, row-start, row-next, row-back, row-most, row-index, slot-index}
-use Prim.Native.Nat.{ℕ, _+_, _≤_, _<_, _-_}
 use mathlib.Core.Path.{_≡_, refl}
-use native.Mathlib.Nat.{mul-le-mul}
+use Prim.Native.Nat.{ℕ, _+_, _≤_, _<_, _-_}
 use native.Mathlib.Omega.{arith}
 use lib.ListN.{replicate}
 use borrow.Author.Needs.{needs}
 use Rattle.laws.specs.Written.{written}
 use Rattle.laws.specs.Written.Properties.{written-none, written-again, written-stop}
+use Rattle.layout.specs.Walk.Properties.{row-slot, row-start, row-next, row-back, row-most, row-index, slot-index}
 use Rattle.layout.specs.Layout.{cellAt, slotOf}
 use Rattle.layout.specs.Walk.{rowOf}
 use Rattle.layout.proofs.table.row.Statement.{statement}

@@ -1,6 +1,6 @@
+use borrow.Author.Needs.{needs}
 use Rattle.laws.specs.Tests.{tests}
 use Rattle.layout.specs.Walk.{slotAfter}
-use borrow.Author.Needs.{needs}
 use Rattle.layout.proofs.table.slot_after.Statement.{statement}
 use Rattle.layout.proofs.table.slot_after.Tie as tie
 use Rattle.layout.proofs.table.slot_after.Reads as reads

@@ -1,7 +1,6 @@
-use borrow.Author.Needs.{fits-under}
+use borrow.Author.Needs.{fits-under, needs}
 use Rattle.plan.specs.Order.Properties.{check-opened}
 use Rattle.layout.specs.Table.Properties.{table-ways, opened-cells, opened-room}
-use borrow.Author.Needs.{needs}
 use Rattle.layout.proofs.table.slot_table.Statement.{statement}
 use Rattle.layout.proofs.table.slot_table.Tie as tie
 use Rattle.layout.proofs.table.slot_table.Reads as reads

@@ -1,13 +1,13 @@
-use Rattle.layout.specs.Walk.Properties.{row-next, rows-none, rows-again, rows-stop, rows-start, rows-back, rows-slot, bytes-start, bytes-over, bytes-room, bytes-done}
-use Rattle.layout.specs.Walk.{rowsOf}
-use mathlib.Core.Path.{_≡_, refl, ap, _∙_}
+use mathlib.Core.Path.{_≡_, refl}
 use mathlib.Core.List.{List}
-use Prim.Native.Nat.{ℕ, _+_, _≤_, _<_, _-_}
+use Prim.Native.Nat.{ℕ, _+_, _≤_, _-_}
 use native.Mathlib.Omega.{arith}
 use lib.ListN.{length, length-set}
 use borrow.Author.Needs.{needs, zero≤}
 use Rattle.laws.specs.Written.{written}
-use Rattle.laws.specs.Written.Properties.{written-none, written-again, written-stop}
+use Rattle.laws.specs.Written.Properties.{written-none, written-again}
+use Rattle.layout.specs.Walk.Properties.{row-next, rows-none, rows-again, rows-stop, rows-start, rows-back, rows-slot, bytes-start, bytes-over, bytes-room, bytes-done}
+use Rattle.layout.specs.Walk.{rowsOf}
 use Rattle.layout.specs.Layout.{cellAt, slotOf}
 use Rattle.layout.proofs.table.write_slots.Statement.{statement}
 use Rattle.layout.proofs.table.write_slots.Tie as tie

@@ -5,7 +5,7 @@ use mathlib.Core.Bool.{true, _&&_}
 use mathlib.Core.Logic.{_⊎_, inl, inr}
 use Prim.Native.Nat.{ℕ, zero, suc, _+_, _-_, _*_, _/_, _%_, _≤_, _<_, pred}
 use native.Mathlib.Decide.{decLe, decLt}
-use native.Mathlib.Nat.{mod-lt, mod-mod, add-mod-right}
+use native.Mathlib.Nat.{mul-le-mul, mod-lt, mod-mod, add-mod-right}
 use native.Mathlib.Numerals.{add-one}
 use native.Mathlib.Omega.{arith}
 use lib.Dec.{leb, ltb}
@@ -133,6 +133,10 @@ module _ (p : Plan) (j slice : ℕ) (l : slice < p .frame) where
   owned-to card e = below-cell (p .frame) slice l (firstCell p (j + 1)) card (omega (arith, first-next p j, owns-to p j (cellAt (p .frame) card slice) e))
 
 -- ---- a plan in order
+
+-- "cards m 1..8; .. frame length F 1..64": a frame has at most 512 cells
+pub cells-most : (p : Plan) → InOrder p → p .cards * p .frame ≤ 512
+cells-most p o = mul-le-mul (o .counts .cards-most) (o .counts .frame-most)
 
 -- every project's cells are cells of the frame
 pub first-most : (p : Plan) → InOrder p → (j : ℕ) → j ≤ p .projects → firstCell p j ≤ p .cards * p .frame

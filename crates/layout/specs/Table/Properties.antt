@@ -2,8 +2,7 @@
 -- Assumes nothing.
 use mathlib.Core.Path.{_≡_}
 use mathlib.Core.List.{List}
-use Prim.Native.Nat.{ℕ, suc, _+_, _*_, _≤_, _<_}
-use native.Mathlib.Nat.{mul-le-mul, mul-le-mul-right, suc-mul}
+use Prim.Native.Nat.{ℕ, _+_, _*_, _≤_, _<_}
 use native.Mathlib.Omega.{arith}
 use lib.ListN.{length, getD}
 use borrow.Author.Tests.{lt-ltb, le-ltb}
@@ -15,7 +14,9 @@ use Rattle.plan.specs.declared.answer.Refusal.{Refusal}
 use Rattle.plan.specs.declared.answer.Refusal.the-variants.{Bare}
 use Rattle.plan.specs.Order.{checked}
 use Rattle.plan.specs.Order.Properties.{check-opened}
+use Rattle.layout.specs.Cards.Properties.{card-cells}
 use Rattle.layout.specs.Layout.{cellAt, slotOf}
+use Rattle.layout.specs.Layout.Properties.{cells-most}
 use Rattle.layout.specs.Table.{tableLength, tableOver, tableAnswer, Tabled}
 
 -- ---- the ways out. a is what the record check answered
@@ -41,7 +42,7 @@ pub ruleset table-ways = (table-refused, table-short, table-good)
 -- what the check's good answer gives to the code after it
 
 pub opened-cells : (p : Plan) (a : Answer) → a ≡ Good → a ≡ checked p → p .cards * p .frame < 513
-opened-cells p a e q = let o = check-opened p a e q in omega (arith, mul-le-mul (o .counts .cards-most) (o .counts .frame-most))
+opened-cells p a e q = omega (arith, cells-most p (check-opened p a e q))
 
 pub opened-room : (p : Plan) (n : ℕ) → p .cards * p .frame ≤ n → tableLength p ≤ n
 unfolding tableLength
@@ -52,7 +53,7 @@ opened-room p n l = l
 -- a card's byte at a slice is the slot of its cell
 pub table-slot : (p : Plan) (bytes : List ℕ) (card slice : ℕ) → tableLength p ≤ length bytes → card < p .cards → slice < p .frame → getD (tableOver p bytes) (cellAt (p .frame) card slice) 0 ≡ slotOf p (cellAt (p .frame) card slice)
 unfolding tableOver tableLength cellAt
-table-slot p bytes card slice l a b = written-at (p .cards * p .frame) (slotOf p) bytes 0 (card * p .frame + slice) (omega (arith, suc-mul card (p .frame), mul-le-mul-right (p .frame) (let h : suc card ≤ p .cards = omega arith in h))) l
+table-slot p bytes card slice l a b = written-at (p .cards * p .frame) (slotOf p) bytes 0 (card * p .frame + slice) (omega (arith, card-cells (p .frame) card (p .cards) a)) l
 
 -- "bytes past those needed keep their value"
 pub table-kept : (p : Plan) (bytes : List ℕ) (x : ℕ) → tableLength p ≤ x → getD (tableOver p bytes) x 0 ≡ getD bytes x 0

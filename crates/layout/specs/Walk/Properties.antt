@@ -4,31 +4,22 @@ use mathlib.Core.Path.{_≡_, refl, sym, ap, _∙_}
 use mathlib.Core.List.{List}
 use Prim.Native.Nat.{ℕ, zero, suc, _+_, _-_, _*_, _≤_, _<_}
 use native.Mathlib.Decide.{decLt}
-use native.Mathlib.Nat.{mul-le-mul, mul-le-mul-right, suc-mul, add-mul, one-mul}
 use native.Mathlib.Numerals.{add-one}
 use native.Mathlib.Omega.{arith}
-use lib.ListN.{length, set, getD, replicate}
+use lib.ListN.{set, getD, replicate}
 use borrow.Author.Tests.{lt-ltb, le-ltb, ne-eqb}
 use Rattle.laws.specs.Written.{written}
 use Rattle.laws.specs.Written.Properties.{written-none, written-suc, written-again, written-stop, written-at}
 use Rattle.plan.specs.declared.Plan.{Plan}
 use Rattle.plan.specs.Order.{budgetOf}
 use Rattle.plan.specs.Order.Properties.{InOrder}
+use Rattle.layout.specs.Cards.Properties.{card-cells, card-next}
 use Rattle.layout.specs.Layout.{cellAt, firstCell, slotOf}
-use Rattle.layout.specs.Layout.Properties.{first-suc, first-next, first-start, last-most, owns-yes, owns-from, owns-to, slot-owner, slot-owned, slot-free, free-slot, slot-most}
+use Rattle.layout.specs.Layout.Properties.{first-suc, first-next, first-start, cells-most, last-most, owns-yes, owns-from, owns-to, slot-owner, slot-owned, slot-free, free-slot, slot-most}
 use Rattle.layout.specs.Table.{tableLength, tableOver}
 use Rattle.layout.specs.Walk.{firstCells, slotAfter, rowOf, rowsOf}
 
--- ---- bounds
-
--- "cards m 1..8; .. frame length F 1..64": a frame has at most 512 cells
-pub cells-most : (p : Plan) → InOrder p → p .cards * p .frame ≤ 512
-cells-most p o = mul-le-mul (o .counts .cards-most) (o .counts .frame-most)
-
 -- ---- first cells, one after the other
-
-pub first-cells-start : (p : Plan) → 0 ≡ firstCell p 0
-first-cells-start p = sym (first-start p)
 
 pub first-cells-more : (p : Plan) (j cell : ℕ) → cell ≡ firstCell p j → cell + budgetOf p j ≡ firstCell p (j + 1)
 first-cells-more p j cell e = rw e (sym (first-next p j))
@@ -80,14 +71,13 @@ unfolding cellAt
 row-next frame card s cell e = omega arith
 
 pub row-most : (p : Plan) (card : ℕ) → InOrder p → card < p .cards → card * p .frame + p .frame ≤ 512
-row-most p card o l = omega (arith, cells-most p o, suc-mul card (p .frame), mul-le-mul-right (p .frame) (let h : suc card ≤ p .cards = omega arith in h))
+row-most p card o l = omega (arith, cells-most p o, card-cells (p .frame) card (p .cards) l)
 
 pub row-slot : (p : Plan) (card s cell slot r : ℕ) (first : List ℕ) → InOrder p → first ≡ firstCells p → cell ≡ cellAt (p .frame) card s → slot ≡ slotOf p (cellAt (p .frame) card s - 1) → r ≡ slotAfter slot (getD first slot 0) (p .projects) cell → r ≡ slotOf p (cellAt (p .frame) card s)
 unfolding firstCells
 row-slot p card s cell slot r first o f at before e =
     let x = cellAt (p .frame) card s in
     let bound = slot-most p (x - 1) in
-    let long : length (replicate 9 (let z : ℕ = 0 in z)) ≡ 9 = refl in
     let end : getD first slot 0 ≡ firstCell p (slotOf p (x - 1)) = rw (f, before) (written-at (suc (p .projects)) (firstCell p) (replicate 9 0) 0 (slotOf p (x - 1)) (omega arith) (omega (arith, o .counts .projects-most))) in
     e ∙ rw (end, before, at) (walk-step p o x)
 
@@ -130,7 +120,7 @@ unfolding cellAt
 rows-back p c row o e =
     let some = o .counts .some-slice in
     let last : getD row (p .frame - 1) 0 ≡ slotOf p (cellAt (p .frame) c (p .frame - 1)) = rw e (row-at p c (p .frame - 1) o (omega arith)) in
-    last ∙ ap (slotOf p) (omega (arith, add-mul c 1 (p .frame), one-mul (p .frame)))
+    last ∙ ap (slotOf p) (omega (arith, card-next (p .frame) c))
 
 pub rows-slot : (p : Plan) (c s at : ℕ) (rows : List (List ℕ)) (d : List ℕ) → InOrder p → rows ≡ rowsOf p (p .cards) → c < p .cards → s < p .frame → at ≡ cellAt (p .frame) c s → getD (getD rows c d) s 0 ≡ slotOf p at
 unfolding rowsOf
@@ -144,13 +134,12 @@ unfolding cellAt
 bytes-start frame = omega arith
 
 pub bytes-over : (frame c s at : ℕ) → at ≡ cellAt frame c s → s ≤ frame → frame ≤ s → at ≡ cellAt frame (c + 1) 0
-unfolding cellAt
-bytes-over frame c s at e a b = omega (arith, add-mul c 1 frame, one-mul frame)
+bytes-over frame c s at e a b = let h : s ≡ frame = omega arith in rw h at e ∙ card-next frame c
 
 -- there is room for the rest of the card
 pub bytes-room : (p : Plan) (c s at n k : ℕ) → at ≡ cellAt (p .frame) c s → s ≤ p .frame → c < p .cards → k ≡ n → tableLength p ≤ n → at + (p .frame - s) ≤ k
 unfolding cellAt tableLength
-bytes-room p c s at n k e b a f q = omega (arith, suc-mul c (p .frame), mul-le-mul-right (p .frame) (let h : suc c ≤ p .cards = omega arith in h))
+bytes-room p c s at n k e b a f q = omega (arith, card-cells (p .frame) c (p .cards) a)
 
 pub bytes-done : (p : Plan) (c at : ℕ) (entry exit : List ℕ) → at ≡ cellAt (p .frame) c 0 → c ≤ p .cards → p .cards ≤ c → exit ≡ written at (slotOf p) entry → exit ≡ tableOver p entry
 unfolding cellAt tableLength tableOver

@@ -1,12 +1,13 @@
-use mathlib.Core.Path.{_≡_, refl}
+use mathlib.Core.Path.{_≡_, refl, sym}
 use Prim.Native.Nat.{_≤_, _-_}
 use native.Mathlib.Omega.{arith}
 use lib.ListN.{replicate}
 use borrow.Author.Needs.{needs}
 use Rattle.laws.specs.Written.{written}
 use Rattle.laws.specs.Written.Properties.{written-none, written-again}
-use Rattle.layout.specs.Walk.Properties.{first-cells-end, first-cells-start, first-cells-more, first-cells-most}
+use Rattle.layout.specs.Walk.Properties.{first-cells-end, first-cells-more, first-cells-most}
 use Rattle.layout.specs.Layout.{firstCell}
+use Rattle.layout.specs.Layout.Properties.{first-start}
 use Rattle.layout.proofs.table.first_cells.Statement.{statement}
 use Rattle.layout.proofs.table.first_cells.Tie as tie
 use Rattle.layout.proofs.table.first_cells.Reads as reads
@@ -20,7 +21,7 @@ abbrev μ-loop : tie.MeasureT-loop
 
 -- src/table.rt:42:5
 loop-holds : tie.Need-loop-holds Inv-loop μ-loop
-loop-holds c = (omega arith, refl, written-none _ _, search first-cells-start)
+loop-holds c = (omega arith, refl, written-none _ _, sym (first-start _))
 
 -- src/table.rt:43:15
 cast-first : tie.Need-cast-first Inv-loop μ-loop

@@ -2,7 +2,8 @@
 -- Assumes nothing.
 use Prim.Native.Nat.{ℕ, zero, suc, _+_, _*_}
 use mathlib.Core.List.{List, [], _∷_, _++_}
-use lib.ListN.{getD, drop, replicate}
+use mathlib.Core.Path.{_≡_}
+use lib.ListN.{length, getD, drop, replicate}
 use Rattle.laws.specs.Written.{written}
 use Rattle.plan.specs.declared.Project.{Project}
 use Rattle.plan.specs.declared.Kind.{Kind}
@@ -32,6 +33,11 @@ kindWidths = 3 ∷ 12 ∷ 12 ∷ 12 ∷ 1 ∷ []
 -- "A plan takes 3 + 2p + 5n bytes"
 unfoldable pub size : Plan → ℕ
 size p = 3 + 2 * p .projects + 5 * p .kinds
+
+-- the arrays of a plan as the language's type has them
+pub record Shaped (p : Plan) : Type 0 where
+  pub eight : length (p .project) ≡ 8
+  pub sixteen : length (p .kind) ≡ 16
 
 -- ---- the parts as bytes; "the spare bits, which are zero"
 

@@ -5,6 +5,7 @@ pub mod State
 pub mod Form
 pub mod Rank
 pub mod Row
+pub mod Seat
 pub mod Release
 pub mod Slice
 pub mod Run

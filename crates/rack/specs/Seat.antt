@@ -1,7 +1,7 @@
 -- How a slice finds its row: for each kind the card that it takes, plus 1, or 0 where it is not served. Row.antt says what the row is.
 -- Assumes nothing.
 use Prim.Native.Nat.{ℕ, zero, suc, _+_, _-_, _%_}
-use mathlib.Core.Bool.{Bool, cond}
+use mathlib.Core.Bool.{Bool, cond, _&&_}
 use mathlib.Core.List.{List}
 use lib.Dec.{ltb, eqb}
 use lib.ListN.{getD, set, replicate}
@@ -43,6 +43,10 @@ at l k = getD l k 0
 -- how many kinds of the same project outrank kind i
 unfoldable pub rankBy : List ℕ → List ℕ → ℕ → ℕ → ℕ
 rankBy works due n i = rankIn n (λ k. eqb (at works k) (at works i)) (sooner (at due)) i
+
+-- whether kind k is one of them
+unfoldable pub aheadBy : List ℕ → List ℕ → ℕ → ℕ → Bool
+aheadBy works due i k = eqb (at works k) (at works i) && sooner (at due) k i
 
 -- a card below the end of a project's, plus 1, or 0
 unfoldable pub seatAt : ℕ → ℕ → ℕ

@@ -1,6 +1,7 @@
 -- The dispatcher: document 01, "Running", and the refusals 9 to 15.
 -- Assumes nothing.
 pub mod Picks
+pub mod Stores
 pub mod State
 pub mod Form
 pub mod Rank

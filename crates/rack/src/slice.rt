@@ -76,3 +76,31 @@ fn seat(works: &[u8; 16], due: &[u32; 16], low: &[u8; 9], kinds: usize, i: usize
     }
     seat_at(low[number - 1] + rank(works, due, kinds, i), low[number])
 }
+
+// Where every kind sits.
+fn seats(works: &[u8; 16], due: &[u32; 16], low: &[u8; 9], kinds: usize) -> [u8; 16]
+    requires { ⌜ (kinds ≤ 16) × ((i : ℕ) → at (now works) i ≤ 8) × ((j : ℕ) → at (now low) j ≤ 8) ⌝ }
+    ensures { λ r. ⌜ r ≡ written kinds (seatBy (now (works .entry)) (now (due .entry)) (now (low .entry)) kinds) (replicate 16 0) ⌝ }
+{
+    let mut seats = [0u8; 16];
+    for i in 0..kinds {
+        seats[i] = seat(works, due, low, kinds, i);
+    }
+    seats
+}
+
+// For each project the card from which its own go on in this slice, and past the last project the
+// card after them: one walk over the projects.
+fn lowest_cards(plan: Plan, clock: u32) -> [u8; 9]
+    requires { ⌜ InOrder plan ⌝ }
+    ensures { λ r. ⌜ r ≡ written (plan .projects + 1) (lowest plan clock) (replicate 9 0) ⌝ }
+{
+    let slice = (clock % plan.frame as u32) as u8;
+    let mut low = [0u8; 9];
+    let mut cell: u16 = 0;
+    for j in 0..plan.projects as usize {
+        cell += plan.project[j].budget;
+        low[j + 1] = cards_below(cell, plan.frame, slice) as u8;
+    }
+    low
+}

@@ -3,6 +3,7 @@
 use Prim.Native.Nat.{ℕ, _+_, _-_}
 use mathlib.Core.Bool.{Bool, not, _&&_}
 use lib.Dec.{eqb}
+use Rattle.laws.specs.Count.{countTo}
 use Rattle.laws.specs.Ranking.{rankIn, firstIn, sooner}
 use Rattle.layout.specs.Layout.{held}
 use Rattle.rack.specs.declared.State.{State}
@@ -28,6 +29,10 @@ working s i = not (eqb (unitOf s i .left) 0)
 -- "In each project, the kinds with slices left": kind i is one of those of project j
 unfoldable pub active : State → ℕ → ℕ → Bool
 active s j i = eqb (kindAt s i .project) j && working s i
+
+-- how many kinds of project j have slices left
+unfoldable pub activeKinds : State → ℕ → ℕ
+activeKinds s j = countTo (s .plan .kinds) (active s j)
 
 -- "ranked by release clock plus D, then by lower kind number": kind k goes before kind i
 unfoldable pub outranks : State → ℕ → ℕ → Bool

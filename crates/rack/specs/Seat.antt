@@ -37,6 +37,11 @@ seatsOf s = written (s .plan .kinds) (seatOf s) (replicate 16 0)
 unfoldable pub worksFor : Unit → Kind → ℕ
 worksFor v k = cond (eqb (v .left) 0) 0 (k .project + 1)
 
+-- kind i's
+abbrev pub worksOf : State → ℕ → ℕ
+worksOf s i = worksFor (unitOf s i) (kindAt s i)
+
+-- what stands in an array at place k
 abbrev pub at : List ℕ → ℕ → ℕ
 at l k = getD l k 0
 

@@ -104,3 +104,43 @@ fn lowest_cards(plan: Plan, clock: u32) -> [u8; 9]
     }
     low
 }
+
+impl Unit {
+    // For a kind with slices left its project plus 1; else 0.
+    fn works_for(self, kind: Kind) -> u8
+        requires { ⌜ kind .project < 8 ⌝ }
+        ensures { λ r. ⌜ r ≡ worksFor self kind ⌝ }
+    {
+        if self.left == 0 {
+            return 0;
+        }
+        kind.project + 1
+    }
+
+    // Release clock plus D.
+    fn due(self, kind: Kind) -> u32
+        requires { ⌜ self .at ≤ 1000000000 ⌝ }
+        ensures { λ r. ⌜ r ≡ self .at + kind .deadline ⌝ }
+    {
+        self.at + kind.deadline as u32
+    }
+}
+
+impl State {
+    // Where every kind sits in this slice.
+    fn seats(self) -> [u8; 16]
+        requires { ⌜ Ready self ⌝ }
+        ensures { λ r. ⌜ r ≡ seatsOf self ⌝ }
+    {
+        let plan = self.plan;
+        let kinds = plan.kinds as usize;
+        let mut works = [0u8; 16];
+        let mut due = [0u32; 16];
+        for i in 0..kinds {
+            works[i] = self.unit[i].works_for(plan.kind[i]);
+            due[i] = self.unit[i].due(plan.kind[i]);
+        }
+        let low = lowest_cards(plan, self.clock);
+        seats(&works, &due, &low, kinds)
+    }
+}

@@ -30,7 +30,8 @@ use Rattle.rack.specs.Form.Properties.{Ready}
 use Rattle.rack.specs.Rank.{due, working, active, outranks, rank, served}
 use Rattle.rack.specs.Rank.Properties.{working-left, idle-left, active-is, active-idle, served-of, served-rank, idle-unserved, unserved-rank}
 use Rattle.rack.specs.Picks.{second-no}
-use Rattle.rack.specs.Seat.{at, worksFor, rankBy, aheadBy, seatAt, seatBy, lowest, seatOf}
+use Rattle.rack.specs.Stores.{written-cong, stored-at, stored-most}
+use Rattle.rack.specs.Seat.{at, worksFor, worksOf, seatsOf, rankBy, aheadBy, seatAt, seatBy, lowest, seatOf}
 
 -- ---- a rank counted: r is whether kind k, due then, goes before kind i
 
@@ -153,7 +154,7 @@ module _ (s : State) (r : Ready s) where
       omega (arith, held-closed (s .plan) (r .order) j l (s .clock), below-grows (s .plan .frame) (s .clock % s .plan .frame) (mod-lt (s .clock) (r .order .counts .some-slice)) (firstCell (s .plan) j) (firstCell (s .plan) (j + 1)) (omega (arith, first-next (s .plan) j)))
 
   -- the arrays hold what the state says
-  module _ (works dues lows : List ℕ) (ew : (k : ℕ) → k < kinds → at works k ≡ worksFor (unitOf s k) (kindAt s k)) (ed : (k : ℕ) → k < kinds → at dues k ≡ due s k) (el : (j : ℕ) → j ≤ s .plan .projects → at lows j ≡ low j) where
+  module _ (works dues lows : List ℕ) (ew : (k : ℕ) → k < kinds → at works k ≡ worksOf s k) (ed : (k : ℕ) → k < kinds → at dues k ≡ due s k) (el : (j : ℕ) → j ≤ s .plan .projects → at lows j ≡ low j) where
     works-working : (k : ℕ) → k < kinds → working s k ≡ true → at works k ≡ project k + 1
     works-working k l w = ew k l ∙ works-something (unitOf s k) (kindAt s k) (λ e. omega (arith, working-left s k w))
 
@@ -183,3 +184,27 @@ module _ (s : State) (r : Ready s) where
             rw (works-working i l w, ne-eqb (project i + 1) 0 (λ z. omega arith), ranks-agree i l w, less-one (project i), el (project i) (omega arith), el (project i + 1) (omega arith))
             (seat-is s i (low (project i + 1)) w (low-held (project i) p))
         go false w = rw (works-idle i l w) (sym (seat-unserved s i (idle-unserved s i w)))
+
+  -- ---- the arrays as the code fills them
+
+  pub project-small : (i : ℕ) → i < kinds → project i < 8
+  project-small i l = omega (arith, its-project i l, r .order .counts .projects-most)
+
+  pub clock-small : (i : ℕ) → i < kinds → unitOf s i .at ≤ 1000000000
+  clock-small i l = omega (arith, r .form .unit-at i (omega (arith, r .order .counts .kinds-most)) l .release-clock, r .form .clock-most)
+
+  pub works-most : (works : List ℕ) (n : ℕ) → works ≡ written n (worksOf s) (replicate 16 0) → n ≤ kinds → (k : ℕ) → at works k ≤ 8
+  works-most works n e l k =
+      rw e (stored-most n 16 8 (worksOf s) (λ i p. go i (omega arith) (working s i) refl) (omega (arith, r .order .counts .kinds-most)) k)
+    where
+      go : (i : ℕ) → i < kinds → (b : Bool) → working s i ≡ b → worksOf s i ≤ 8
+      go i m true w = omega (arith, works-something (unitOf s i) (kindAt s i) (λ z. omega (arith, working-left s i w)), project-small i m)
+      go i m false w = omega (arith, works-nothing (unitOf s i) (kindAt s i) (idle-left s i w))
+
+  pub lows-most : (lows : List ℕ) → lows ≡ written (s .plan .projects + 1) low (replicate 9 0) → (j : ℕ) → at lows j ≤ 8
+  lows-most lows e j = rw e (stored-most (s .plan .projects + 1) 9 8 low (λ i p. lowest-most (s .plan) (r .order) (s .clock) i (omega arith)) (omega (arith, r .order .counts .projects-most)) j)
+
+  pub seats-found : (works dues lows seats : List ℕ) (n : ℕ) → n ≤ kinds → kinds ≤ n → works ≡ written n (worksOf s) (replicate 16 0) → dues ≡ written n (due s) (replicate 16 0) → lows ≡ written (s .plan .projects + 1) low (replicate 9 0) → seats ≡ written kinds (seatBy works dues lows kinds) (replicate 16 0) → seats ≡ seatsOf s
+  unfolding seatsOf
+  seats-found works dues lows seats n a b ew ed el es =
+      es ∙ written-cong kinds (seatBy works dues lows kinds) (seatOf s) (replicate 16 0) (seat-found works dues lows (λ k l. ap (λ (m : List ℕ). at m k) ew ∙ stored-at n 16 (worksOf s) k (omega arith) (omega (arith, r .order .counts .kinds-most))) (λ k l. ap (λ (m : List ℕ). at m k) ed ∙ stored-at n 16 (due s) k (omega arith) (omega (arith, r .order .counts .kinds-most))) (λ j l. ap (λ (m : List ℕ). at m j) el ∙ stored-at (s .plan .projects + 1) 9 low j (omega arith) (omega (arith, r .order .counts .projects-most))))

@@ -2,6 +2,7 @@
 -- Assumes nothing.
 pub mod Picks
 pub mod Stores
+pub mod Firsts
 pub mod State
 pub mod Form
 pub mod Rank

@@ -62,6 +62,10 @@ seatBy works due low n i = cond (eqb (at works i) 0) 0 (seatAt (at low (at works
 
 -- ---- the row from the seats
 
+-- every card idle
+abbrev pub idle : ℕ → ℕ
+idle card = 0
+
 -- the bytes with each kind's number plus 1 stored at its card, for the kinds below n
 unfoldable pub seated : (ℕ → ℕ) → ℕ → List ℕ → List ℕ
 seated seat zero bytes = bytes

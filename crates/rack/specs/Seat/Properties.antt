@@ -18,7 +18,7 @@ use Rattle.laws.specs.First.Properties.{first-none}
 use Rattle.laws.specs.Ranking.{rankIn, sooner}
 use Rattle.laws.specs.Ranking.Properties.{rank-cong}
 use Rattle.laws.specs.Written.{written}
-use Rattle.laws.specs.Written.Properties.{written-none, written-suc}
+use Rattle.laws.specs.Written.Properties.{written-none, written-suc, written-again}
 use Rattle.plan.specs.declared.Plan.{Plan}
 use Rattle.plan.specs.Order.{budgetOf}
 use Rattle.plan.specs.Order.Properties.{InOrder}
@@ -210,6 +210,10 @@ module _ (s : State) (r : Ready s) where
   seats-found works dues lows seats n a b ew ed el es =
       es ∙ written-cong kinds (seatBy works dues lows kinds) (seatOf s) (replicate 16 0) (seat-found works dues lows (λ k l. ap (λ (m : List ℕ). at m k) ew ∙ stored-at n 16 (worksOf s) k (omega arith) (omega (arith, r .order .counts .kinds-most))) (λ k l. ap (λ (m : List ℕ). at m k) ed ∙ stored-at n 16 (due s) k (omega arith) (omega (arith, r .order .counts .kinds-most))) (λ j l. ap (λ (m : List ℕ). at m j) el ∙ stored-at (s .plan .projects + 1) 9 low j (omega arith) (omega (arith, r .order .counts .projects-most))))
 
+  pub seats-at : (i : ℕ) → i < kinds → at (seatsOf s) i ≡ seatOf s i
+  unfolding seatsOf
+  seats-at i l = stored-at kinds 16 (seatOf s) i l (r .order .counts .kinds-most)
+
   -- ---- the row from the seats
 
   -- a kind takes a card exactly when its seat is that card's number plus 1
@@ -284,3 +288,35 @@ module _ (s : State) (r : Ready s) where
         same : (card number : ℕ) → 0 < number → number ≤ kinds → eqb (seat (pred number)) (card + 1) ≡ takes s (pred number) card
         same card zero p q = absurd (omega arith)
         same card (suc i) p q = ap (λ (x : ℕ). eqb x (card + 1)) (es i q) ∙ sym (takes-seat i card q)
+
+-- ---- the steps of the loops that clear the cards and seat the kinds
+
+pub cleared-again : (i : ℕ) (bytes m : List ℕ) → m ≡ written i idle bytes → set m i 0 ≡ written (i + 1) idle bytes
+cleared-again i bytes m e = written-again i idle bytes m 0 e refl
+
+module _ (seat : List ℕ) (i : ℕ) (bytes m : List ℕ) where
+  pub seated-none : bytes ≡ seated (at seat) 0 bytes
+  unfolding seated
+  seated-none = refl
+
+  pub seated-idle : m ≡ seated (at seat) i bytes → at seat i ≡ 0 → m ≡ seated (at seat) (i + 1) bytes
+  unfolding seated
+  seated-idle e z = rw (add-one i, eq-eqb (at seat i) 0 z) e
+
+  pub seated-more : m ≡ seated (at seat) i bytes → (at seat i ≡ 0 → ⊥) → set m (at seat i - 1) (i + 1) ≡ seated (at seat) (i + 1) bytes
+  unfolding seated
+  seated-more e z =
+      ap (λ (l : List ℕ). set l (at seat i - 1) (i + 1)) e ∙ sym (ap (λ (k : ℕ). seated (at seat) k bytes) (add-one i) ∙ rw (ne-eqb (at seat i) 0 z))
+
+  pub seated-stop : (n : ℕ) → m ≡ seated (at seat) i bytes → i ≤ n → n ≤ i → m ≡ seated (at seat) n bytes
+  seated-stop n e a b = let q : i ≡ n = omega arith in e ∙ ap (λ (k : ℕ). seated (at seat) k bytes) q
+
+-- every seat is one of the cards, of which there are no more than n
+pub seats-room : (s : State) → Ready s → (seats : List ℕ) (n : ℕ) → seats ≡ seatsOf s → s .plan .cards ≤ n → (k : ℕ) → at seats k ≤ n
+unfolding seatsOf
+seats-room s r seats n e l k = rw e (stored-most (s .plan .kinds) 16 n (seatOf s) (λ i q. omega (arith, seat-most s r i q)) (r .order .counts .kinds-most) k)
+
+-- clearing the cards and seating the kinds writes the row
+pub row-written : (s : State) → Ready s → (seats bytes cleared after : List ℕ) → s .plan .cards ≤ length bytes → seats ≡ seatsOf s → cleared ≡ written (s .plan .cards) idle bytes → after ≡ seated (at seats) (s .plan .kinds) cleared → after ≡ rowOver s bytes
+row-written s r seats bytes cleared after room es ec ea =
+    ea ∙ ap (λ (l : List ℕ). seated (at seats) (s .plan .kinds) l) ec ∙ row-seated s r (at seats) (λ k l. ap (λ (m : List ℕ). at m k) es ∙ seats-at s r k l) bytes room

@@ -2,3 +2,4 @@
 -- Assumes nothing.
 pub mod Supply
 pub mod Workload
+pub mod Fit

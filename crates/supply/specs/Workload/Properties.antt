@@ -23,3 +23,13 @@ part-covers T C z y some l =
   where
     same : (z - y) / T ≡ z / T → min C y + (z - y) / T * C ≤ z / T * C + min C (z % T)
     same e = rw e (omega (arith, rw e at (div-mul-le-self (z - y) T), div-add-mod' z T))
+
+-- ---- the code's two ways to it
+
+pub part-without : (T C z r : ℕ) → T ≡ 0 → r ≡ min C z → r ≡ workloadPart T C z
+unfolding workloadPart
+part-without T C z r e q = rw (e, div-zero z, mod-zero z, zero-mul C) (omega arith)
+
+pub part-of : (T C z w m : ℕ) → w ≡ z / T * C → m ≡ min C (z % T) → w + m ≡ workloadPart T C z
+unfolding workloadPart
+part-of T C z w m p q = rw (p, q)

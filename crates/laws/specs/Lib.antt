@@ -7,3 +7,5 @@ pub mod First
 pub mod Count
 pub mod All
 pub mod Written
+pub mod Where
+pub mod Ranking

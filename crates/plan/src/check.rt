@@ -137,7 +137,8 @@ impl Plan {
         true
     }
 
-    fn sizes(self) -> Answer
+    // Whether the counts and the frame are in range. Reading asks this before it looks at a place.
+    pub fn sizes(self) -> Answer
         ensures { λ r. ⌜ r ≡ sizes self ⌝ }
     {
         if !self.sized() {

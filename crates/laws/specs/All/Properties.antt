@@ -22,6 +22,14 @@ all-more i f e t = rw (add-one i, ← e, t)
 pub all-stop : (i n : ℕ) (f : ℕ → Bool) → true ≡ allTo i f → i ≤ n → n ≤ i → true ≡ allTo n f
 all-stop i n f p a b = let e : i ≡ n = omega arith in p ∙ ap (λ (k : ℕ). allTo k f) e
 
+-- the whole answer so far, carried along
+pub all-again : (b r : Bool) (i : ℕ) (f : ℕ → Bool) → b ≡ allTo i f → r ≡ (b && f i) → r ≡ allTo (i + 1) f
+unfolding allTo
+all-again b r i f p q = rw (add-one i) (q ∙ rw p)
+
+pub all-end : (b : Bool) (i n : ℕ) (f : ℕ → Bool) → b ≡ allTo i f → i ≤ n → n ≤ i → b ≡ allTo n f
+all-end b i n f p x y = let e : i ≡ n = omega arith in p ∙ ap (λ (k : ℕ). allTo k f) e
+
 -- one that fails settles it
 pub all-fails : (n i : ℕ) (f : ℕ → Bool) → f i ≡ false → i < n → false ≡ allTo n f
 unfolding allTo

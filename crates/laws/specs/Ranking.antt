@@ -1,0 +1,19 @@
+-- Ranks without sorting.
+-- Assumes nothing.
+use Prim.Native.Nat.{ℕ}
+use mathlib.Core.Bool.{Bool, _&&_, _||_}
+use lib.Dec.{ltb, eqb}
+use Rattle.laws.specs.Count.{countTo}
+pub mod Properties
+
+-- of the members below n, how many are above i
+unfoldable pub rankIn : ℕ → (ℕ → Bool) → (ℕ → ℕ → Bool) → ℕ → ℕ
+rankIn n member above i = countTo n (λ j. member j && above j i)
+
+-- whether i is one of the first h of them
+unfoldable pub firstIn : ℕ → (ℕ → Bool) → (ℕ → ℕ → Bool) → ℕ → ℕ → Bool
+firstIn n member above h i = member i && ltb (rankIn n member above i) h
+
+-- j is above i by a lower d, or by the same d and a lower number
+unfoldable pub sooner : (ℕ → ℕ) → ℕ → ℕ → Bool
+sooner d j i = ltb (d j) (d i) || (eqb (d j) (d i) && ltb j i)

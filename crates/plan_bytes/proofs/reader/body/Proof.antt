@@ -1,0 +1,79 @@
+use borrow.Author.Needs.{needs}
+use Rattle.plan_bytes.proofs.reader.body.Statement.{statement}
+use Rattle.plan_bytes.proofs.reader.body.Tie as tie
+use Rattle.plan_bytes.proofs.reader.body.Reads as reads
+use Rattle.plan_bytes.proofs.reader.body.Lts as lts
+use Rattle.plan.proofs.Plan.check.Reads as check-reads
+use Rattle.plan_bytes.proofs.reader.both.Reads as both-reads
+use Rattle.plan_bytes.proofs.reader.places.Reads as places-reads
+use Rattle.plan_bytes.proofs.reader.refused.Reads as refused-reads
+use Rattle.plan_bytes.proofs.reader.size.Reads as size-reads
+
+-- src/reader.rt:129:9
+size-requires : tie.Need-size-requires
+size-requires c κs = search needs
+
+-- src/reader.rt:131:9
+refused-requires : tie.Need-refused-requires
+refused-requires c κs = search needs
+
+-- src/reader.rt:131:9
+returns : tie.Need-returns
+returns c = ?
+
+-- src/reader.rt:133:9
+places-requires : tie.Need-places-requires
+places-requires c κs = ?
+
+-- src/reader.rt:134:9
+both-requires : tie.Need-both-requires
+both-requires c κs = search needs
+
+-- src/reader.rt:135:9
+refused-requires-2 : tie.Need-refused-requires-2
+refused-requires-2 c κs = search needs
+
+-- src/reader.rt:135:9
+returns-2 : tie.Need-returns-2
+returns-2 c = ?
+
+-- src/reader.rt:138:9
+check-requires : tie.Need-check-requires
+check-requires c κs = search needs
+
+enum-told : tie.Need-enum-told
+enum-told c = search needs
+
+-- src/reader.rt:140:9
+enum-told-2 : tie.Need-enum-told-2
+enum-told-2 c = search needs
+
+-- src/reader.rt:140:9
+refused-requires-3 : tie.Need-refused-requires-3
+refused-requires-3 c κs = search needs
+
+-- src/reader.rt:140:9
+returns-3 : tie.Need-returns-3
+returns-3 c = ?
+
+-- src/reader.rt:125:1
+returns-4 : tie.Need-returns-4
+returns-4 c = ?
+
+pub body-spec : {M : Type 1} → statement M
+body-spec =
+    tie.close
+    (tie.spec
+    size-requires
+    refused-requires
+    returns
+    places-requires
+    both-requires
+    refused-requires-2
+    returns-2
+    check-requires
+    enum-told
+    enum-told-2
+    refused-requires-3
+    returns-3
+    returns-4)

@@ -1,0 +1,7 @@
+-- Plan bytes: document 01, "Plan bytes".
+-- Assumes nothing.
+pub mod Pack
+pub mod Bytes
+pub mod Parts
+pub mod Reading
+pub mod Writing

@@ -1,0 +1,102 @@
+-- Laws of the layout: each part's fields as the code takes them off a number n, and each part's bytes as the code stores them.
+-- Assumes nothing.
+use mathlib.Core.Path.{_≡_, refl, sym, ap, ap₂, _∙_}
+use mathlib.Core.List.{List, [], _∷_, _++_}
+use Prim.Native.Nat.{ℕ, _+_, _*_, _-_, _/_, _%_, _≤_, _<_}
+use native.Mathlib.Nat.{div-one}
+use native.Mathlib.Numerals.{add-one, add-two, add-three, add-four}
+use native.Mathlib.Omega.{arith}
+use lib.ListN.{length, take, drop, set, getD, length-drop, replicate}
+use lib.Seq.{sets, take-all}
+use Rattle.laws.specs.Written.Properties.{written-none, written-again, written-stop}
+use Rattle.plan.specs.Record.{noProject, noKind}
+use Rattle.plan.specs.declared.Project.{Project}
+use Rattle.plan.specs.declared.Kind.{Kind}
+use Rattle.plan.specs.declared.Plan.{Plan}
+use Rattle.plan.specs.Record.{noPlan}
+use Rattle.plan_bytes.specs.Pack.{bits, pack, unpack}
+use Rattle.plan_bytes.specs.Bytes.{numberTo, bytesOf}
+use Rattle.plan_bytes.specs.Parts.{headerBytes, projectBytes, kindBytes, headerFields, projectFields, kindFields, projectFrom, kindFrom, projectAt, kindAt, projectsFrom, kindsFrom, headed}
+
+-- ---- a part that is handed on
+
+-- what `&s[a..]` hands on is what starts at a
+pub handed-on : (s : List ℕ) (a : ℕ) → take (length s - a) (drop a s) ≡ drop a s
+handed-on s a = take-all (length s - a) (drop a s) (omega (arith, length-drop a s))
+
+-- ---- fields off a number
+
+pub project-fields : (s : List ℕ) (n : ℕ) → n ≡ numberTo 2 s → (n / 4096 % 16) ∷ (n / 4 % 1024) ∷ (n % 4) ∷ [] ≡ projectFields s
+unfolding projectFields unpack bits
+project-fields s n e = rw (← e, div-one n)
+
+pub kind-fields : (s : List ℕ) (n : ℕ) → n ≡ numberTo 5 s → (n / 137438953472 % 8) ∷ (n / 33554432 % 4096) ∷ (n / 8192 % 4096) ∷ (n / 2 % 4096) ∷ (n % 2) ∷ [] ≡ kindFields s
+unfolding kindFields unpack bits
+kind-fields s n e = rw (← e, div-one n)
+
+pub header-fields : (s : List ℕ) (n : ℕ) → n ≡ numberTo 3 s → (n / 1048576 % 16) ∷ (n / 65536 % 16) ∷ (n / 2048 % 32) ∷ (n / 16 % 128) ∷ (n % 16) ∷ [] ≡ headerFields s
+unfolding headerFields unpack bits
+header-fields s n e = rw (← e, div-one n)
+
+-- ---- the steps of the loops that read the projects and the unit kinds
+
+pub projects-none : (s : List ℕ) → replicate 8 noProject ≡ projectsFrom 0 s
+unfolding projectsFrom
+projects-none s = written-none (λ j. projectFrom (projectAt s j)) (replicate 8 noProject)
+
+pub projects-again : (i : ℕ) (s : List ℕ) (l : List Project) (v : Project) → l ≡ projectsFrom i s → v ≡ projectFrom (take (length s - 2 * i) (drop (2 * i) s))
+    → set l i v ≡ projectsFrom (i + 1) s
+unfolding projectsFrom
+projects-again i s l v p q =
+    written-again i (λ j. projectFrom (projectAt s j)) (replicate 8 noProject) l v p (q ∙ ap projectFrom (handed-on s (2 * i)))
+
+pub projects-stop : (i n : ℕ) (s : List ℕ) (l : List Project) → l ≡ projectsFrom i s → i ≤ n → n ≤ i → l ≡ projectsFrom n s
+unfolding projectsFrom
+projects-stop i n s l p a b = written-stop i n (λ j. projectFrom (projectAt s j)) (replicate 8 noProject) l p a b
+
+pub kinds-none : (s : List ℕ) → replicate 16 noKind ≡ kindsFrom 0 s
+unfolding kindsFrom
+kinds-none s = written-none (λ i. kindFrom (kindAt s i)) (replicate 16 noKind)
+
+pub kinds-again : (i : ℕ) (s : List ℕ) (l : List Kind) (v : Kind) → l ≡ kindsFrom i s → v ≡ kindFrom (take (length s - 5 * i) (drop (5 * i) s))
+    → set l i v ≡ kindsFrom (i + 1) s
+unfolding kindsFrom
+kinds-again i s l v p q =
+    written-again i (λ k. kindFrom (kindAt s k)) (replicate 16 noKind) l v p (q ∙ ap kindFrom (handed-on s (5 * i)))
+
+pub kinds-stop : (i n : ℕ) (s : List ℕ) (l : List Kind) → l ≡ kindsFrom i s → i ≤ n → n ≤ i → l ≡ kindsFrom n s
+unfolding kindsFrom
+kinds-stop i n s l p a b = written-stop i n (λ k. kindFrom (kindAt s k)) (replicate 16 noKind) l p a b
+
+-- ---- stores
+
+pub put-project : (v : Project) (q b at : ℕ) (l : List ℕ) → q ≡ v .ceiling → b ≡ v .budget
+    → set (set l at ((q * 4096 + b * 4) / 256 % 256)) (at + 1) ((q * 4096 + b * 4) % 256) ≡ sets l at (projectBytes v)
+unfolding projectBytes bytesOf pack bits
+put-project v q b at l e f =
+    let n : q * 4096 + b * 4 ≡ v .ceiling * 4096 + (v .budget * 4 + (0 * 1 + 0)) = omega arith in
+    rw (add-one at, n)
+
+pub put-kind : (v : Kind) (j t d c at : ℕ) (l : List ℕ) → j ≡ v .project → t ≡ v .separation → d ≡ v .deadline → c ≡ v .length
+    → set (set (set (set (set l at ((j * 137438953472 + t * 33554432 + d * 8192 + c * 2) / 4294967296 % 256)) (at + 1) ((j * 137438953472 + t * 33554432 + d * 8192 + c * 2) / 16777216 % 256)) (at + 2) ((j * 137438953472 + t * 33554432 + d * 8192 + c * 2) / 65536 % 256)) (at + 3) ((j * 137438953472 + t * 33554432 + d * 8192 + c * 2) / 256 % 256)) (at + 4) ((j * 137438953472 + t * 33554432 + d * 8192 + c * 2) % 256)
+    ≡ sets l at (kindBytes v)
+unfolding kindBytes bytesOf pack bits
+put-kind v j t d c at l e f g h = go (j * 137438953472 + t * 33554432 + d * 8192 + c * 2) (omega arith)
+  where
+    go : (n : ℕ) → n ≡ v .project * 137438953472 + (v .separation * 33554432 + (v .deadline * 8192 + (v .length * 2 + (0 * 1 + 0))))
+        → set (set (set (set (set l at (n / 4294967296 % 256)) (at + 1) (n / 16777216 % 256)) (at + 2) (n / 65536 % 256)) (at + 3) (n / 256 % 256)) (at + 4) (n % 256) ≡ sets l at (kindBytes v)
+    go n q =
+        let a : n / 4294967296 ≡ n / 256 / 256 / 256 / 256 = omega arith in
+        let b : n / 16777216 ≡ n / 256 / 256 / 256 = omega arith in
+        let z : n / 65536 ≡ n / 256 / 256 = omega arith in
+        rw (add-one at, add-two at, add-three at, add-four at, a, b, z, ← q)
+
+pub put-header : (p : Plan) (m k n f : ℕ) (l : List ℕ) → m ≡ p .cards → k ≡ p .projects → n ≡ p .kinds → f ≡ p .frame
+    → set (set (set l 0 ((m * 1048576 + k * 65536 + n * 2048 + f * 16) / 65536 % 256)) 1 ((m * 1048576 + k * 65536 + n * 2048 + f * 16) / 256 % 256)) 2 ((m * 1048576 + k * 65536 + n * 2048 + f * 16) % 256)
+    ≡ sets l 0 (headerBytes p)
+unfolding headerBytes bytesOf pack bits
+put-header p m k n f l e g h i = go (m * 1048576 + k * 65536 + n * 2048 + f * 16) (omega arith)
+  where
+    go : (x : ℕ) → x ≡ p .cards * 1048576 + (p .projects * 65536 + (p .kinds * 2048 + (p .frame * 16 + (0 * 1 + 0))))
+        → set (set (set l 0 (x / 65536 % 256)) 1 (x / 256 % 256)) 2 (x % 256) ≡ sets l 0 (headerBytes p)
+    go x q = let z : x / 65536 ≡ x / 256 / 256 = omega arith in rw (z, ← q)

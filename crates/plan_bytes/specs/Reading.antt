@@ -1,0 +1,67 @@
+-- Document 01, "Plan bytes" and "Numbers given back when we say no": what reading plan bytes answers.
+-- Assumes nothing.
+use Prim.Native.Nat.{ℕ}
+use mathlib.Core.Bool.{Bool, not, _&&_}
+use mathlib.Core.List.{List}
+use lib.Dec.{ltb, eqb}
+use lib.ListN.{length, getD}
+use Rattle.laws.specs.All.{allTo}
+use Rattle.plan.specs.declared.Plan.{Plan}
+use Rattle.plan.specs.declared.answer.Answer.{Answer}
+use Rattle.plan.specs.declared.answer.Answer.the-variants.{Good, No}
+use Rattle.plan.specs.declared.answer.Refusal.the-variants.{Bare}
+use Rattle.plan.specs.Record.{noPlan}
+use Rattle.plan.specs.Answer.{refuse, _andThen_}
+use Rattle.plan.specs.Order.{sizes, ranges}
+use Rattle.plan_bytes.specs.declared.Reading.{Reading}
+use Rattle.plan_bytes.specs.Parts.{headerFields, projectFields, kindFields, projectAt, kindAt, afterHeader, afterProjects, headed, decoded, size}
+pub mod Properties
+
+-- ---- the spare bits, "which are zero"
+
+-- the header's
+unfoldable pub headerSpare : List ℕ → ℕ
+headerSpare s = getD (headerFields s) 4 0
+
+-- a project's
+unfoldable pub projectSpare : List ℕ → ℕ
+projectSpare s = getD (projectFields s) 2 0
+
+-- a unit kind's
+unfoldable pub kindSpare : List ℕ → ℕ
+kindSpare s = getD (kindFields s) 4 0
+
+-- every spare bit of the first n projects is zero
+unfoldable pub projectsSpare : ℕ → List ℕ → Bool
+projectsSpare n s = allTo n (λ j. eqb (projectSpare (projectAt s j)) 0)
+
+-- every spare bit of the first n unit kinds is zero
+unfoldable pub kindsSpare : ℕ → List ℕ → Bool
+kindsSpare n s = allTo n (λ i. eqb (kindSpare (kindAt s i)) 0)
+
+-- every spare bit after the header is zero
+unfoldable pub placesSpare : List ℕ → Bool
+placesSpare s = projectsSpare (headed s .projects) (afterHeader s) && kindsSpare (headed s .kinds) (afterProjects s)
+
+-- every spare bit of the whole plan is zero
+unfoldable pub spareZero : List ℕ → Bool
+spareZero s = eqb (headerSpare s) 0 && placesSpare s
+
+-- ---- the answer
+
+-- ".. 1 for the total, 3, all projects for 4, then kind by kind 5 before 6, then 7"
+unfoldable pub bodyAnswer : List ℕ → Answer
+bodyAnswer s = refuse (ltb (length s) (size (headed s))) (Bare 1) andThen (refuse (not (spareZero s)) (Bare 3) andThen ranges (decoded s))
+
+-- "Bytes: 1 for the first three bytes, 2, .."
+unfoldable pub readAnswer : List ℕ → Answer
+readAnswer s = refuse (ltb (length s) 3) (Bare 1) andThen (sizes (headed s) andThen bodyAnswer s)
+
+-- "A refused read gives an all-zero plan and 0 bytes taken"; a good one the plan and "how many bytes it took"
+abbrev pub reading : Answer → Plan → ℕ → Reading
+reading Good p n = record { answer = Good; plan = p; taken = n }
+reading (No r) p n = record { answer = No r; plan = noPlan; taken = 0 }
+
+-- what reading answers
+unfoldable pub readOf : List ℕ → Reading
+readOf s = reading (readAnswer s) (decoded s) (size (headed s))

@@ -1,0 +1,24 @@
+// Plan bytes: document 01, "Plan bytes". One layout, specs/Parts.antt, states both directions.
+mod part;
+mod reader;
+mod writer;
+
+pub use reader::read;
+//pub use writer::write;
+
+use plan::Answer;
+use plan::Plan;
+
+// What reading found: the answer, the plan (all zero where it is refused) and how many bytes it
+// took.
+pub struct Reading {
+    pub answer: Answer,
+    pub plan: Plan,
+    pub taken: usize,
+}
+
+// What writing did: the answer and the count of bytes written.
+pub struct Written {
+    pub answer: Answer,
+    pub count: usize,
+}

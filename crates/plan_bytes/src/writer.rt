@@ -1,0 +1,1 @@
+// Writing a plan's bytes into a lent buffer.

@@ -1,0 +1,2 @@
+-- Laws of the workload.
+-- Assumes nothing.

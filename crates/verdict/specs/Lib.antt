@@ -2,3 +2,4 @@
 -- Assumes nothing.
 pub mod Workload
 pub mod Verdict
+pub mod Steps

@@ -2,4 +2,5 @@
 -- Assumes nothing.
 pub mod Workload
 pub mod Verdict
+pub mod Admission
 pub mod Steps

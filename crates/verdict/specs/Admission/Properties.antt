@@ -113,9 +113,10 @@ kind-admitted p e i l = fitted-good p i (each-at (p .kinds) (fitted p) (judged-a
 -- admitted exactly when the record is in order and for every kind some k in 1..q has kC + W <= S(k,D)
 pub admitted-exactly : (p : Plan) → (judged p .answer ≡ Good) ↔ (InOrder p × ((i : ℕ) → i < p .kinds → (k : ℕ) × Fits p i k))
 unfolding admitted
-admitted-exactly p =
-    (λ e. (judged-in-order p e, λ i l. (widthOf p i, kind-fits p i (kind-admitted p e i l))),
-    λ t. order-next p (t .0) ∙ each-of (p .kinds) (fitted p) (λ i l. fitted-of p i (kind-some p i (t .1 i l .0) (t .1 i l .1))))
+admitted-exactly p = (
+  λ e. (judged-in-order p e, λ i l. (widthOf p i, kind-fits p i (kind-admitted p e i l))),
+  λ t. order-next p (t .0) ∙ each-of (p .kinds) (fitted p) (λ i l. fitted-of p i (kind-some p i (t .1 i l .0) (t .1 i l .1))),
+)
 
 -- the k given
 width-at : (p : Plan) → judged p .answer ≡ Good → (i : ℕ) → i < p .kinds → getD (judged p .width) i 0 ≡ widthOf p i

@@ -1,4 +1,4 @@
--- The dispatcher: document 01, "Running", and the refusals 9 to 15.
+-- The dispatcher: document 01, "Running", and the refusals 8 to 15.
 -- Assumes nothing.
 pub mod Picks
 pub mod Stores
@@ -11,3 +11,5 @@ pub mod Seat
 pub mod Release
 pub mod Slice
 pub mod Run
+pub mod Start
+pub mod OneOutcome

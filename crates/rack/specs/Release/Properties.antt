@@ -21,7 +21,6 @@ use Rattle.plan.specs.Order.{within}
 use Rattle.plan.specs.Order.Properties.{within-low, within-high, within-of}
 use Rattle.rack.specs.declared.Unit.{Unit}
 use Rattle.rack.specs.declared.State.{State}
-use Rattle.rack.specs.declared.Next.{Next}
 use Rattle.rack.specs.State.{noUnit, unitOf, kindAt}
 use Rattle.rack.specs.State.Properties.{refused-keeps}
 use Rattle.rack.specs.Form.{ready}
@@ -110,10 +109,7 @@ release-length s i e r g q =
     let k = o .ready .order .kind-at i (o .its-kind) in
     omega (arith, o .start .length-most, k .length-most, k .deadline-most, k .separation-most)
 
--- ---- one outcome, and a refusal that changes nothing
-
-pub one-outcome : (s : State) (i e : ℕ) (a b : Next) → a ≡ releaseOf s i e → b ≡ releaseOf s i e → a ≡ b
-one-outcome s i e a b p q = p ∙ sym q
+-- ---- a refusal changes nothing
 
 pub release-refused : (s : State) (i e : ℕ) (w : Refusal) → releaseOf s i e .answer ≡ No w → releaseOf s i e .state ≡ s
 unfolding releaseOf

@@ -4,16 +4,15 @@ use mathlib.Core.Path.{_≡_, refl, sym, ap, _∙_}
 use mathlib.Core.List.{List, [], _∷_}
 use Prim.Native.Nat.{ℕ, _+_}
 use native.Mathlib.Omega.{arith}
-use lib.ListN.{length, length-replicate, getD-replicate}
-use Rattle.plan.specs.declared.Plan.{Plan}
+use lib.ListN.{length}
 use Rattle.plan.specs.declared.answer.Answer.{Answer}
 use Rattle.plan.specs.declared.answer.Answer.the-variants.{Good, No}
 use Rattle.plan.specs.declared.answer.Refusal.{Refusal}
-use Rattle.plan.specs.Order.Properties.{InOrder}
+use Rattle.plan.specs.Answer.{ifGood}
 use Rattle.rack.specs.declared.State.{State}
-use Rattle.rack.specs.State.{noUnit, unitOf, kindAt, freshOf, ifGood, nextOf}
+use Rattle.rack.specs.State.{nextOf}
 use Rattle.rack.specs.State.Properties.{refused-keeps, good-moves}
-use Rattle.rack.specs.Form.Properties.{Ready, UnitInForm}
+use Rattle.rack.specs.Form.Properties.{Ready}
 use Rattle.rack.specs.Release.{releaseAnswer, released, releaseOf}
 use Rattle.rack.specs.Release.Properties.{release-says, release-form, release-places}
 use Rattle.rack.specs.Slice.{advanced, sliceAnswer, sliceOf}
@@ -73,15 +72,3 @@ pub run-clock : (s : State) (xs : List Call) → runFrom s xs .clock ≡ s .cloc
 unfolding runFrom acceptedSlices
 run-clock s [] = omega arith
 run-clock s (x ∷ xs) = omega (arith, run-clock (nextAfter s x .state) xs, call-clock s x)
-
--- ---- from a fresh start
-
-pub fresh-sound : (p : Plan) → InOrder p → Sound (freshOf p)
-fresh-sound p o = record { ready = record { order = o; form = record { clock-most = omega arith; unit-at = λ i l m. rw (getD-replicate 16 i noUnit noUnit l) (never (kindAt (freshOf p) i .length)); unused = λ i l m. getD-replicate 16 i noUnit noUnit l } }; places = length-replicate 16 noUnit }
-  where
-    never : (n : ℕ) → UnitInForm 0 n noUnit
-    never n = record { release-clock = omega arith; left-most = omega arith; never = λ e. (refl, refl) }
-
--- the clock equals the number of accepted slices
-pub fresh-clock : (p : Plan) (xs : List Call) → runFrom (freshOf p) xs .clock ≡ acceptedSlices (freshOf p) xs
-fresh-clock p xs = omega (arith, run-clock (freshOf p) xs)

@@ -142,10 +142,7 @@ module _ (s : State) (bytes cleared seats : List ℕ) (r : Answer) (g : r ≡ Go
   unfolding bufferAfter
   buffer-row after e = rw (← q, g) (row-written s (slice-ready s (length bytes) r g q) seats bytes cleared after (slice-room s (length bytes) r g q) es ec e)
 
--- ---- one outcome, and a refusal that changes nothing
-
-pub one-outcome : (s : State) (bytes : List ℕ) (a b : Next) (x y : List ℕ) → Sliced s bytes a x → Sliced s bytes b y → (a ≡ b) × (x ≡ y)
-one-outcome s bytes a b x y p q = (p .result ∙ sym (q .result), p .buffer ∙ sym (q .buffer))
+-- ---- a refusal changes nothing
 
 pub slice-refused : (s : State) (bytes after : List ℕ) (next : Next) (w : Refusal) → Sliced s bytes next after → next .answer ≡ No w → (next .state ≡ s) × (after ≡ bytes)
 unfolding sliceOf

@@ -16,7 +16,6 @@ use Rattle.supply.specs.Supply.{supply}
 use Rattle.supply.specs.Fit.{leastWidth, leastExcess}
 use Rattle.verdict.specs.Workload.{workload}
 use Rattle.verdict.specs.declared.Verdict.{Verdict}
-pub mod Properties
 
 -- kind i's project
 abbrev pub projectOn : Plan → ℕ → ℕ

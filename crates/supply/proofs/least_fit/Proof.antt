@@ -3,7 +3,7 @@ use Rattle.supply.specs.Supply.{window, supply}
 use Rattle.supply.specs.Fit.{heldAt, leastWidth, leastExcess}
 use Rattle.supply.specs.Fit.Properties.{rest-below, window-start, supply-start, width-start, excess-start, window-again, frame-again, supply-again, supplied, width-again, excess-again, no-frame, long-frame, fit-here, fit-none}
 use mathlib.Core.Path.{_≡_, refl}
-use Prim.Native.Nat.{_+_, _≤_, _<_, _-_, _*_, _/_, _%_}
+use Prim.Native.Nat.{_≤_, _<_, _-_, _*_}
 use native.Mathlib.Omega.{arith}
 use borrow.Author.Needs.{needs}
 use Rattle.supply.proofs.least_fit.Statement.{statement}

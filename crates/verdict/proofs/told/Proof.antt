@@ -1,5 +1,4 @@
 use Rattle.laws.specs.Tests.{tests}
-use Rattle.plan.specs.Answer.Properties.{stages}
 use borrow.Author.Needs.{needs}
 use Rattle.verdict.proofs.told.Statement.{statement}
 use Rattle.verdict.proofs.told.Tie as tie

@@ -22,7 +22,6 @@ use Rattle.layout.specs.Layout.Properties.{held-period}
 use Rattle.supply.specs.Supply.{window}
 use Rattle.supply.specs.Supply.Properties.{supply-everywhere}
 use Rattle.supply.specs.Fit.Properties.{width-most, width-fits, width-least, width-some, width-none, excess-most, excess-attained}
-use Rattle.verdict.specs.declared.Verdict.{Verdict}
 use Rattle.verdict.specs.Workload.{workload}
 use Rattle.verdict.specs.Verdict.{projectOn, ceilingOn, heldOn, widthOf, excessOf, fitted, admitted, verdictOf, judged}
 use Rattle.verdict.specs.Admission.{Width, Fits, Excess, NotAdmitted}
@@ -173,10 +172,6 @@ refused-exactly p o i x = (told, tell)
         let same = excess-one p i (excessOf p i) x (kind-excess p i (ceiling i (n .its-kind)) none) (n .excess) in
         let before = each-of i (fitted p) (λ j l. fitted-of p j (kind-some p j (n .first j l .0) (n .first j l .1))) in
         order-next p o ∙ sym (each-refused (p .kinds) i (fitted p) (ByKind 8 i (excessOf p i)) (sym before) (sym (fitted-no p i none)) (n .its-kind)) ∙ rw same
-
--- one outcome
-pub one-outcome : (p : Plan) (a b : Verdict) → a ≡ judged p → b ≡ judged p → a ≡ b
-one-outcome p a b e f = e ∙ sym f
 
 -- ---- what a run needs
 

@@ -71,8 +71,8 @@ impl State {
         true
     }
 
-    // The record order, 10.
-    fn check(self) -> Answer
+    // Whether the plan is in order and the state in form: the record order, 10.
+    pub fn check(self) -> Answer
         ensures { λ r. ⌜ r ≡ ready self ⌝ }
     {
         let plan = self.plan;

@@ -3,5 +3,6 @@
 pub mod Pack
 pub mod Bytes
 pub mod Parts
+pub mod Put
 pub mod Reading
 pub mod Writing

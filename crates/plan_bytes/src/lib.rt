@@ -6,6 +6,8 @@ mod writer;
 pub use reader::read;
 //pub use writer::write;
 
+ghost use mathlib.Core.Path.{_≡_};
+ghost use Rattle.plan_bytes.specs.Parts.{size};
 use plan::Answer;
 use plan::Plan;
 
@@ -21,4 +23,11 @@ pub struct Reading {
 pub struct Written {
     pub answer: Answer,
     pub count: usize,
+}
+
+// The bytes that a plan with these counts takes.
+fn size(plan: Plan) -> usize
+    ensures { λ r. ⌜ r ≡ size plan ⌝ }
+{
+    3 + 2 * plan.projects as usize + 5 * plan.kinds as usize
 }

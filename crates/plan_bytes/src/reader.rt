@@ -12,6 +12,7 @@ ghost use Rattle.plan_bytes.specs.Parts.{projectsFrom, kindsFrom, headed
 ghost use Rattle.plan_bytes.specs.Reading.{projectsSpare, kindsSpare, placesSpare, headerSpare, bodyAnswer, readOf, reading};
 use crate::Reading;
 use crate::part;
+use crate::size;
 use plan::Answer;
 use plan::Kind;
 use plan::Plan;
@@ -88,13 +89,6 @@ fn refused(answer: Answer) -> Reading
         plan: Plan::empty(),
         taken: 0,
     }
-}
-
-// The bytes that a plan with these counts takes.
-fn size(plan: Plan) -> usize
-    ensures { λ r. ⌜ r ≡ size plan ⌝ }
-{
-    3 + 2 * plan.projects as usize + 5 * plan.kinds as usize
 }
 
 // The plan whose counts were read, with its places, and whether every spare bit in these is zero.

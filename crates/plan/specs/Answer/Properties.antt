@@ -66,6 +66,9 @@ pub ruleset stages = (refused, passed, stage-no, stage-on)
 pub opened-good : (r a : Answer) → r ≡ Good → r ≡ a → Good ≡ a
 opened-good r a e q = sym e ∙ q
 
+pub opened-is : (r a : Answer) → r ≡ Good → r ≡ a → a ≡ Good
+opened-is r a e q = sym q ∙ e
+
 pub opened-no : (r a b : Answer) (w : Refusal) → r ≡ No w → r ≡ a → r ≡ (a andThen b)
 opened-no r a b w e q = rw (← q, e)
 

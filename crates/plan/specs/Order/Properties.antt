@@ -98,6 +98,18 @@ empty-place j n e true q t = rw (← q) (go (ltb j n))
     go false = refl
 empty-place j n e false q t = absurd (true≢false t)
 
+-- a place that holds zeros, used or not
+pub kept-empty : (j n : ℕ) (e : Bool) → e ≡ true → (ltb j n || e) ≡ true
+kept-empty j n e q = empty-place j n e true (sym q) refl
+
+pub no-project-empty : emptyProject noProject ≡ true
+unfolding emptyProject
+no-project-empty = refl
+
+pub no-kind-empty : emptyKind noKind ≡ true
+unfolding emptyKind
+no-kind-empty = refl
+
 pub full-place : (j used n : ℕ) (e r : Bool) → used ≡ n → used ≤ j → r ≡ e → not r ≡ true → (ltb j n || e) ≡ false
 full-place j used n e true q l p t = absurd (true≢false (sym t))
 full-place j used n e false q l p t = rw (le-ltb j n (omega arith), ← p)

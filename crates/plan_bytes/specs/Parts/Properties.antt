@@ -16,7 +16,7 @@ use Rattle.plan.specs.declared.Plan.{Plan}
 use Rattle.plan.specs.Record.{noPlan}
 use Rattle.plan_bytes.specs.Pack.{bits, pack, unpack}
 use Rattle.plan_bytes.specs.Bytes.{numberTo, bytesOf}
-use Rattle.plan_bytes.specs.Parts.{headerBytes, projectBytes, kindBytes, headerFields, projectFields, kindFields, projectFrom, kindFrom, projectAt, kindAt, projectsFrom, kindsFrom, headed}
+use Rattle.plan_bytes.specs.Parts.{headerBytes, projectBytes, kindBytes, headerFields, projectFields, kindFields, projectFrom, kindFrom, projectAt, kindAt, projectsFrom, kindsFrom, headed, decoded, size}
 
 -- ---- a part that is handed on
 
@@ -100,3 +100,34 @@ put-header p m k n f l e g h i = go (m * 1048576 + k * 65536 + n * 2048 + f * 16
     go : (x : ℕ) → x ≡ p .cards * 1048576 + (p .projects * 65536 + (p .kinds * 2048 + (p .frame * 16 + (0 * 1 + 0))))
         → set (set (set l 0 (x / 65536 % 256)) 1 (x / 256 % 256)) 2 (x % 256) ≡ sets l 0 (headerBytes p)
     go x q = let z : x / 65536 ≡ x / 256 / 256 = omega arith in rw (z, ← q)
+
+-- ---- where the parts lie
+
+pub size-header : (p : Plan) (n : ℕ) → size p ≤ n → 3 ≤ n
+unfolding size
+size-header p n l = omega arith
+
+pub size-projects : (p : Plan) (n : ℕ) → size p ≤ n → 3 + 2 * p .projects ≤ n
+unfolding size
+size-projects p n l = omega arith
+
+-- the projects lie in what is handed on after the header
+pub size-after-header : (p : Plan) (s : List ℕ) → size p ≤ length s → 2 * p .projects ≤ length (take (length s - 3) (drop 3 s))
+unfolding size
+size-after-header p s l = rw (handed-on s 3) (omega (arith, length-drop 3 s))
+
+-- and the unit kinds in what is handed on after the projects
+pub size-after-projects : (p : Plan) (s : List ℕ) → size p ≤ length s → 5 * p .kinds ≤ length (take (length s - (3 + 2 * p .projects)) (drop (3 + 2 * p .projects) s))
+unfolding size
+size-after-projects p s l = rw (handed-on s (3 + 2 * p .projects)) (omega (arith, length-drop (3 + 2 * p .projects) s))
+
+-- the counts and the places make the plan
+pub plan-placed : (s : List ℕ) (p : Plan) (projects : List Project) (kinds : List Kind) → p ≡ headed s → projects ≡ projectsFrom (p .projects) (take (length s - 3) (drop 3 s))
+    → kinds ≡ kindsFrom (p .kinds) (take (length s - (3 + 2 * p .projects)) (drop (3 + 2 * p .projects) s))
+    → record { cards = p .cards; projects = p .projects; kinds = p .kinds; frame = p .frame; project = projects; kind = kinds } ≡ decoded s
+unfolding decoded
+plan-placed s p projects kinds e f g =
+    let a : projects ≡ projectsFrom (headed s .projects) (drop 3 s) = f ∙ ap (projectsFrom (p .projects)) (handed-on s 3) ∙ ap (λ (q : Plan). projectsFrom (q .projects) (drop 3 s)) e in
+    let b : kinds ≡ kindsFrom (headed s .kinds) (drop (3 + 2 * headed s .projects) s) =
+        g ∙ ap (kindsFrom (p .kinds)) (handed-on s (3 + 2 * p .projects)) ∙ ap (λ (q : Plan). kindsFrom (q .kinds) (drop (3 + 2 * q .projects) s)) e in
+    λ i. record { cards = e i .cards; projects = e i .projects; kinds = e i .kinds; frame = e i .frame; project = a i; kind = b i }

@@ -1,3 +1,6 @@
+use native.Mathlib.Omega.{arith}
+use Rattle.plan.specs.Order.Properties.{sizes-says}
+use Rattle.plan_bytes.specs.Reading.Properties.{refused-reading, told-reading, good-reading, body-short, body-spare, body-checked}
 use borrow.Author.Needs.{needs}
 use Rattle.plan_bytes.proofs.reader.body.Statement.{statement}
 use Rattle.plan_bytes.proofs.reader.body.Tie as tie
@@ -7,7 +10,7 @@ use Rattle.plan.proofs.Plan.check.Reads as check-reads
 use Rattle.plan_bytes.proofs.reader.both.Reads as both-reads
 use Rattle.plan_bytes.proofs.reader.places.Reads as places-reads
 use Rattle.plan_bytes.proofs.reader.refused.Reads as refused-reads
-use Rattle.plan_bytes.proofs.reader.size.Reads as size-reads
+use Rattle.plan_bytes.proofs.size.Reads as size-reads
 
 -- src/reader.rt:129:9
 size-requires : tie.Need-size-requires
@@ -19,11 +22,11 @@ refused-requires c κs = search needs
 
 -- src/reader.rt:131:9
 returns : tie.Need-returns
-returns c = ?
+returns c = search (told-reading, body-short)
 
 -- src/reader.rt:133:9
 places-requires : tie.Need-places-requires
-places-requires c κs = ?
+places-requires c κs = let s = sizes-says _ (c .before .before .before .pre .2) in (search, s .projects-most, s .kinds-most, omega arith)
 
 -- src/reader.rt:134:9
 both-requires : tie.Need-both-requires
@@ -35,7 +38,7 @@ refused-requires-2 c κs = search needs
 
 -- src/reader.rt:135:9
 returns-2 : tie.Need-returns-2
-returns-2 c = ?
+returns-2 c = search (told-reading, body-spare)
 
 -- src/reader.rt:138:9
 check-requires : tie.Need-check-requires
@@ -54,11 +57,11 @@ refused-requires-3 c κs = search needs
 
 -- src/reader.rt:140:9
 returns-3 : tie.Need-returns-3
-returns-3 c = ?
+returns-3 c = search (refused-reading, body-checked)
 
 -- src/reader.rt:125:1
 returns-4 : tie.Need-returns-4
-returns-4 c = ?
+returns-4 c = search (good-reading, body-checked)
 
 pub body-spec : {M : Type 1} → statement M
 body-spec =

@@ -70,7 +70,7 @@ loop-less c = search needs
 
 -- src/reader.rt:72:5
 loop-again : tie.Need-loop-again Inv-loop μ-loop
-loop-again c = (omega arith, search, search kinds-again, kinds-spare-again _ _ _ _ _ (search) (c .before .before .before .kind-from .ensures .1) (c .both .ensures))
+loop-again c = (omega arith, search, search kinds-again, kinds-spare-again _ _ _ _ _ (c .before .before .before .before .before .before .loop .inv .3) (c .before .before .before .kind-from .ensures .1) (c .both .ensures))
 
 -- src/reader.rt:66:1
 returns : tie.Need-returns Inv-loop μ-loop

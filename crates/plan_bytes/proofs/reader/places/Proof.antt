@@ -1,3 +1,7 @@
+use native.Mathlib.Omega.{arith}
+use Rattle.plan_bytes.specs.Parts.{size}
+use Rattle.plan_bytes.specs.Parts.Properties.{size-after-header, size-after-projects, plan-placed}
+use Rattle.plan_bytes.specs.Reading.Properties.{places-spare}
 use borrow.Author.Needs.{needs}
 use Rattle.plan_bytes.proofs.reader.places.Statement.{statement}
 use Rattle.plan_bytes.proofs.reader.places.Tie as tie
@@ -9,11 +13,13 @@ use Rattle.plan_bytes.proofs.reader.projects_from.Reads as projects-fro
 
 -- src/reader.rt:106:34
 sub-projects-from : tie.Need-sub-projects-from
-sub-projects-from c = ?
+unfolding size
+sub-projects-from c = omega arith
 
 -- src/reader.rt:106:34
 part-projects-from-start : tie.Need-part-projects-from-start
-part-projects-from-start c = ?
+unfolding size
+part-projects-from-start c = omega arith
 
 -- src/reader.rt:106:34
 part-projects-from-end : tie.Need-part-projects-from-end
@@ -21,7 +27,7 @@ part-projects-from-end c = search needs
 
 -- src/reader.rt:106:9
 projects-from-requires : tie.Need-projects-from-requires
-projects-from-requires c κs = ?
+projects-from-requires c κs = (search, search size-after-header)
 
 -- src/reader.rt:107:24
 cast-next : tie.Need-cast-next
@@ -37,11 +43,13 @@ add-next c = search needs
 
 -- src/reader.rt:108:28
 sub-kinds-from : tie.Need-sub-kinds-from
-sub-kinds-from c = ?
+unfolding size
+sub-kinds-from c = omega arith
 
 -- src/reader.rt:108:28
 part-kinds-from-start : tie.Need-part-kinds-from-start
-part-kinds-from-start c = ?
+unfolding size
+part-kinds-from-start c = omega arith
 
 -- src/reader.rt:108:28
 part-kinds-from-end : tie.Need-part-kinds-from-end
@@ -49,7 +57,7 @@ part-kinds-from-end c = search needs
 
 -- src/reader.rt:108:9
 kinds-from-requires : tie.Need-kinds-from-requires
-kinds-from-requires c κs = ?
+kinds-from-requires c κs = (search, search size-after-projects)
 
 -- src/reader.rt:120:16
 both-requires : tie.Need-both-requires
@@ -57,7 +65,7 @@ both-requires c κs = search needs
 
 -- src/reader.rt:101:1
 returns : tie.Need-returns
-returns c = ?
+returns c = (search plan-placed, search places-spare)
 
 pub places-spec : {M : Type 1} → statement M
 places-spec =

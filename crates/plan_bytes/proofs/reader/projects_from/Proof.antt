@@ -70,7 +70,7 @@ loop-less c = search needs
 
 -- src/reader.rt:55:5
 loop-again : tie.Need-loop-again Inv-loop μ-loop
-loop-again c = (omega arith, search, search projects-again, projects-spare-again _ _ _ _ _ (search) (c .before .before .before .project-from .ensures .1) (c .both .ensures))
+loop-again c = (omega arith, search, search projects-again, projects-spare-again _ _ _ _ _ (c .before .before .before .before .before .before .loop .inv .3) (c .before .before .before .project-from .ensures .1) (c .both .ensures))
 
 -- src/reader.rt:49:1
 returns : tie.Need-returns Inv-loop μ-loop

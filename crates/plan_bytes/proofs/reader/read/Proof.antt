@@ -1,3 +1,6 @@
+use Rattle.plan.specs.Answer.Properties.{opened-is}
+use Rattle.plan_bytes.specs.Reading.{readOf}
+use Rattle.plan_bytes.specs.Reading.Properties.{refused-reading, told-reading, read-short, read-sizes, read-body}
 use borrow.Author.Needs.{needs}
 use Rattle.plan_bytes.proofs.reader.read.Statement.{statement}
 use Rattle.plan_bytes.proofs.reader.read.Tie as tie
@@ -14,7 +17,8 @@ refused-requires c κs = search needs
 
 -- src/reader.rt:154:9
 returns : tie.Need-returns
-returns c = ?
+unfolding readOf
+returns c = search (told-reading, read-short)
 
 -- src/reader.rt:156:9
 header-from-requires : tie.Need-header-from-requires
@@ -37,15 +41,16 @@ refused-requires-2 c κs = search needs
 
 -- src/reader.rt:160:9
 returns-2 : tie.Need-returns-2
-returns-2 c = ?
+unfolding readOf
+returns-2 c = search (refused-reading, read-sizes)
 
 -- src/reader.rt:162:5
 body-requires : tie.Need-body-requires
-body-requires c κs = ?
+body-requires c κs = (search, search, search opened-is)
 
 -- src/reader.rt:150:1
 returns-3 : tie.Need-returns-3
-returns-3 c = ?
+returns-3 c = search read-body
 
 pub read-spec : {M : Type 1} → statement M
 read-spec =

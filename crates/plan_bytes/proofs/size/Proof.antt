@@ -1,10 +1,10 @@
 use mathlib.Core.Path.{refl}
 use Rattle.plan_bytes.specs.Parts.{size}
 use borrow.Author.Needs.{needs}
-use Rattle.plan_bytes.proofs.reader.size.Statement.{statement}
-use Rattle.plan_bytes.proofs.reader.size.Tie as tie
-use Rattle.plan_bytes.proofs.reader.size.Reads as reads
-use Rattle.plan_bytes.proofs.reader.size.Lts as lts
+use Rattle.plan_bytes.proofs.size.Statement.{statement}
+use Rattle.plan_bytes.proofs.size.Tie as tie
+use Rattle.plan_bytes.proofs.size.Reads as reads
+use Rattle.plan_bytes.proofs.size.Lts as lts
 
 -- src/reader.rt:97:13
 cast-result : tie.Need-cast-result

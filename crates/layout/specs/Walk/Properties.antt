@@ -33,8 +33,10 @@ walk-step p o x = from (slotOf p (x - 1)) refl
         let high = owns-to p j (x - 1) mine in
         let most : suc j ≤ p .projects = omega (arith, slot-most p (x - 1)) in
         rw (ne-eqb (suc j) 0 (λ h. omega arith))
-        (elim (decLt x (firstCell p (suc j)))
-        [ yes q ↦ rw (lt-ltb x (firstCell p (suc j)) q) (sym (slot-owned p j x (omega arith) (owns-yes p j x (omega arith) (omega (arith, first-suc p j)))))
-        | no q ↦ rw (le-ltb x (firstCell p (suc j)) (omega arith)) (elim (decLt (suc j) (p .projects))
-          [ yes r ↦ rw (lt-ltb (suc j) (p .projects) r) (add-one (suc j) ∙ sym (slot-owned p (suc j) x r (owns-yes p (suc j) x (omega arith) (omega (arith, first-suc p j, o .project-at (suc j) r .some-budget)))))
-          | no r ↦ rw (le-ltb (suc j) (p .projects) (omega arith)) (sym (slot-free p x (omega (arith, ap (firstCell p) (let z : p .projects ≡ suc j = omega arith in z))))) ]) ])
+        (elim (decLt x (firstCell p (suc j))) [
+          | yes q ↦ rw (lt-ltb x (firstCell p (suc j)) q) (sym (slot-owned p j x (omega arith) (owns-yes p j x (omega arith) (omega (arith, first-suc p j)))))
+          | no q ↦ rw (le-ltb x (firstCell p (suc j)) (omega arith)) (elim (decLt (suc j) (p .projects)) [
+            | yes r ↦ rw (lt-ltb (suc j) (p .projects) r) (add-one (suc j) ∙ sym (slot-owned p (suc j) x r (owns-yes p (suc j) x (omega arith) (omega (arith, first-suc p j, o .project-at (suc j) r .some-budget)))))
+            | no r ↦ rw (le-ltb (suc j) (p .projects) (omega arith)) (sym (slot-free p x (omega (arith, ap (firstCell p) (let z : p .projects ≡ suc j = omega arith in z)))))
+          ])
+        ])

@@ -1,10 +1,12 @@
 -- The dispatcher: document 01, "Running", and the refusals 9 to 15.
 -- Assumes nothing.
 pub mod Picks
+pub mod Stores
 pub mod State
 pub mod Form
 pub mod Rank
 pub mod Row
+pub mod Seat
 pub mod Release
 pub mod Slice
 pub mod Run

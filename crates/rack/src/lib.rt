@@ -5,6 +5,7 @@
 // hold.
 mod form;
 mod release;
+mod slice;
 
 ghost use mathlib.Core.Path.{_≡_};
 ghost use Rattle.rack.specs.State.{noUnit, freshOf, noState};

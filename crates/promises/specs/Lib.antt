@@ -1,5 +1,9 @@
 -- Demand 3.
 -- Assumes nothing.
+pub mod Run
+pub mod Named
+pub mod Nth
+pub mod Row
 pub mod Setup
 pub mod Workload
 pub mod Admitted

@@ -10,3 +10,5 @@ pub mod Admitted
 pub mod Moment
 pub mod Step
 pub mod OnTrack
+pub mod After
+pub mod View

@@ -12,3 +12,8 @@ pub mod Step
 pub mod OnTrack
 pub mod After
 pub mod View
+pub mod Sound
+pub mod InTime
+pub mod Budget
+pub mod Refusals
+pub mod Demands

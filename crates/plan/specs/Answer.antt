@@ -44,3 +44,8 @@ No r andThen b = No r
 unfoldable pub eachTo : ℕ → (ℕ → Answer) → Answer
 eachTo zero f = Good
 eachTo (suc n) f = eachTo n f andThen f n
+
+-- what a good answer gives, and what a refusal does
+abbrev pub ifGood : {A : Type 0} → Answer → A → A → A
+ifGood Good x y = x
+ifGood (No r) x y = y

@@ -6,3 +6,5 @@ pub mod Parts
 pub mod Put
 pub mod Reading
 pub mod Writing
+pub mod RoundTrip
+pub mod OneOutcome

@@ -2,7 +2,8 @@
 -- Assumes nothing.
 use Prim.Native.Nat.{ℕ, zero, suc, _+_, _*_}
 use mathlib.Core.List.{List, [], _∷_, _++_}
-use lib.ListN.{getD, drop, replicate}
+use mathlib.Core.Path.{_≡_}
+use lib.ListN.{length, getD, drop, replicate}
 use Rattle.laws.specs.Written.{written}
 use Rattle.plan.specs.declared.Project.{Project}
 use Rattle.plan.specs.declared.Kind.{Kind}
@@ -33,6 +34,11 @@ kindWidths = 3 ∷ 12 ∷ 12 ∷ 12 ∷ 1 ∷ []
 unfoldable pub size : Plan → ℕ
 size p = 3 + 2 * p .projects + 5 * p .kinds
 
+-- the arrays of a plan as the language's type has them
+pub record Shaped (p : Plan) : Type 0 where
+  pub eight : length (p .project) ≡ 8
+  pub sixteen : length (p .kind) ≡ 16
+
 -- ---- the parts as bytes; "the spare bits, which are zero"
 
 unfoldable pub headerBytes : Plan → List ℕ
@@ -49,9 +55,17 @@ unfoldable pub partsTo : ℕ → (ℕ → List ℕ) → List ℕ
 partsTo zero f = []
 partsTo (suc n) f = partsTo n f ++ f n
 
+-- project j's bytes
+abbrev pub projectBytesAt : Plan → ℕ → List ℕ
+projectBytesAt p j = projectBytes (projectOf p j)
+
+-- unit kind i's bytes
+abbrev pub kindBytesAt : Plan → ℕ → List ℕ
+kindBytesAt p i = kindBytes (kindOf p i)
+
 -- the plan's bytes: the header, each project, each unit kind
 unfoldable pub encoded : Plan → List ℕ
-encoded p = (headerBytes p ++ partsTo (p .projects) (λ j. projectBytes (projectOf p j))) ++ partsTo (p .kinds) (λ i. kindBytes (kindOf p i))
+encoded p = headerBytes p ++ partsTo (p .projects) (projectBytesAt p) ++ partsTo (p .kinds) (kindBytesAt p)
 
 -- ---- the parts' fields, read from where each starts
 

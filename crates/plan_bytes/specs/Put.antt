@@ -3,7 +3,6 @@
 use Prim.Native.Nat.{ℕ, zero, suc, _+_, _*_}
 use mathlib.Core.List.{List}
 use lib.Seq.{sets}
-
 pub mod Properties
 
 -- the parts 0..n-1, each `width` bytes, stored from `start` on

@@ -8,10 +8,9 @@ use lib.ListN.{length, getD}
 use Rattle.laws.specs.All.{allTo}
 use Rattle.plan.specs.declared.Plan.{Plan}
 use Rattle.plan.specs.declared.answer.Answer.{Answer}
-use Rattle.plan.specs.declared.answer.Answer.the-variants.{Good, No}
 use Rattle.plan.specs.declared.answer.Refusal.the-variants.{Bare}
 use Rattle.plan.specs.Record.{noPlan}
-use Rattle.plan.specs.Answer.{refuse, _andThen_}
+use Rattle.plan.specs.Answer.{refuse, _andThen_, ifGood}
 use Rattle.plan.specs.Order.{sizes, ranges}
 use Rattle.plan_bytes.specs.declared.Reading.{Reading}
 use Rattle.plan_bytes.specs.Parts.{headerFields, projectFields, kindFields, projectAt, kindAt, afterHeader, afterProjects, headed, decoded, size}
@@ -59,8 +58,7 @@ readAnswer s = refuse (ltb (length s) 3) (Bare 1) andThen (sizes (headed s) andT
 
 -- "A refused read gives an all-zero plan and 0 bytes taken"; a good one the plan and "how many bytes it took"
 abbrev pub reading : Answer → Plan → ℕ → Reading
-reading Good p n = record { answer = Good; plan = p; taken = n }
-reading (No r) p n = record { answer = No r; plan = noPlan; taken = 0 }
+reading a p n = record { answer = a; plan = ifGood a p noPlan; taken = ifGood a n 0 }
 
 -- what reading answers
 unfoldable pub readOf : List ℕ → Reading

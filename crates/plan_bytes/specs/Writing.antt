@@ -7,9 +7,8 @@ use lib.Dec.{ltb}
 use lib.ListN.{length, drop}
 use Rattle.plan.specs.declared.Plan.{Plan}
 use Rattle.plan.specs.declared.answer.Answer.{Answer}
-use Rattle.plan.specs.declared.answer.Answer.the-variants.{Good, No}
 use Rattle.plan.specs.declared.answer.Refusal.the-variants.{Bare}
-use Rattle.plan.specs.Answer.{refuse, _andThen_}
+use Rattle.plan.specs.Answer.{refuse, _andThen_, ifGood}
 use Rattle.plan.specs.Order.{checked}
 use Rattle.plan_bytes.specs.declared.Written.{Written}
 use Rattle.plan_bytes.specs.Parts.{encoded, size}
@@ -21,15 +20,9 @@ writeAnswer p out = checked p andThen refuse (ltb (length out) (size p)) (Bare 9
 
 -- "Writers answer with the count of bytes written, 0 on a refusal"
 abbrev pub counted : Answer → ℕ → Written
-counted Good n = record { answer = Good; count = n }
-counted (No r) n = record { answer = No r; count = 0 }
+counted a n = record { answer = a; count = ifGood a n 0 }
 
--- "Lent buffers keep every byte on a refusal. On success, bytes past those needed keep their value"
-abbrev pub keptPast : Answer → List ℕ → ℕ → List ℕ → List ℕ
-keptPast Good bytes n out = bytes ++ drop n out
-keptPast (No r) bytes n out = out
-
--- what writing answers, and what the buffer `out` holds then
+-- what writing answers, and what the buffer `out` holds then: "Lent buffers keep every byte on a refusal. On success, bytes past those needed keep their value"
 pub record Writes (p : Plan) (out : List ℕ) (r : Written) (after : List ℕ) : Type 0 where
   pub result : r ≡ counted (writeAnswer p out) (size p)
-  pub buffer : after ≡ keptPast (writeAnswer p out) (encoded p) (size p) out
+  pub buffer : after ≡ ifGood (writeAnswer p out) (encoded p ++ drop (size p) out) out

@@ -4,8 +4,7 @@ mod reader;
 mod writer;
 
 pub use reader::read;
-//pub use writer::write;
-
+pub use writer::write;
 ghost use mathlib.Core.Path.{_≡_};
 ghost use Rattle.plan_bytes.specs.Parts.{size};
 use plan::Answer;

@@ -1,7 +1,7 @@
 -- Document 01, "Running": the row that a state shows.
 -- Assumes nothing.
 use Prim.Native.Nat.{ℕ, _%_, pred}
-use mathlib.Core.Bool.{Bool, _&&_}
+use mathlib.Core.Bool.{Bool, not, _&&_}
 use mathlib.Core.List.{List}
 use lib.Dec.{eqb}
 use Rattle.laws.specs.Count.{countTo}
@@ -33,3 +33,13 @@ rowByte s card = firstTo (s .plan .kinds) (λ number. takes s (pred number) card
 -- "The row written has m bytes", and what stands past them is kept
 unfoldable pub rowOver : State → List ℕ → List ℕ
 rowOver s bytes = written (s .plan .cards) (rowByte s) bytes
+
+-- ---- what the promises about a row speak of
+
+-- a byte that names a kind of project j
+unfoldable pub ofProject : State → ℕ → ℕ → Bool
+ofProject s j number = not (eqb number 0) && eqb (kindAt s (pred number) .project) j
+
+-- how many cards of the row project j has
+unfoldable pub cardsTaken : State → ℕ → ℕ
+cardsTaken s j = countTo (s .plan .cards) (λ card. ofProject s j (rowByte s card))

@@ -3,9 +3,9 @@
 use Prim.Native.Nat.{ℕ, _+_}
 use mathlib.Core.List.{List, [], _∷_}
 use Rattle.plan.specs.declared.answer.Answer.{Answer}
+use Rattle.plan.specs.Answer.{ifGood}
 use Rattle.rack.specs.declared.State.{State}
 use Rattle.rack.specs.declared.Next.{Next}
-use Rattle.rack.specs.State.{ifGood}
 use Rattle.rack.specs.Release.{releaseOf}
 use Rattle.rack.specs.Slice.{sliceOf}
 pub mod Properties

@@ -37,6 +37,11 @@ seatsOf s = written (s .plan .kinds) (seatOf s) (replicate 16 0)
 unfoldable pub worksFor : Unit → Kind → ℕ
 worksFor v k = cond (eqb (v .left) 0) 0 (k .project + 1)
 
+-- kind i's
+abbrev pub worksOf : State → ℕ → ℕ
+worksOf s i = worksFor (unitOf s i) (kindAt s i)
+
+-- what stands in an array at place k
 abbrev pub at : List ℕ → ℕ → ℕ
 at l k = getD l k 0
 
@@ -56,6 +61,10 @@ unfoldable pub seatBy : List ℕ → List ℕ → List ℕ → ℕ → ℕ → �
 seatBy works due low n i = cond (eqb (at works i) 0) 0 (seatAt (at low (at works i - 1) + rankBy works due n i) (at low (at works i)))
 
 -- ---- the row from the seats
+
+-- every card idle
+abbrev pub idle : ℕ → ℕ
+idle card = 0
 
 -- the bytes with each kind's number plus 1 stored at its card, for the kinds below n
 unfoldable pub seated : (ℕ → ℕ) → ℕ → List ℕ → List ℕ

@@ -9,11 +9,11 @@ use lib.ListN.{length}
 use Rattle.laws.specs.Written.{written}
 use Rattle.plan.specs.declared.answer.Answer.{Answer}
 use Rattle.plan.specs.declared.answer.Refusal.the-variants.{Bare}
-use Rattle.plan.specs.Answer.{refuse, _andThen_}
+use Rattle.plan.specs.Answer.{refuse, _andThen_, ifGood}
 use Rattle.rack.specs.declared.Unit.{Unit}
 use Rattle.rack.specs.declared.State.{State}
 use Rattle.rack.specs.declared.Next.{Next}
-use Rattle.rack.specs.State.{unitOf, ifGood, nextOf}
+use Rattle.rack.specs.State.{unitOf, nextOf}
 use Rattle.rack.specs.Form.{ready}
 use Rattle.rack.specs.Rank.{served}
 use Rattle.rack.specs.Row.{rowOver}

@@ -6,9 +6,9 @@ use lib.ListN.{getD, replicate}
 use Rattle.plan.specs.declared.Plan.{Plan}
 use Rattle.plan.specs.declared.Kind.{Kind}
 use Rattle.plan.specs.declared.answer.Answer.{Answer}
-use Rattle.plan.specs.declared.answer.Answer.the-variants.{Good, No}
 use Rattle.plan.specs.Record.{noPlan}
 use Rattle.plan.specs.Order.{kindOf}
+use Rattle.plan.specs.Answer.{ifGood}
 use Rattle.rack.specs.declared.Unit.{Unit}
 use Rattle.rack.specs.declared.State.{State}
 use Rattle.rack.specs.declared.Next.{Next}
@@ -33,11 +33,6 @@ unitOf s i = getD (s .unit) i noUnit
 -- kind i of the state's plan
 abbrev pub kindAt : State → ℕ → Kind
 kindAt s i = kindOf (s .plan) i
-
--- the new one after a good answer, and the old one after a refusal
-abbrev pub ifGood : {A : Type 0} → Answer → A → A → A
-ifGood Good new old = new
-ifGood (No r) new old = old
 
 -- "a refused slice or release gives back the state handed in"
 abbrev pub nextOf : Answer → State → State → Next

@@ -9,8 +9,10 @@ mod slice;
 
 ghost use mathlib.Core.Path.{_≡_};
 ghost use Rattle.rack.specs.State.{noUnit, freshOf, noState};
+ghost use Rattle.rack.specs.Start.{startOf};
 use plan::Answer;
 use plan::Plan;
+use verdict::judge;
 
 // A kind's last unit: whether there ever was one, the clock at its release, and the slices left.
 pub struct Unit {
@@ -34,7 +36,7 @@ pub struct Next {
 }
 
 impl Unit {
-    pub fn empty() -> Self
+    fn empty() -> Self
         ensures { λ r. ⌜ r ≡ noUnit ⌝ }
     {
         Unit {
@@ -57,6 +59,31 @@ impl State {
             plan,
             clock: 0,
             unit: [Unit::empty(); 16],
+        }
+    }
+
+    // The all-zero state.
+    pub fn empty() -> Self
+        ensures { λ r. ⌜ r ≡ noState ⌝ }
+    {
+        State::fresh(Plan::empty())
+    }
+
+    // The fresh state of a plan that is admitted.
+    pub fn start(plan: Plan) -> Next
+        ensures { λ r. ⌜ r ≡ startOf plan ⌝ }
+    {
+        let verdict = judge(plan);
+        let answer = verdict.answer;
+        let Answer::Good = answer else {
+            return Next {
+                answer,
+                state: State::empty(),
+            };
+        };
+        Next {
+            answer,
+            state: State::fresh(plan),
         }
     }
 }

@@ -11,7 +11,7 @@ ghost use lib.ListN.{length, replicate};
 ghost use Rattle.laws.specs.Written.{written};
 ghost use Rattle.plan.specs.Order.Properties.{InOrder};
 ghost use Rattle.rack.specs.Form.Properties.{Ready};
-ghost use Rattle.rack.specs.Seat.{at, worksFor, rankBy, seatAt, seatBy, lowest, seatsOf, seated};
+ghost use Rattle.rack.specs.Seat.{at, idle, worksFor, rankBy, seatAt, seatBy, lowest, seatsOf, seated};
 ghost use Rattle.rack.specs.Slice.{sliceAnswer, advanced, Sliced};
 use crate::Next;
 use crate::State;
@@ -103,4 +103,121 @@ fn lowest_cards(plan: Plan, clock: u32) -> [u8; 9]
         low[j + 1] = cards_below(cell, plan.frame, slice) as u8;
     }
     low
+}
+
+// No kind on any card yet.
+fn clear(out: &mut [u8], cards: usize)
+    requires { ⌜ cards ≤ length (now out) ⌝ }
+    ensures { λ _. ⌜ now (out .exit) ≡ written cards idle (now (out .entry)) ⌝ }
+{
+    for card in 0..cards {
+        out[card] = 0;
+    }
+}
+
+// Each kind's number plus 1 on the card where it sits.
+fn seat_kinds(out: &mut [u8], seat: &[u8; 16], kinds: usize)
+    requires { ⌜ (kinds ≤ 16) × ((k : ℕ) → at (now seat) k ≤ length (now out)) ⌝ }
+    ensures { λ _. ⌜ now (out .exit) ≡ seated (at (now (seat .entry))) kinds (now (out .entry)) ⌝ }
+{
+    for i in 0..kinds {
+        let number = seat[i] as usize;
+        if number == 0 {
+            continue;
+        }
+        out[number - 1] = i as u8 + 1;
+    }
+}
+
+impl Unit {
+    // For a kind with slices left its project plus 1; else 0.
+    fn works_for(self, kind: Kind) -> u8
+        requires { ⌜ kind .project < 8 ⌝ }
+        ensures { λ r. ⌜ r ≡ worksFor self kind ⌝ }
+    {
+        if self.left == 0 {
+            return 0;
+        }
+        kind.project + 1
+    }
+
+    // Release clock plus D.
+    fn due(self, kind: Kind) -> u32
+        requires { ⌜ self .at ≤ 1000000000 ⌝ }
+        ensures { λ r. ⌜ r ≡ self .at + kind .deadline ⌝ }
+    {
+        self.at + kind.deadline as u32
+    }
+}
+
+impl State {
+    // Where every kind sits in this slice.
+    fn seats(self) -> [u8; 16]
+        requires { ⌜ Ready self ⌝ }
+        ensures { λ r. ⌜ r ≡ seatsOf self ⌝ }
+    {
+        let plan = self.plan;
+        let kinds = plan.kinds as usize;
+        let mut works = [0u8; 16];
+        let mut due = [0u32; 16];
+        for i in 0..kinds {
+            works[i] = self.unit[i].works_for(plan.kind[i]);
+            due[i] = self.unit[i].due(plan.kind[i]);
+        }
+        let low = lowest_cards(plan, self.clock);
+        seats(&works, &due, &low, kinds)
+    }
+
+    // The state that follows: one slice less for each kind that sits, and the next clock.
+    fn advanced(mut self, seat: &[u8; 16]) -> Self
+        requires { ⌜ Ready self × (self .clock < 1000000000) × (now seat ≡ seatsOf self) ⌝ }
+        ensures { λ r. ⌜ r ≡ advanced self ⌝ }
+    {
+        let kinds = self.plan.kinds as usize;
+        for i in 0..kinds {
+            if seat[i] == 0 {
+                continue;
+            }
+            self.unit[i].left -= 1;
+        }
+        self.clock += 1;
+        self
+    }
+
+    // The record order, 10, 9, 11.
+    fn may_slice(self, room: usize) -> Answer
+        ensures { λ r. ⌜ r ≡ sliceAnswer self room ⌝ }
+    {
+        let checked = self.check();
+        let Answer::Good = checked else {
+            return checked;
+        };
+        let plan = self.plan;
+        if room < plan.cards as usize {
+            return Answer::No(Refusal::Bare(9));
+        }
+        if self.clock == State::LAST {
+            return Answer::No(Refusal::Bare(11));
+        }
+        Answer::Good
+    }
+
+    // Runs one slice: writes its row and hands back the state that follows.
+    pub fn slice(self, out: &mut [u8]) -> Next
+        ensures { λ r. ⌜ Sliced self (now (out .entry)) r (now (out .exit)) ⌝ }
+    {
+        let answer = self.may_slice(out.len());
+        let Answer::Good = answer else {
+            return Next {
+                answer,
+                state: self,
+            };
+        };
+        let plan = self.plan;
+        let seat = self.seats();
+        clear(out, plan.cards as usize);
+        seat_kinds(out, &seat, plan.kinds as usize);
+        let state = self.advanced(&seat);
+        Next { answer, state }
+    }
 }

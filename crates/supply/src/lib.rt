@@ -46,10 +46,10 @@ pub fn workload_part(separation: u16, length: u16, deadline: u16) -> u32
 }
 
 // The cards of one slice that count at this width.
-fn counted(width: u8, cards: u8) -> usize
+fn counted(width: u8, cards: u8) -> u16
     ensures { λ r. ⌜ (r ≡ min width cards) × (r ≤ 255) ⌝ }
 {
-    lesser(width as usize, cards as usize)
+    lesser(width as usize, cards as usize) as u16
 }
 
 fn least_with(place: usize, least: usize, value: usize) -> usize
@@ -112,17 +112,17 @@ pub fn least_fit(
     let mut excess: usize = 0;
     'widths: for below in 0..ceiling {
         let width = below + 1;
-        let mut one_frame: usize = 0;
+        let mut one_frame: u16 = 0;
         let mut least: usize = 0;
         for start in 0..slices {
-            let mut sum: usize = 0;
+            let mut sum: u16 = 0;
             for x in 0..rest {
                 sum += counted(width, cards[start + x]);
             }
-            least = least_with(start, least, sum);
+            least = least_with(start, least, sum as usize);
             one_frame += counted(width, cards[start]);
         }
-        let supply = product(frames, one_frame) + least;
+        let supply = product(frames, one_frame as usize) + least;
         let asked = asked(width, length, workload);
         if asked <= supply {
             found = width;

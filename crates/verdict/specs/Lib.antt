@@ -2,4 +2,6 @@
 -- Assumes nothing.
 pub mod Workload
 pub mod Verdict
+pub mod Admission
+pub mod Table
 pub mod Steps

@@ -224,3 +224,9 @@ in-order-good p o =
 -- what the record check answered, opened
 pub check-opened : (p : Plan) (r : Answer) → r ≡ Good → r ≡ checked p → InOrder p
 check-opened p r e q = in-order p (sym q ∙ e)
+
+pub check-projects : (p : Plan) (r : Answer) → r ≡ Good → r ≡ checked p → p .projects ≤ 8
+check-projects p r e q = check-opened p r e q .counts .projects-most
+
+pub check-kinds : (p : Plan) (r : Answer) → r ≡ Good → r ≡ checked p → p .kinds ≤ 16
+check-kinds p r e q = check-opened p r e q .counts .kinds-most

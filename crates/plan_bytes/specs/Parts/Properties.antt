@@ -129,5 +129,5 @@ unfolding decoded
 plan-placed s p projects kinds e f g =
     let a : projects ≡ projectsFrom (headed s .projects) (drop 3 s) = f ∙ ap (projectsFrom (p .projects)) (handed-on s 3) ∙ ap (λ (q : Plan). projectsFrom (q .projects) (drop 3 s)) e in
     let b : kinds ≡ kindsFrom (headed s .kinds) (drop (3 + 2 * headed s .projects) s) =
-        g ∙ ap (kindsFrom (p .kinds)) (handed-on s (3 + 2 * p .projects)) ∙ ap (λ (q : Plan). kindsFrom (q .kinds) (drop (3 + 2 * q .projects) s)) e in
+    g ∙ ap (kindsFrom (p .kinds)) (handed-on s (3 + 2 * p .projects)) ∙ ap (λ (q : Plan). kindsFrom (q .kinds) (drop (3 + 2 * q .projects) s)) e in
     λ i. record { cards = e i .cards; projects = e i .projects; kinds = e i .kinds; frame = e i .frame; project = a i; kind = b i }

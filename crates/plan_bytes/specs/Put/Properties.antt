@@ -8,7 +8,12 @@ use native.Mathlib.Numerals.{add-one}
 use native.Mathlib.Omega.{arith}
 use lib.ListN.{length, take, drop, length-append, length-drop}
 use lib.Seq.{sets, sets-eq, length-sets, take-at, drop-append-add, drop-drop}
-use Rattle.plan_bytes.specs.Parts.{partsTo}
+use Rattle.plan.specs.declared.Project.{Project}
+use Rattle.plan.specs.declared.Kind.{Kind}
+use Rattle.plan.specs.declared.Plan.{Plan}
+use Rattle.plan.specs.Order.{projectOf, kindOf}
+use Rattle.plan_bytes.specs.Bytes.Properties.{bytes-length}
+use Rattle.plan_bytes.specs.Parts.{partsTo, headerBytes, projectBytes, kindBytes, projectBytesAt, kindBytesAt, encoded, size}
 use Rattle.plan_bytes.specs.Put.{putTo}
 
 -- ---- the steps of a loop
@@ -42,7 +47,7 @@ front-sets xs vs e l n p q r =
     let m : length l ≡ length e = ap length q ∙ length-append xs (drop n e) ∙ omega (arith, length-drop n e) in
     let a : take n l ≡ xs = ap (take n) q ∙ take-at xs (drop n e) n p in
     let b : drop (n + length vs) l ≡ drop (n + length vs) e =
-        ap (drop (n + length vs)) q ∙ ap (λ (k : ℕ). drop (k + length vs) (xs ++ drop n e)) (sym p) ∙ drop-append-add xs (drop n e) (length vs) ∙ drop-drop (length vs) n e in
+    ap (drop (n + length vs)) q ∙ ap (λ (k : ℕ). drop (k + length vs) (xs ++ drop n e)) (sym p) ∙ drop-append-add xs (drop n e) (length vs) ∙ drop-drop (length vs) n e in
     sets-eq vs l n (omega arith) ∙ ap₂ (λ (x y : List ℕ). x ++ vs ++ y) a b
 
 -- the same with parts
@@ -59,3 +64,31 @@ front-put (suc m) f width xs e l n h p q r =
     let w = h m in
     front-sets (xs ++ partsTo m f) (f m) e (putTo m f n width l) (n + width * m) k i (omega arith)
     ∙ ap₂ (λ (x : List ℕ) (j : ℕ). x ++ drop j e) (append-assoc xs (partsTo m f) (f m)) (let z : n + width * m + length (f m) ≡ n + width * suc m = omega arith in z)
+
+-- ---- a plan's parts
+
+pub header-length : (p : Plan) → length (headerBytes p) ≡ 3
+unfolding headerBytes
+header-length p = bytes-length 3 _
+
+pub project-length : (v : Project) → length (projectBytes v) ≡ 2
+unfolding projectBytes
+project-length v = bytes-length 2 _
+
+pub kind-length : (v : Kind) → length (kindBytes v) ≡ 5
+unfolding kindBytes
+kind-length v = bytes-length 5 _
+
+-- the header, the projects and the unit kinds, stored in that order, are the plan's bytes before what was there
+pub put-plan : (p : Plan) (out a b after : List ℕ) → size p ≤ length out → a ≡ sets out 0 (headerBytes p) → b ≡ putTo (p .projects) (projectBytesAt p) 3 2 a → after ≡ putTo (p .kinds) (kindBytesAt p) (3 + 2 * p .projects) 5 b
+    → after ≡ encoded p ++ drop (size p) out
+unfolding encoded size
+put-plan p out a b after l e f g =
+    let h = header-length p in
+    let n : 0 + length (headerBytes p) ≡ 3 = omega arith in
+    let x : a ≡ headerBytes p ++ drop 3 out = e ∙ front-sets [] (headerBytes p) out out 0 refl refl (omega arith) ∙ ap (λ (k : ℕ). headerBytes p ++ drop k out) n in
+    let y : b ≡ headerBytes p ++ partsTo (p .projects) (projectBytesAt p) ++ drop (3 + 2 * p .projects) out =
+    f ∙ front-put (p .projects) (projectBytesAt p) 2 (headerBytes p) out a 3 (λ j. project-length (projectOf p j)) h x (omega arith) in
+    let k : length (headerBytes p ++ partsTo (p .projects) (projectBytesAt p)) ≡ 3 + 2 * p .projects =
+    length-append (headerBytes p) (partsTo (p .projects) (projectBytesAt p)) ∙ omega (arith, parts-length (p .projects) (projectBytesAt p) 2 (λ j. project-length (projectOf p j))) in
+    g ∙ front-put (p .kinds) (kindBytesAt p) 5 (headerBytes p ++ partsTo (p .projects) (projectBytesAt p)) out b (3 + 2 * p .projects) (λ i. kind-length (kindOf p i)) k y (omega arith)

@@ -62,7 +62,7 @@ unfolding placesSpare
 places-spare s p a b r e f g h =
     let x : a ≡ projectsSpare (headed s .projects) (drop 3 s) = f ∙ ap (projectsSpare (p .projects)) (handed-on s 3) ∙ ap (λ (q : Plan). projectsSpare (q .projects) (drop 3 s)) e in
     let y : b ≡ kindsSpare (headed s .kinds) (drop (3 + 2 * headed s .projects) s) =
-        g ∙ ap (kindsSpare (p .kinds)) (handed-on s (3 + 2 * p .projects)) ∙ ap (λ (q : Plan). kindsSpare (q .kinds) (drop (3 + 2 * q .projects) s)) e in
+    g ∙ ap (kindsSpare (p .kinds)) (handed-on s (3 + 2 * p .projects)) ∙ ap (λ (q : Plan). kindsSpare (q .kinds) (drop (3 + 2 * q .projects) s)) e in
     h ∙ ap₂ _&&_ x y
 
 -- ---- the decoded plan's places beyond the counts hold zeros, so that the record check adds nothing before 4
@@ -77,12 +77,17 @@ decoded-tidy s = rw (all-of 8 (tidyProject (decoded s)) project, all-of 16 (tidy
   where
     project : (j : ℕ) → j < 8 → tidyProject (decoded s) j ≡ true
     project j l =
-        elim (decLt j (headed s .projects)) [ yes q ↦ used-place j (headed s .projects) (headed s .projects) (emptyProject (projectOf (decoded s) j)) refl q
-        | no q ↦ kept-empty j (headed s .projects) (emptyProject (projectOf (decoded s) j)) (ap emptyProject (written-kept (headed s .projects) (λ k. projectFrom (projectAt (afterHeader s) k)) (replicate 8 noProject) noProject j (omega arith) ∙ getD-replicate 8 j noProject noProject l) ∙ no-project-empty) ]
+        elim (decLt j (headed s .projects)) [
+          | yes q ↦ used-place j (headed s .projects) (headed s .projects) (emptyProject (projectOf (decoded s) j)) refl q
+          | no q ↦ kept-empty j (headed s .projects) (emptyProject (projectOf (decoded s) j)) (ap emptyProject (written-kept (headed s .projects) (λ k. projectFrom (projectAt (afterHeader s) k)) (replicate 8 noProject) noProject j (omega arith) ∙ getD-replicate 8 j noProject noProject l) ∙ no-project-empty)
+        ]
+
     kind : (i : ℕ) → i < 16 → tidyKind (decoded s) i ≡ true
     kind i l =
-        elim (decLt i (headed s .kinds)) [ yes q ↦ used-place i (headed s .kinds) (headed s .kinds) (emptyKind (kindOf (decoded s) i)) refl q
-        | no q ↦ kept-empty i (headed s .kinds) (emptyKind (kindOf (decoded s) i)) (ap emptyKind (written-kept (headed s .kinds) (λ k. kindFrom (kindAt (afterProjects s) k)) (replicate 16 noKind) noKind i (omega arith) ∙ getD-replicate 16 i noKind noKind l) ∙ no-kind-empty) ]
+        elim (decLt i (headed s .kinds)) [
+          | yes q ↦ used-place i (headed s .kinds) (headed s .kinds) (emptyKind (kindOf (decoded s) i)) refl q
+          | no q ↦ kept-empty i (headed s .kinds) (emptyKind (kindOf (decoded s) i)) (ap emptyKind (written-kept (headed s .kinds) (λ k. kindFrom (kindAt (afterProjects s) k)) (replicate 16 noKind) noKind i (omega arith) ∙ getD-replicate 16 i noKind noKind l) ∙ no-kind-empty)
+        ]
 
 pub decoded-checked : (s : List ℕ) → sizes (headed s) ≡ Good → checked (decoded s) ≡ ranges (decoded s)
 unfolding checked

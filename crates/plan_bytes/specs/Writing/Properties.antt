@@ -1,2 +1,41 @@
 -- Laws of writing.
 -- Assumes nothing.
+use mathlib.Core.Path.{_≡_, refl, sym, ap, ap₂, _∙_}
+use mathlib.Core.List.{List, _++_}
+use Prim.Native.Nat.{ℕ, _≤_, _<_}
+use lib.ListN.{length, drop}
+use native.Mathlib.Omega.{arith}
+use lib.Dec.{ltb}
+use borrow.Author.Tests.{lt-ltb, le-ltb}
+use Rattle.plan.specs.declared.Plan.{Plan}
+use Rattle.plan.specs.declared.answer.Answer.{Answer}
+use Rattle.plan.specs.declared.answer.Answer.the-variants.{Good, No}
+use Rattle.plan.specs.declared.answer.Refusal.{Refusal}
+use Rattle.plan.specs.declared.answer.Refusal.the-variants.{Bare}
+use Rattle.plan.specs.Answer.{refuse, _andThen_, ifGood}
+use Rattle.plan.specs.Answer.Properties.{opened-no, opened-on}
+use Rattle.plan.specs.Order.{checked}
+use Rattle.plan_bytes.specs.declared.Written.{Written}
+use Rattle.plan_bytes.specs.Parts.{encoded, size}
+use Rattle.plan_bytes.specs.Writing.{writeAnswer, counted, Writes}
+
+-- a refusal: no byte is counted, and none is written
+refused-writes : (p : Plan) (out : List ℕ) (a : Answer) (w : Refusal) → a ≡ No w → a ≡ writeAnswer p out → Writes p out (record { answer = a; count = 0 }) out
+refused-writes p out a w e q =
+    let z : writeAnswer p out ≡ No w = sym q ∙ e in
+    record { result = rw (e, z); buffer = rw z }
+
+pub write-unchecked : (p : Plan) (out : List ℕ) (a : Answer) (w : Refusal) → a ≡ No w → a ≡ checked p → Writes p out (record { answer = a; count = 0 }) out
+unfolding writeAnswer
+write-unchecked p out a w e q = refused-writes p out a w e (opened-no a (checked p) (refuse (ltb (length out) (size p)) (Bare 9)) w e q)
+
+pub write-short : (p : Plan) (out : List ℕ) (a : Answer) (n : ℕ) → a ≡ Good → a ≡ checked p → n ≡ size p → length out < n → Writes p out (record { answer = No (Bare 9); count = 0 }) out
+unfolding writeAnswer
+write-short p out a n e q s l =
+    refused-writes p out (No (Bare 9)) (Bare 9) refl (opened-on a (checked p) (refuse (ltb (length out) (size p)) (Bare 9)) (No (Bare 9)) e q (rw (lt-ltb (length out) (size p) (omega arith))))
+
+pub write-good : (p : Plan) (out after : List ℕ) (a : Answer) (n : ℕ) → a ≡ Good → a ≡ checked p → n ≡ size p → n ≤ length out → after ≡ encoded p ++ drop (size p) out → Writes p out (record { answer = Good; count = n }) after
+unfolding writeAnswer
+write-good p out after a n e q s l f =
+    let z : Good ≡ writeAnswer p out = opened-on a (checked p) (refuse (ltb (length out) (size p)) (Bare 9)) Good e q (rw (le-ltb (length out) (size p) (omega arith))) in
+    record { result = rw (← z, s); buffer = rw (← z) f }

@@ -144,11 +144,15 @@ module _ (s : State) where
 
   -- ---- earliest deadline first
 
+  -- the lower rank of two kinds of a project outranks the other
+  pub rank-above : (i k : ℕ) → k < s .plan .kinds → project i ≡ project k → working s k ≡ true → rank s i < rank s k → outranks s i k ≡ true
+  unfolding rank
+  rank-above i k l e w h =
+      above-of-rank (s .plan .kinds) (active s (project i)) (outranks s) ranked i k l (active-of (project i) k (sym e) w) (omega (arith, h, ap (λ (j : ℕ). rankIn (s .plan .kinds) (active s j) (outranks s) k) e))
+
   -- one that is served outranks every one of its project that has slices left and is not
   pub served-first : (i k : ℕ) → k < s .plan .kinds → project i ≡ project k → served s i ≡ true → working s k ≡ true → served s k ≡ false → outranks s i k ≡ true
-  unfolding rank
-  served-first i k l e p w u =
-      above-of-rank (s .plan .kinds) (active s (project i)) (outranks s) ranked i k l (active-of (project i) k (sym e) w) (omega (arith, served-rank i p, unserved-rank k w u, ap cards e, ap (λ (j : ℕ). rankIn (s .plan .kinds) (active s j) (outranks s) k) e))
+  served-first i k l e p w u = rank-above i k l e w (omega (arith, served-rank i p, unserved-rank k w u, ap cards e))
 
   -- a slice serves as many kinds of a project as it holds cards, or all that have slices left
   pub served-count : (j : ℕ) → countTo (s .plan .kinds) (λ i. eqb (project i) j && served s i) ≡ min (cards j) (activeKinds s j)

@@ -3,12 +3,17 @@
 use mathlib.Core.Path.{_≡_, refl, sym, ap, _∙_}
 use mathlib.Core.Bool.{Bool, true, false, not, _&&_, true≢false}
 use Prim.Native.Nat.{ℕ, _≤_, _<_}
+use mathlib.Core.Logic.{_≢_}
+use native.Mathlib.Decide.{ℕ-discrete}
 use native.Mathlib.Omega.{arith}
 use lib.Dec.{ltb, eqb}
+use lib.ListN.{length, length-set}
+use lib.Seq.{getD-set-same, getD-set-other}
 use borrow.Author.Tests.{lt-ltb, le-ltb, eq-eqb, ltb-true, ltb-false, eqb-true, not-true, not-false}
 use Rattle.plan.specs.declared.Kind.{Kind}
 use Rattle.plan.specs.declared.answer.Answer.{Answer}
-use Rattle.plan.specs.declared.answer.Answer.the-variants.{Good}
+use Rattle.plan.specs.declared.answer.Answer.the-variants.{Good, No}
+use Rattle.plan.specs.declared.answer.Refusal.{Refusal}
 use Rattle.plan.specs.declared.answer.Refusal.the-variants.{Bare}
 use Rattle.plan.specs.Answer.{refuse, _andThen_}
 use Rattle.plan.specs.Answer.Properties.{andThen-left, andThen-right, refuse-good}
@@ -16,11 +21,12 @@ use Rattle.plan.specs.Order.{within}
 use Rattle.plan.specs.Order.Properties.{within-low, within-high, within-of}
 use Rattle.rack.specs.declared.Unit.{Unit}
 use Rattle.rack.specs.declared.State.{State}
-use Rattle.rack.specs.State.{unitOf, kindAt}
+use Rattle.rack.specs.State.{noUnit, unitOf, kindAt}
+use Rattle.rack.specs.State.Properties.{refused-keeps}
 use Rattle.rack.specs.Form.{ready}
-use Rattle.rack.specs.Form.Properties.{Ready, ready-says, ready-of}
+use Rattle.rack.specs.Form.Properties.{Ready, UnitInForm, ready-says, ready-of}
 use Rattle.rack.specs.Rank.{gone}
-use Rattle.rack.specs.Release.{early, startable, releaseAnswer}
+use Rattle.rack.specs.Release.{early, startable, releaseAnswer, released, releaseOf}
 
 -- ---- "fewer than T slices ago"
 
@@ -102,3 +108,46 @@ release-length s i e r g q =
     let o = release-opened s i e r g q in
     let k = o .ready .order .kind-at i (o .its-kind) in
     omega (arith, o .start .length-most, k .length-most, k .deadline-most, k .separation-most)
+
+-- ---- a refusal changes nothing
+
+pub release-refused : (s : State) (i e : ℕ) (w : Refusal) → releaseOf s i e .answer ≡ No w → releaseOf s i e .state ≡ s
+unfolding releaseOf
+release-refused s i e w h = refused-keeps (releaseAnswer s i e) w (released s i e) s h
+
+-- ---- the state that it leaves is in form
+
+module _ (s : State) (i e : ℕ) (r : Releasable s i e) (places : length (s .unit) ≡ 16) where
+  pub release-unit : unitOf (released s i e) i ≡ record { released = true; at = s .clock; left = e }
+  unfolding released
+  release-unit = getD-set-same (s .unit) i (record { released = true; at = s .clock; left = e }) noUnit (omega (arith, r .its-kind, r .ready .order .counts .kinds-most))
+
+  pub release-others : (k : ℕ) → k ≢ i → unitOf (released s i e) k ≡ unitOf s k
+  unfolding released
+  release-others k z = getD-set-other (s .unit) i k (record { released = true; at = s .clock; left = e }) noUnit z
+
+  pub release-places : length (released s i e .unit) ≡ 16
+  unfolding released
+  release-places = length-set (s .unit) i (record { released = true; at = s .clock; left = e }) ∙ places
+
+  form-at : (k : ℕ) → UnitInForm (s .clock) (kindAt s k .length) (unitOf s k) → Dec (k ≡ i) → UnitInForm (s .clock) (kindAt s k .length) (unitOf (released s i e) k)
+  form-at k u (yes z) =
+      let v : unitOf (released s i e) k ≡ record { released = true; at = s .clock; left = e } = ap (λ (x : ℕ). unitOf (released s i e) x) z ∙ release-unit in
+      let c : kindAt s k .length ≡ kindAt s i .length = ap (λ (x : ℕ). kindAt s x .length) z in
+      rw v (record {
+        release-clock = omega arith;
+        left-most = omega (arith, r .start .length-most);
+        never = λ n. absurd (true≢false n);
+      })
+  form-at k u (no z) = rw (release-others k z) u
+
+  pub release-form : Ready (released s i e)
+  unfolding released
+  release-form = record {
+    order = r .ready .order;
+    form = record {
+      clock-most = r .ready .form .clock-most;
+      unit-at = λ k l m. form-at k (r .ready .form .unit-at k l m) (ℕ-discrete k i);
+      unused = λ k l m. release-others k (λ z. omega (arith, r .its-kind)) ∙ r .ready .form .unused k l m;
+    };
+  }

@@ -1,12 +1,18 @@
 -- Laws of what a call hands back.
 -- Assumes nothing.
 use mathlib.Core.Path.{_≡_, refl, sym, ap, _∙_}
+use Rattle.plan.specs.declared.Plan.{Plan}
 use Rattle.plan.specs.declared.answer.Answer.{Answer}
 use Rattle.plan.specs.declared.answer.Answer.the-variants.{Good, No}
 use Rattle.plan.specs.declared.answer.Refusal.{Refusal}
+use Rattle.plan.specs.Record.{noPlan}
 use Rattle.rack.specs.declared.State.{State}
 use Rattle.rack.specs.declared.Next.{Next}
-use Rattle.rack.specs.State.{ifGood, nextOf}
+use Rattle.rack.specs.State.{freshOf, noState, nextOf}
+
+-- "an all-zero state"
+pub fresh-empty : (s : State) (p : Plan) → s ≡ freshOf p → p ≡ noPlan → s ≡ noState
+fresh-empty s p e q = e ∙ ap (λ (x : Plan). freshOf x) q
 
 -- ---- a call's exits: r is what its tests answered, and a what they should
 

@@ -100,6 +100,10 @@ loop2-less c = search needs
 loop2-again : tie.Need-loop2-again Inv-loop2 μ-loop2 Inv-loop μ-loop Inv-widths μ-widths
 loop2-again c = (omega arith, window-again _ _ _ (c .before .before .before .before .before .before .before .before .before .if1 .left) (c .before .before .before .before .before .before .before .before .if2 .left) (c .before .before .before .before .before .before .before .two-frames .ensures) _ _ _ _ _ _ (c .before .before .loop2 .inv .1) (c .before .before .before .loop-test .taken) (c .before .loop2-test .taken) (c .before .before .before .before .before .before .widths .inv .0) (c .counted .ensures .0), omega arith)
 
+-- src/lib.rt:122:46
+cast-least-with : tie.Need-cast-least-with Inv-loop2 μ-loop2 Inv-loop μ-loop Inv-widths μ-widths
+cast-least-with c = search needs
+
 -- src/lib.rt:122:13
 least-with-requires :
     tie.Need-least-with-requires Inv-loop2 μ-loop2 Inv-loop μ-loop Inv-widths μ-widths
@@ -131,6 +135,10 @@ loop-less c = search needs
 loop-again : tie.Need-loop-again Inv-loop2 μ-loop2 Inv-loop μ-loop Inv-widths μ-widths
 loop-again c = (omega arith, search frame-again, search supply-again, omega arith, omega arith)
 
+-- src/lib.rt:125:38
+cast-product : tie.Need-cast-product Inv-loop2 μ-loop2 Inv-loop μ-loop Inv-widths μ-widths
+cast-product c = search needs
+
 -- src/lib.rt:125:22
 product-requires : tie.Need-product-requires Inv-loop2 μ-loop2 Inv-loop μ-loop Inv-widths μ-widths
 product-requires c κs = (omega (arith, div-le-self (c .before .before .before .before .before .before .before .args .deadline) (c .before .before .before .before .before .before .before .args .frame)), omega arith)
@@ -144,8 +152,9 @@ asked-requires : tie.Need-asked-requires Inv-loop2 μ-loop2 Inv-loop μ-loop Inv
 asked-requires c κs = search needs
 
 -- src/lib.rt:132:29
-cast-least-with : tie.Need-cast-least-with Inv-loop2 μ-loop2 Inv-loop μ-loop Inv-widths μ-widths
-cast-least-with c = search needs
+cast-least-with-2 :
+    tie.Need-cast-least-with-2 Inv-loop2 μ-loop2 Inv-loop μ-loop Inv-widths μ-widths
+cast-least-with-2 c = search needs
 
 -- src/lib.rt:132:53
 sub-least-with : tie.Need-sub-least-with Inv-loop2 μ-loop2 Inv-loop μ-loop Inv-widths μ-widths
@@ -202,6 +211,7 @@ least-fit-spec =
     add-x
     loop2-less
     loop2-again
+    cast-least-with
     least-with-requires
     array-read-counted-2
     counted-requires-2
@@ -209,10 +219,11 @@ least-fit-spec =
     add-start
     loop-less
     loop-again
+    cast-product
     product-requires
     add-supply
     asked-requires
-    cast-least-with
+    cast-least-with-2
     sub-least-with
     least-with-requires-2
     add-below

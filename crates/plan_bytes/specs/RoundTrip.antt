@@ -1,0 +1,37 @@
+-- Reading and writing are inverse, so that each plan in order has exactly one encoding, and reading looks at nothing past it.
+-- Assumes nothing.
+use mathlib.Core.Path.{_≡_, refl, sym, ap, ap₂, _∙_}
+use mathlib.Core.List.{List, _++_}
+use Prim.Native.Nat.{ℕ}
+use lib.ListN.{length, take}
+use Rattle.plan.specs.declared.Plan.{Plan}
+use Rattle.plan.specs.declared.answer.Answer.the-variants.{Good}
+use Rattle.plan.specs.Order.{checked}
+use Rattle.plan_bytes.specs.declared.Reading.{Reading}
+use Rattle.plan_bytes.specs.Bytes.{AreBytes}
+use Rattle.plan_bytes.specs.Parts.{Shaped, encoded, size}
+use Rattle.plan_bytes.specs.Reading.{readOf}
+use Rattle.plan_bytes.specs.RoundTrip.Reads.{read-encoded}
+use Rattle.plan_bytes.specs.RoundTrip.Writes.{encoded-read, read-shaped, read-checked, read-size}
+pub mod Reads
+pub mod Writes
+
+-- reading what was written, whatever follows it, gives the same plan and the count
+pub read-written : (p : Plan) → Shaped p → checked p ≡ Good → (rest : List ℕ) → readOf (encoded p ++ rest) ≡ record { answer = Good; plan = p; taken = size p }
+read-written = read-encoded
+
+-- writing what was read gives the same bytes
+pub written-read : (s : List ℕ) → AreBytes s → readOf s .answer ≡ Good → encoded (readOf s .plan) ≡ take (readOf s .taken) s
+written-read = encoded-read
+
+-- what is read as a plan is that plan's encoding: two byte strings that read as the same plan agree on the bytes taken
+pub one-encoding : (s t : List ℕ) → AreBytes s → AreBytes t → readOf s .answer ≡ Good → readOf t .answer ≡ Good → readOf s .plan ≡ readOf t .plan → take (readOf s .taken) s ≡ take (readOf t .taken) t
+one-encoding s t a b e f g = sym (written-read s a e) ∙ ap encoded g ∙ written-read t b f
+
+-- "what follows them is never looked at": the answer depends on the bytes taken only
+pub taken-only : (s rest : List ℕ) → AreBytes s → readOf s .answer ≡ Good → readOf (take (readOf s .taken) s ++ rest) ≡ readOf s
+taken-only s rest a e =
+    ap (λ (x : List ℕ). readOf (x ++ rest)) (sym (written-read s a e)) ∙ read-written (readOf s .plan) (read-shaped s e) (read-checked s e) rest ∙ sym (whole (readOf s) e (read-size s e))
+  where
+    whole : (r : Reading) → r .answer ≡ Good → r .taken ≡ size (r .plan) → r ≡ record { answer = Good; plan = r .plan; taken = size (r .plan) }
+    whole r p q = λ i. record { answer = p i; plan = r .plan; taken = q i }

@@ -1,0 +1,181 @@
+-- Writing what was read gives the same bytes.
+-- Assumes nothing.
+use mathlib.Core.Path.{_≡_, refl, sym, ap, ap₂, _∙_}
+use mathlib.Core.Bool.{Bool, true, false, not, _&&_}
+use mathlib.Core.List.{List, [], _∷_, _++_}
+use Prim.Native.Nat.{ℕ, zero, suc, _+_, _*_, _%_, _^_, _≤_, _<_}
+use native.Mathlib.Nat.{mod-eq-of-lt, mul-suc, mul-zero}
+use native.Mathlib.Omega.{arith}
+use lib.Dec.{ltb, eqb}
+use lib.ListN.{length, getD, take, drop, replicate, length-replicate, length-drop}
+use lib.Seq.{getD-drop, take-add, drop-drop}
+use borrow.Author.Tests.{eqb-true, ltb-false, not-false}
+use Rattle.laws.specs.Tests.{and-left, and-right}
+use Rattle.laws.specs.All.Properties.{all-at}
+use Rattle.laws.specs.Written.Properties.{written-at, written-length}
+use Rattle.plan.specs.declared.Project.{Project}
+use Rattle.plan.specs.declared.Kind.{Kind}
+use Rattle.plan.specs.declared.Plan.{Plan}
+use Rattle.plan.specs.declared.answer.Answer.{Answer}
+use Rattle.plan.specs.declared.answer.Answer.the-variants.{Good, No}
+use Rattle.plan.specs.declared.answer.Refusal.the-variants.{Bare}
+use Rattle.plan.specs.Record.{noProject, noKind, noPlan}
+use Rattle.plan.specs.Answer.{refuse, _andThen_, ifGood}
+use Rattle.plan.specs.Answer.Properties.{andThen-left, andThen-right, refuse-good}
+use Rattle.plan.specs.Order.{projectOf, kindOf, sizes, ranges, checked}
+use Rattle.plan.specs.Order.Properties.{Sized, sizes-says}
+use Rattle.plan_bytes.specs.Pack.{bits, pack, unpack}
+use Rattle.plan_bytes.specs.Pack.Properties.{pack-unpack}
+use Rattle.plan_bytes.specs.Bytes.{numberTo, bytesOf, AreBytes}
+use Rattle.plan_bytes.specs.Bytes.Properties.{number-bound, bytes-number}
+use Rattle.plan_bytes.specs.Parts.{Shaped, headerWidths, projectWidths, kindWidths, headerBytes, projectBytes, kindBytes, projectBytesAt, kindBytesAt, partsTo, encoded, headerFields, projectFields, kindFields, projectFrom, kindFrom, projectAt, kindAt, projectsFrom, kindsFrom, headed, afterHeader, afterProjects, decoded, size}
+use Rattle.plan_bytes.specs.Reading.{headerSpare, projectSpare, kindSpare, projectsSpare, kindsSpare, placesSpare, spareZero, bodyAnswer, readAnswer, reading, readOf}
+use Rattle.plan_bytes.specs.Reading.Properties.{decoded-checked}
+
+-- ---- what a good answer says, stage by stage
+
+pub record ReadGood (s : List ℕ) : Type 0 where
+  pub counts : sizes (headed s) ≡ Good
+  pub long : size (headed s) ≤ length s
+  pub spare : spareZero s ≡ true
+  pub in-range : ranges (decoded s) ≡ Good
+
+pub read-good : (s : List ℕ) → readAnswer s ≡ Good → ReadGood s
+unfolding readAnswer bodyAnswer
+read-good s e =
+    let one = refuse (ltb (length s) 3) (Bare 1) in
+    let short = refuse (ltb (length s) (size (headed s))) (Bare 1) in
+    let three = refuse (not (spareZero s)) (Bare 3) in
+    let a = andThen-right one (sizes (headed s) andThen bodyAnswer s) e in
+    let b = andThen-right (sizes (headed s)) (bodyAnswer s) a in
+    let c = andThen-right short (three andThen ranges (decoded s)) b in
+    record {
+      counts = andThen-left (sizes (headed s)) (bodyAnswer s) a;
+      long = ltb-false (length s) (size (headed s)) (refuse-good (ltb (length s) (size (headed s))) (Bare 1) (andThen-left short (three andThen ranges (decoded s)) b));
+      spare = not-false (spareZero s) (refuse-good (not (spareZero s)) (Bare 3) (andThen-left three (ranges (decoded s)) c));
+      in-range = andThen-right three (ranges (decoded s)) c;
+    }
+
+answer-is : (s : List ℕ) → readOf s .answer ≡ Good → readAnswer s ≡ Good
+unfolding readOf
+answer-is s e = e
+
+plan-is : (s : List ℕ) → readAnswer s ≡ Good → readOf s .plan ≡ decoded s
+unfolding readOf
+plan-is s e = rw e
+
+taken-is : (s : List ℕ) → readAnswer s ≡ Good → readOf s .taken ≡ size (headed s)
+unfolding readOf
+taken-is s e = rw e
+
+-- ---- what was read is a plan in order, of the language's type, and as long as it says
+
+pub read-checked : (s : List ℕ) → readOf s .answer ≡ Good → checked (readOf s .plan) ≡ Good
+read-checked s e =
+    let g = read-good s (answer-is s e) in
+    ap checked (plan-is s (answer-is s e)) ∙ decoded-checked s (g .counts) ∙ g .in-range
+
+pub read-shaped : (s : List ℕ) → readOf s .answer ≡ Good → Shaped (readOf s .plan)
+unfolding decoded projectsFrom kindsFrom
+read-shaped s e =
+    rw (plan-is s (answer-is s e))
+    (record {
+      eight = written-length (headed s .projects) (λ j. projectFrom (projectAt (afterHeader s) j)) (replicate 8 noProject);
+      sixteen = written-length (headed s .kinds) (λ i. kindFrom (kindAt (afterProjects s) i)) (replicate 16 noKind);
+    })
+
+pub read-size : (s : List ℕ) → readOf s .answer ≡ Good → readOf s .taken ≡ size (readOf s .plan)
+unfolding size decoded
+read-size s e = taken-is s (answer-is s e) ∙ sym (ap size (plan-is s (answer-is s e)))
+
+-- ---- the parts, one by one
+
+bytes-drop : (s : List ℕ) (a : ℕ) → AreBytes s → AreBytes (drop a s)
+bytes-drop s a b i = rw (getD-drop a s i 0) (b (a + i))
+
+-- a part whose fields were read off a number, and whose spare bits are zero, is that number's bytes
+repacked : (ws : List ℕ) (n : ℕ) (s : List ℕ) → AreBytes s → n ≤ length s → 2 ^ bits ws ≡ 256 ^ n → bytesOf n (pack ws (unpack ws (numberTo n s))) ≡ take n s
+repacked ws n s b l e =
+    ap (bytesOf n) (pack-unpack ws (numberTo n s) ∙ ap (λ (k : ℕ). numberTo n s % k) e ∙ mod-eq-of-lt (number-bound n s b)) ∙ bytes-number n s b l
+
+header-same : (s : List ℕ) → AreBytes s → 3 ≤ length s → headerSpare s ≡ 0 → headerBytes (headed s) ≡ take 3 s
+unfolding headerBytes headed headerSpare headerFields unpack bits
+header-same s b l e = ap (λ (z : ℕ). bytesOf 3 (pack headerWidths (getD (headerFields s) 0 0 ∷ getD (headerFields s) 1 0 ∷ getD (headerFields s) 2 0 ∷ getD (headerFields s) 3 0 ∷ z ∷ []))) (sym e) ∙ repacked headerWidths 3 s b l refl
+
+project-same : (s : List ℕ) → AreBytes s → 2 ≤ length s → projectSpare s ≡ 0 → projectBytes (projectFrom s) ≡ take 2 s
+unfolding projectBytes projectFrom projectSpare projectFields unpack bits
+project-same s b l e = ap (λ (z : ℕ). bytesOf 2 (pack projectWidths (getD (projectFields s) 0 0 ∷ getD (projectFields s) 1 0 ∷ z ∷ []))) (sym e) ∙ repacked projectWidths 2 s b l refl
+
+kind-same : (s : List ℕ) → AreBytes s → 5 ≤ length s → kindSpare s ≡ 0 → kindBytes (kindFrom s) ≡ take 5 s
+unfolding kindBytes kindFrom kindSpare kindFields unpack bits
+kind-same s b l e = ap (λ (z : ℕ). bytesOf 5 (pack kindWidths (getD (kindFields s) 0 0 ∷ getD (kindFields s) 1 0 ∷ getD (kindFields s) 2 0 ∷ getD (kindFields s) 3 0 ∷ z ∷ []))) (sym e) ∙ repacked kindWidths 5 s b l refl
+
+-- parts cut out one after the other are the front
+parts-front : (n w : ℕ) (f : ℕ → List ℕ) (s : List ℕ) → ((i : ℕ) → i < n → f i ≡ take w (drop (w * i) s)) → partsTo n f ≡ take (w * n) s
+unfolding partsTo
+parts-front zero w f s h = rw (mul-zero w)
+parts-front (suc n) w f s h =
+    ap₂ _++_ (parts-front n w f s (λ i l. h i (omega arith))) (h n (omega arith)) ∙ sym (take-add (w * n) w s) ∙ ap (λ (k : ℕ). take k s) (sym (mul-suc w n))
+
+-- ---- the whole
+
+module _ (s : List ℕ) (b : AreBytes s) (good : ReadGood s) where
+  counts : Sized (headed s)
+  counts = sizes-says (headed s) (good .counts)
+
+  header-spare : headerSpare s ≡ 0
+  unfolding spareZero
+  header-spare = eqb-true (headerSpare s) 0 (and-left (eqb (headerSpare s) 0) (placesSpare s) (good .spare))
+
+  places-clean : placesSpare s ≡ true
+  unfolding spareZero
+  places-clean = and-right (eqb (headerSpare s) 0) (placesSpare s) (good .spare)
+
+  project-spare : (j : ℕ) → j < headed s .projects → projectSpare (projectAt (afterHeader s) j) ≡ 0
+  unfolding placesSpare projectsSpare
+  project-spare j l =
+      let c = and-left (projectsSpare (headed s .projects) (afterHeader s)) (kindsSpare (headed s .kinds) (afterProjects s)) places-clean in
+      eqb-true (projectSpare (projectAt (afterHeader s) j)) 0 (all-at (headed s .projects) (λ k. eqb (projectSpare (projectAt (afterHeader s) k)) 0) c j l)
+
+  kind-spare : (i : ℕ) → i < headed s .kinds → kindSpare (kindAt (afterProjects s) i) ≡ 0
+  unfolding placesSpare kindsSpare
+  kind-spare i l =
+      let c = and-right (projectsSpare (headed s .projects) (afterHeader s)) (kindsSpare (headed s .kinds) (afterProjects s)) places-clean in
+      eqb-true (kindSpare (kindAt (afterProjects s) i)) 0 (all-at (headed s .kinds) (λ k. eqb (kindSpare (kindAt (afterProjects s) k)) 0) c i l)
+
+  header-part : headerBytes (decoded s) ≡ take 3 s
+  unfolding headerBytes decoded size
+  header-part = let l = good .long in header-same s b (omega arith) header-spare
+
+  project-part : (j : ℕ) → j < headed s .projects → projectBytesAt (decoded s) j ≡ take 2 (drop (2 * j) (afterHeader s))
+  unfolding decoded projectsFrom size
+  project-part j l =
+      let m = counts .projects-most in
+      let n = good .long in
+      let e = written-at (headed s .projects) (λ k. projectFrom (projectAt (afterHeader s) k)) (replicate 8 noProject) noProject j l (omega (arith, length-replicate 8 noProject)) in
+      ap projectBytes e
+      ∙ project-same (projectAt (afterHeader s) j) (bytes-drop (afterHeader s) (2 * j) (bytes-drop s 3 b)) (omega (arith, length-drop (2 * j) (afterHeader s), length-drop 3 s)) (project-spare j l)
+
+  kind-part : (i : ℕ) → i < headed s .kinds → kindBytesAt (decoded s) i ≡ take 5 (drop (5 * i) (afterProjects s))
+  unfolding decoded kindsFrom size
+  kind-part i l =
+      let m = counts .kinds-most in
+      let n = good .long in
+      let e = written-at (headed s .kinds) (λ k. kindFrom (kindAt (afterProjects s) k)) (replicate 16 noKind) noKind i l (omega (arith, length-replicate 16 noKind)) in
+      ap kindBytes e
+      ∙ kind-same (kindAt (afterProjects s) i) (bytes-drop (afterProjects s) (5 * i) (bytes-drop s (3 + 2 * headed s .projects) b)) (omega (arith, length-drop (5 * i) (afterProjects s), length-drop (3 + 2 * headed s .projects) s)) (kind-spare i l)
+
+  decoded-back : encoded (decoded s) ≡ take (size (headed s)) s
+  unfolding encoded decoded size
+  decoded-back =
+      let k = headed s .projects in
+      let n = headed s .kinds in
+      ap₂ (λ (x y : List ℕ). x ++ partsTo k (projectBytesAt (decoded s)) ++ y) header-part (parts-front n 5 (kindBytesAt (decoded s)) (afterProjects s) kind-part)
+      ∙ ap (λ (x : List ℕ). take 3 s ++ x ++ take (5 * n) (afterProjects s)) (parts-front k 2 (projectBytesAt (decoded s)) (afterHeader s) project-part)
+      ∙ ap (λ (x : List ℕ). x ++ take (5 * n) (afterProjects s)) (sym (take-add 3 (2 * k) s))
+      ∙ sym (take-add (3 + 2 * k) (5 * n) s)
+
+pub encoded-read : (s : List ℕ) → AreBytes s → readOf s .answer ≡ Good → encoded (readOf s .plan) ≡ take (readOf s .taken) s
+encoded-read s b e =
+    let g = read-good s (answer-is s e) in
+    ap encoded (plan-is s (answer-is s e)) ∙ decoded-back s b g ∙ ap (λ (k : ℕ). take k s) (sym (taken-is s (answer-is s e)))

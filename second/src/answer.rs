@@ -1,0 +1,53 @@
+//! "Numbers given back when we say no."
+
+/// "A good answer has number and place 0"; "Excess is 0 except with 8".
+#[derive(Clone, Copy, Debug, Default, PartialEq, Eq, Hash)]
+pub struct Answer {
+    /// The column "no.": 1 to 15, or 0 for a good answer.
+    pub number: u64,
+    /// The column "place".
+    pub place: u64,
+    /// "the slices by which its unit is too long".
+    pub excess: u64,
+}
+
+impl Answer {
+    /// "A good answer has number and place 0".
+    pub const GOOD: Answer = Answer {
+        number: 0,
+        place: 0,
+        excess: 0,
+    };
+
+    /// A row of the table whose place is 0.
+    pub fn refused(number: u64) -> Answer {
+        Answer {
+            number,
+            place: 0,
+            excess: 0,
+        }
+    }
+
+    /// A row of the table whose place is "first such project" or "that kind".
+    pub fn refused_at(number: u64, place: usize) -> Answer {
+        Answer {
+            number,
+            place: place as u64,
+            excess: 0,
+        }
+    }
+
+    /// 8, "first kind with no k, with its excess".
+    pub fn not_admitted(place: usize, excess: u64) -> Answer {
+        Answer {
+            number: 8,
+            place: place as u64,
+            excess,
+        }
+    }
+
+    /// "A good answer has number and place 0".
+    pub fn is_good(&self) -> bool {
+        self.number == 0
+    }
+}

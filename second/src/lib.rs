@@ -1,0 +1,27 @@
+//! The independent second program: document 01 by the most literal reading of each sentence.
+//!
+//! Nothing here is meant to be fast, and nothing here is shared with the proved program.
+//! Each operation answers any record whatever, also one that no plan bytes can express.
+
+#![forbid(unsafe_code)]
+#![warn(missing_docs)]
+// Sums are written as 01 writes them, over x = 0..t-1.
+#![allow(clippy::needless_range_loop)]
+
+pub mod answer;
+pub mod bytes;
+pub mod generate;
+pub mod layout;
+pub mod plan;
+pub mod play;
+pub mod rack;
+pub mod supply;
+pub mod verdict;
+
+pub use answer::Answer;
+pub use bytes::{read, write};
+pub use layout::slot_table;
+pub use plan::{check, Kind, Plan, Project};
+pub use play::play;
+pub use rack::{fresh, release, slice, KindState, State};
+pub use verdict::verdict;

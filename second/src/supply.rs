@@ -1,0 +1,29 @@
+//! "Supply": S(k,t) by its definition, term by term.
+
+use crate::layout::h;
+use crate::plan::Plan;
+
+/// S(k,t), "the least, over the F starting slices a, of the sum over x = 0..t-1 of min(k, h(a+x))".
+pub fn supply(plan: &Plan, project: usize, k: u64, t: u64) -> u64 {
+    let frame = usize::from(plan.frame);
+    let t = t as usize;
+    // "h(s) [...] at slice s, taken modulo F", for each s that some a + x can be.
+    let one_frame = h(plan, project);
+    let mut h = Vec::new();
+    for s in 0..frame + t {
+        h.push(one_frame.get(s % frame.max(1)).copied().unwrap_or(0));
+    }
+    let mut least = None;
+    for a in 0..frame {
+        let from_a = &h[a..a + t];
+        let mut sum = 0u64;
+        for x in 0..t {
+            sum += k.min(from_a[x]);
+        }
+        least = match least {
+            Some(before) if before <= sum => Some(before),
+            _ => Some(sum),
+        };
+    }
+    least.unwrap_or(0)
+}

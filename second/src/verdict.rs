@@ -1,0 +1,87 @@
+//! "Verdict": the least k at which each kind fits, or the first kind with none and its excess.
+
+use crate::answer::Answer;
+use crate::plan::{check, Plan};
+use crate::supply::supply;
+
+/// W, "the sum over every other kind j of the same project of floor(Di/Tj)Cj + min(Cj, Di mod Tj)".
+pub fn workload(plan: &Plan, i: usize) -> u64 {
+    let kinds = plan.used_kinds();
+    let Some(kind) = kinds.get(i) else { return 0 };
+    let d = u64::from(kind.deadline);
+    let mut w = 0u64;
+    for (j, other) in kinds.iter().enumerate() {
+        if j != i && other.project == kind.project {
+            let t = u64::from(other.separation);
+            let c = u64::from(other.length);
+            // A separation of 0 is only met outside a checked plan; it then adds nothing.
+            let whole = d.checked_div(t).unwrap_or(0);
+            let cut_off = d.checked_rem(t).unwrap_or(0);
+            w += whole * c + c.min(cut_off);
+        }
+    }
+    w
+}
+
+/// The two sides of "Kind i fits at k when kCi + W <= S(k,Di)": what it asks for and what is there.
+pub fn asked_and_supplied(plan: &Plan, i: usize, k: u64) -> (u64, u64) {
+    let Some(kind) = plan.used_kinds().get(i) else {
+        return (0, 0);
+    };
+    let asked = k * u64::from(kind.length) + workload(plan, i);
+    let supplied = supply(plan, usize::from(kind.project), k, u64::from(kind.deadline));
+    (asked, supplied)
+}
+
+/// The ceiling of the kind's project: "for k in 1..q".
+pub fn ceiling_of(plan: &Plan, i: usize) -> u64 {
+    let Some(kind) = plan.used_kinds().get(i) else {
+        return 0;
+    };
+    match plan.used_projects().get(usize::from(kind.project)) {
+        Some(project) => u64::from(project.ceiling),
+        None => 0,
+    }
+}
+
+/// "The verdict gives for each kind the least such k."
+pub fn least_k(plan: &Plan, i: usize) -> Option<u64> {
+    for k in 1..=ceiling_of(plan, i) {
+        let (asked, supplied) = asked_and_supplied(plan, i, k);
+        if asked <= supplied {
+            return Some(k);
+        }
+    }
+    None
+}
+
+/// "its *excess* is the least, over k, of kCi + W - S(k,Di)" (of a kind that fits at no k).
+pub fn excess(plan: &Plan, i: usize) -> u64 {
+    let mut least = None;
+    for k in 1..=ceiling_of(plan, i) {
+        let (asked, supplied) = asked_and_supplied(plan, i, k);
+        let over = asked.saturating_sub(supplied);
+        least = match least {
+            Some(before) if before <= over => Some(before),
+            _ => Some(over),
+        };
+    }
+    least.unwrap_or(0)
+}
+
+/// "Starting fresh and the verdict add 8"; "A refused verdict gives k 0 for every kind."
+pub fn verdict(plan: &Plan) -> (Answer, [u8; 16]) {
+    let answer = check(plan);
+    if !answer.is_good() {
+        return (answer, [0; 16]);
+    }
+    let mut k = [0; 16];
+    for i in 0..usize::from(plan.n) {
+        match least_k(plan, i) {
+            Some(least) => k[i] = least as u8,
+            // 8: "first kind with no k, with its excess".
+            None => return (Answer::not_admitted(i, excess(plan, i)), [0; 16]),
+        }
+    }
+    (Answer::GOOD, k)
+}

@@ -5,3 +5,4 @@ pub mod Verdict
 pub mod Admission
 pub mod Table
 pub mod Steps
+pub mod OneOutcome

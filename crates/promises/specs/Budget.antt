@@ -35,7 +35,7 @@ module _ (s : State) (order : InOrder (s .plan)) (calls : List Call) (x j : ℕ)
   named-at : (y : ℕ) → y < s .plan .frame → bytesIn (namesProject (s .plan) j) (getD inARow y noSlice .row) ≡ min (held (s .plan) j (s .clock + x + y)) (activeKinds (sliceAt y .before) j)
   named-at y l =
       rw (getD-take (s .plan .frame) (drop x (slicesOf s calls)) y noSlice l, getD-drop x (slicesOf s calls) y noSlice, add-assoc (s .clock) x y)
-      (project-named (s .plan) (s .clock + (x + y)) (sliceAt y) (slices-at noSlice calls s (x + y) (omega arith)) j)
+      (project-named (s .plan) (s .clock + (x + y)) (sliceAt y) (slices-at noSlice calls s (x + y) (omega arith)) j project)
 
   named-sum : bytesOf (namesProject (s .plan) j) inARow ≡ sumTo (s .plan .frame) (λ y. min (held (s .plan) j (s .clock + x + y)) (activeKinds (sliceAt y .before) j))
   named-sum =

@@ -2,7 +2,7 @@
 -- Of every run: any calls of slice and release, with any arguments and any lent row, refused ones among them, from a fresh start on an admitted plan.
 -- Assumes nothing.
 use mathlib.Core.Path.{_≡_, sym, ap, _∙_}
-use mathlib.Core.Logic.{_≢_}
+use mathlib.Core.Logic.{_≢_, _↔_}
 use mathlib.Core.Bool.{true}
 use mathlib.Core.List.{List}
 use Prim.Native.Nat.{ℕ, _+_, _-_, _≤_, _<_}
@@ -13,17 +13,66 @@ use Rattle.plan.specs.declared.answer.Answer.the-variants.{Good}
 use Rattle.plan.specs.Answer.{number}
 use Rattle.plan.specs.Order.{within, projectOf, budgetOf, kindOf}
 use Rattle.layout.specs.Layout.{held}
-use Rattle.verdict.specs.Verdict.{judged}
-use Rattle.rack.specs.declared.Next.{Next}
-use Rattle.rack.specs.State.{freshOf, unitOf}
+use Rattle.rack.specs.State.{unitOf}
 use Rattle.rack.specs.Rank.{activeKinds}
+use Rattle.rack.specs.Start.{startOf}
 use Rattle.rack.specs.Release.{releaseOf}
-use Rattle.promises.specs.Run.{Call, nextAfter, after, slicesOf, noSlice, never, sinceFrom, fewer}
+use Rattle.promises.specs.Run.{Call, nextAfter, runFrom, after, slicesOf, noSlice, never, sinceFrom, fewer}
 use Rattle.promises.specs.Named.{namesKind, namesProject, bytesIn, bytesOf}
 
-module _ (p : Plan) (admitted : judged p .answer ≡ Good) where
+-- ---- what a row owes the cards
+
+pub record Orderly (p : Plan) (row : List ℕ) : Type 0 where
+  -- "The row written has m bytes": one for each card
+  pub cards : length row ≡ p .cards
+  -- no card serves two units
+  pub one-unit : (card i k : ℕ) → namesKind i (getD row card 0) ≡ true → namesKind k (getD row card 0) ≡ true → i ≡ k
+  -- no unit holds two cards
+  pub one-card : (i : ℕ) → bytesIn (namesKind i) row ≤ 1
+  -- no project exceeds its ceiling
+  pub ceiling : (j : ℕ) → j < p .projects → bytesIn (namesProject p j) row ≤ projectOf p j .ceiling
+
+module _ (p : Plan) (admitted : startOf p .answer ≡ Good) where
   -- ---- 1. In time
 
-  -- an accepted release of kind i with length e: the rows of the next D accepted slices name the kind e times
+  -- after an accepted release of kind i with length e, the rows of the next D accepted slices name the kind e times
   pub in-time : (calls more : List Call) (i e : ℕ) → let next = releaseOf (after p calls) i e in let slices = slicesOf (next .state) more in let deadline = kindOf p i .deadline in next .answer ≡ Good → deadline ≤ length slices → bytesOf (namesKind i) (take deadline slices) ≡ e
   in-time calls more i e good enough = ?
+
+  -- after x of them, what is left is at most D - x
+  pub in-time-so-far : (calls more : List Call) (i e : ℕ) → let next = releaseOf (after p calls) i e in let slices = slicesOf (next .state) more in let deadline = kindOf p i .deadline in next .answer ≡ Good → length slices ≤ deadline → e - bytesOf (namesKind i) slices ≤ deadline - length slices
+  in-time-so-far calls more i e good few = ?
+
+  -- "A unit released at clock r is in time if left is 0 when the clock is r + D": while it is the kind's last, what the state says is left is at most D - x
+  pub left-in-time : (calls more : List Call) (i e : ℕ) → let next = releaseOf (after p calls) i e in let end = runFrom (next .state) more in next .answer ≡ Good → unitOf end i .at ≡ after p calls .clock → unitOf end i .left ≤ kindOf p i .deadline - length (slicesOf (next .state) more)
+  left-in-time calls more i e good same = ?
+
+  -- ---- 2. Cards
+
+  -- every row written
+  pub rows-orderly : (calls : List Call) (x : ℕ) → let slices = slicesOf (startOf p .state) calls in x < length slices → Orderly p (getD slices x noSlice .row)
+  rows-orderly calls x l = ?
+
+  -- ---- 3. Budget
+
+  -- in any F accepted slices in a row, the bytes that name kinds of a project are at most B
+  pub budget-at-most : (calls : List Call) (x j : ℕ) → let slices = slicesOf (startOf p .state) calls in j < p .projects → x + p .frame ≤ length slices → bytesOf (namesProject p j) (take (p .frame) (drop x slices)) ≤ budgetOf p j
+  budget-at-most calls x j l enough = ?
+
+  -- and exactly B if at each of those slices at least as many of its kinds have work left as it holds cards
+  pub budget-exactly : (calls : List Call) (x j : ℕ) → let slices = slicesOf (startOf p .state) calls in j < p .projects → x + p .frame ≤ length slices → ((y : ℕ) → y < p .frame → let s = getD slices (x + y) noSlice .before in held p j (s .clock) ≤ activeKinds s j) → bytesOf (namesProject p j) (take (p .frame) (drop x slices)) ≡ budgetOf p j
+  budget-exactly calls x j l enough busy = ?
+
+  -- ---- 4. Refusals on the way
+
+  -- 10 never occurs
+  pub never-out-of-form : (calls : List Call) (call : Call) → number (nextAfter (after p calls) call .answer) ≢ 10
+  never-out-of-form calls call = ?
+
+  -- 15 never occurs
+  pub never-left-over : (calls : List Call) (call : Call) → number (nextAfter (after p calls) call .answer) ≢ 15
+  never-left-over calls call = ?
+
+  -- 14 exactly where the kind and the length are in range, and fewer than T accepted slices have gone by since the last accepted release of the kind
+  pub told-early : (calls : List Call) (i e : ℕ) → (number (releaseOf (after p calls) i e .answer) ≡ 14) ↔ ((i < p .kinds) × (within (kindOf p i .length) e ≡ true) × (fewer (kindOf p i .separation) (sinceFrom i (startOf p .state) never calls) ≡ true))
+  told-early calls i e = ?

@@ -9,23 +9,25 @@ use native.Mathlib.Decide.{ℕ-discrete}
 use native.Mathlib.Omega.{arith}
 use lib.ListN.{length, take}
 use lib.Seq.{take-nil}
+use Rattle.plan.specs.declared.Plan.{Plan}
 use Rattle.plan.specs.declared.answer.Answer.the-variants.{Good}
+use Rattle.plan.specs.Order.{kindOf}
 use Rattle.rack.specs.declared.Unit.{Unit}
 use Rattle.rack.specs.declared.State.{State}
 use Rattle.rack.specs.State.{unitOf, kindAt}
 use Rattle.rack.specs.Rank.{gone, due, until, served}
 use Rattle.rack.specs.Rank.Properties.{working-left, served-working}
 use Rattle.rack.specs.Release.{released, releaseAnswer}
-use Rattle.rack.specs.Release.Properties.{Releasable, release-says}
+use Rattle.rack.specs.Release.Properties.{release-says, release-unit, release-others}
 use Rattle.rack.specs.Slice.{advanced, sliceAnswer}
+use Rattle.rack.specs.Slice.Properties.{slice-says}
 use Rattle.promises.specs.Run.{Call, runFrom, Accepted, rowWritten, slicesOf}
-use Rattle.promises.specs.Run.Properties.{along, now-at}
+use Rattle.promises.specs.Run.Properties.{along, now-at, run-clock, run-plan}
 use Rattle.promises.specs.Named.{namesKind, bytesIn, bytesOf}
 use Rattle.promises.specs.Named.Properties.{kind-named}
-use Rattle.promises.specs.After.{sliced-released, sliced-left, sliced-until, released-other, released-unit}
-use Rattle.promises.specs.View.Steps.{new-until, kept-until}
-use Rattle.promises.specs.Sound.{Sound}
-use Rattle.promises.specs.Sound.Properties.{sound-order, sound-unit, sound-left, slice-sound, release-sound}
+use Rattle.promises.specs.View.Steps.{sliced-released, sliced-left, sliced-until, new-until, kept-until}
+use Rattle.promises.specs.Safe.{Safe}
+use Rattle.promises.specs.Safe.Properties.{safe-unit, safe-left, slice-safe, release-safe, run-safe}
 
 -- with so much left, due in so many slices: in the rows until then kind i is named no more often, and no less but for the slices to come
 pub record Named (i left t : ℕ) (slices : List Accepted) : Type 0 where
@@ -64,7 +66,7 @@ served-left s i = go (served s i) refl
 
 -- kind i has been released
 pub record Under (i : ℕ) (s : State) : Type 0 where
-  pub sound : Sound s
+  pub safe : Safe s
   pub its-kind : i < s .plan .kinds
   pub released : unitOf s i .released ≡ true
 
@@ -75,32 +77,52 @@ module _ (i : ℕ) where
   step-slice : (s end : State) (bytes : List ℕ) (slices : List Accepted) → sliceAnswer s (length bytes) ≡ Good → Claim (advanced s) slices end → Claim s (record { before = s; row = rowWritten s bytes } ∷ slices) end
   unfolding advanced
   step-slice s end bytes slices good h u =
-      let places : s .plan .kinds ≤ length (s .unit) = omega (arith, u .sound .places, sound-order s (u .sound) .counts .kinds-most) in
-      one-more i (unitOf s i .left) (until s i) (cond (served s i) 1 0) (record { before = s; row = rowWritten s bytes }) slices (sound-left s (u .sound) i (u .its-kind)) (kind-named (s .plan) (s .clock) (record { before = s; row = rowWritten s bytes }) (now-at s bytes good) i (u .its-kind)) (served-left s i)
-      (rw (← (sliced-left s i places (u .its-kind)), ← (sliced-until s i places (u .its-kind))) (h (next places)))
-    where
-      next : s .plan .kinds ≤ length (s .unit) → Under i (advanced s)
-      next places = record { sound = slice-sound s (u .sound) (length bytes) good; its-kind = u .its-kind; released = sliced-released s i places (u .its-kind) ∙ u .released }
+      let may = slice-says s (length bytes) good in
+      let next : Under i (advanced s) = record { safe = slice-safe s (u .safe) (length bytes) good; its-kind = u .its-kind; released = sliced-released s (length bytes) may (u .safe .places) i (u .its-kind) ∙ u .released } in
+      one-more i (unitOf s i .left) (until s i) (cond (served s i) 1 0) (record { before = s; row = rowWritten s bytes }) slices (safe-left s (u .safe) i (u .its-kind)) (kind-named (s .plan) (s .clock) (record { before = s; row = rowWritten s bytes }) (now-at s bytes good) i (u .its-kind)) (served-left s i)
+      (rw (← (sliced-left s (length bytes) may (u .safe .places) i (u .its-kind)), ← (sliced-until s (length bytes) may (u .safe .places) i (u .its-kind))) (h next))
 
-  -- where the kind is released again, its unit's deadline has come, and nothing of it is left
+  -- where the kind is released again, its unit's deadline has come
   again : (s : State) (e : ℕ) → releaseAnswer s i e ≡ Good → Under i s → until s i ≡ 0
   unfolding until due gone
   again s e good u =
       let r = release-says s i e good in
-      omega (arith, r .start .separated (u .released), sound-order s (u .sound) .kind-at i (u .its-kind) .deadline-most, sound-unit s (u .sound) i (u .its-kind) .release-clock)
+      omega (arith, r .start .separated (u .released), u .safe .ready .order .kind-at i (u .its-kind) .deadline-most, safe-unit s (u .safe) i (u .its-kind) .release-clock)
 
   step-release : (s end : State) (k e : ℕ) (slices : List Accepted) → releaseAnswer s k e ≡ Good → Claim (released s k e) slices end → Claim s slices end
   unfolding released
   step-release s end k e slices good h u = elim (ℕ-discrete i k) [ yes q ↦ same (rw (← q) at good) | no q ↦ other q ]
     where
       same : releaseAnswer s i e ≡ Good → Named i (unitOf s i .left) (until s i) slices
-      same g = let z = again s e g u in rw z (over i (unitOf s i .left) slices (omega (arith, sound-left s (u .sound) i (u .its-kind))))
+      same g = let z = again s e g u in rw z (over i (unitOf s i .left) slices (omega (arith, safe-left s (u .safe) i (u .its-kind))))
 
       other : i ≢ k → Named i (unitOf s i .left) (until s i) slices
       other q =
-          let v = released-other s k e i q in
-          let next : Under i (released s k e) = record { sound = release-sound s (u .sound) k e good; its-kind = u .its-kind; released = ap (λ (x : Unit). x .released) v ∙ u .released } in
-          rw (kept-until s (u .sound .places) k e (release-says s k e good) i q, v) at (h next)
+          let may = release-says s k e good in
+          let v = release-others s k e may (u .safe .places) i q in
+          let next : Under i (released s k e) = record { safe = release-safe s (u .safe) k e good; its-kind = u .its-kind; released = ap (λ (x : Unit). x .released) v ∙ u .released } in
+          rw (kept-until s k e may (u .safe .places) i q, v) at (h next)
 
   pub unit-named : (calls : List Call) (s : State) → Under i s → Named i (unitOf s i .left) (until s i) (slicesOf s calls)
-  unit-named = along Claim (λ s u. none-yet i (unitOf s i .left) (until s i) (sound-left s (u .sound) i (u .its-kind))) step-slice step-release
+  unit-named = along Claim (λ s u. none-yet i (unitOf s i .left) (until s i) (safe-left s (u .safe) i (u .its-kind))) step-slice step-release
+
+-- ---- after an accepted release
+
+module _ (s : State) (safe : Safe s) (i e : ℕ) (good : releaseAnswer s i e ≡ Good) where
+  -- the unit in the rows that follow
+  pub release-named : (more : List Call) → Named i e (kindAt s i .deadline) (slicesOf (released s i e) more)
+  unfolding released
+  release-named more =
+      let may = release-says s i e good in
+      let v = release-unit s i e may (safe .places) in
+      rw (ap (λ (x : Unit). x .left) v, new-until s i e may (safe .places)) at (unit-named i more (released s i e) (record { safe = release-safe s safe i e good; its-kind = may .its-kind; released = ap (λ (x : Unit). x .released) v }))
+
+  -- and in the state that they lead to, as long as no other unit of the kind is released
+  pub release-left : (more : List Call) → let end = runFrom (released s i e) more in unitOf end i .at ≡ s .clock → unitOf end i .left ≤ kindAt s i .deadline - length (slicesOf (released s i e) more)
+  unfolding until due released
+  release-left more same =
+      let start = released s i e in
+      let end = runFrom start more in
+      let p = run-plan more start in
+      let l : i < end .plan .kinds = rw p (release-says s i e good .its-kind) in
+      omega (arith, safe-left end (run-safe more start (release-safe s safe i e good)) i l, run-clock more start, ap (λ (x : Plan). kindOf x i .deadline) p)

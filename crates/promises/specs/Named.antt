@@ -1,13 +1,13 @@
 -- Document 01, "Running": the bytes of the rows written that name a kind, or the kinds of a project.
 -- Assumes nothing.
 use Prim.Native.Nat.{ℕ, _+_, pred}
-use mathlib.Core.Bool.{Bool, _&&_}
+use mathlib.Core.Bool.{Bool, not, _&&_}
 use mathlib.Core.List.{List, [], _∷_}
 use lib.Dec.{eqb}
 use lib.ListN.{length, getD}
 use Rattle.laws.specs.Count.{countTo}
 use Rattle.plan.specs.declared.Plan.{Plan}
-use Rattle.plan.specs.Order.{kindOf, within}
+use Rattle.plan.specs.Order.{kindOf}
 use Rattle.promises.specs.Run.{Accepted}
 pub mod Properties
 
@@ -17,7 +17,7 @@ namesKind i byte = eqb byte (i + 1)
 
 -- "kind number plus 1, or 0": the byte names a kind, and it is one of project j
 unfoldable pub namesProject : Plan → ℕ → ℕ → Bool
-namesProject p j byte = within (p .kinds) byte && eqb (kindOf p (pred byte) .project) j
+namesProject p j byte = not (eqb byte 0) && eqb (kindOf p (pred byte) .project) j
 
 -- how many bytes of a row pass a test
 unfoldable pub bytesIn : (ℕ → Bool) → List ℕ → ℕ

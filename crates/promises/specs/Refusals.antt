@@ -1,4 +1,4 @@
--- What a sound state refuses: never 10, never 15, and 14 exactly by the slices since the last release.
+-- What a safe state refuses: never 10, never 15, and 14 exactly by the slices since the last release.
 -- Assumes nothing.
 use mathlib.Core.Path.{_≡_, refl, sym, ap, _∙_}
 use mathlib.Core.Logic.{_≢_}
@@ -13,21 +13,22 @@ use borrow.Author.Tests.{lt-ltb, eq-eqb, ne-eqb, ltb-true, not-true, not-false, 
 use Rattle.plan.specs.declared.answer.Answer.{Answer}
 use Rattle.plan.specs.declared.answer.Answer.the-variants.{Good, No}
 use Rattle.plan.specs.declared.answer.Refusal.the-variants.{Bare}
-use Rattle.plan.specs.Answer.{number, refuse, _andThen_}
+use Rattle.plan.specs.Answer.{number, refuse, _andThen_, ifGood}
 use Rattle.plan.specs.Order.{within}
 use Rattle.rack.specs.declared.Unit.{Unit}
 use Rattle.rack.specs.declared.State.{State}
-use Rattle.rack.specs.State.{ifGood, unitOf, kindAt}
+use Rattle.rack.specs.State.{unitOf, kindAt}
 use Rattle.rack.specs.Form.{ready}
 use Rattle.rack.specs.Form.Properties.{ready-of}
 use Rattle.rack.specs.Rank.{gone}
 use Rattle.rack.specs.Release.{early, startable, releaseAnswer, released, releaseOf}
-use Rattle.rack.specs.Release.Properties.{early-says, release-says}
+use Rattle.rack.specs.Release.Properties.{early-says, release-says, release-unit, release-others}
 use Rattle.rack.specs.Slice.{roomAndTime, sliceAnswer, advanced, sliceOf}
+use Rattle.rack.specs.Slice.Properties.{slice-says}
 use Rattle.promises.specs.Run.{Call, slice, release, nextAfter, runFrom, Since, never, ago, later, sinceCall, sinceFrom, fewer}
-use Rattle.promises.specs.After.{sliced-at, sliced-released, released-other, released-unit}
-use Rattle.promises.specs.Sound.{Sound}
-use Rattle.promises.specs.Sound.Properties.{sound-order, sound-ready, sound-unit, sound-none-left, slice-sound, release-sound}
+use Rattle.promises.specs.View.Steps.{sliced-at, sliced-released}
+use Rattle.promises.specs.Safe.{Safe}
+use Rattle.promises.specs.Safe.Properties.{safe-none-left, slice-safe, release-safe}
 
 -- ---- a release's refusals in their order
 
@@ -56,9 +57,9 @@ fourteen false false true d e = (refl, refl, refl)
 fourteen false false false true e = absurd (omega arith)
 fourteen false false false false e = absurd (omega arith)
 
-module _ (s : State) (sound : Sound s) where
+module _ (s : State) (safe : Safe s) where
   is-ready : ready s ≡ Good
-  is-ready = ready-of s (sound-ready s sound)
+  is-ready = ready-of s (safe .ready)
 
   module _ (i e : ℕ) where
     abbrev absent : Bool
@@ -77,14 +78,14 @@ module _ (s : State) (sound : Sound s) where
     unfolding releaseAnswer startable
     release-told = rw is-ready
 
-    misfit-kind : absent ≡ false → i < s .plan .kinds
-    misfit-kind e = ltb-true i (s .plan .kinds) (not-false (ltb i (s .plan .kinds)) e)
+    its-kind : absent ≡ false → i < s .plan .kinds
+    its-kind e = ltb-true i (s .plan .kinds) (not-false (ltb i (s .plan .kinds)) e)
 
     -- "15: slices of an earlier unit are left": where 14 is not told, none are
     nothing-over : absent ≡ false → soon ≡ false → over ≡ true → ⊥
     nothing-over a c d =
-        let l = misfit-kind a in
-        eqb-false (unitOf s i .left) 0 (not-true (eqb (unitOf s i .left) 0) d) (sound-none-left s sound i l (λ r. early-says (kindAt s i .separation) (unitOf s i) (gone s i) c r))
+        let l = its-kind a in
+        eqb-false (unitOf s i .left) 0 (not-true (eqb (unitOf s i .left) 0) d) (safe-none-left s safe i l (λ r. early-says (kindAt s i .separation) (unitOf s i) (gone s i) c r))
 
     pub release-not-ten : number (releaseAnswer s i e) ≢ 10
     release-not-ten h = no-ten absent misfit soon over (sym release-told ∙ h)
@@ -93,10 +94,10 @@ module _ (s : State) (sound : Sound s) where
     release-not-fifteen h = let t = fifteen absent misfit soon over (sym release-told ∙ h) in nothing-over (t .0) (t .1) (t .2)
 
     -- "14: released before, and fewer than T slices ago"
-    pub fourteen-early : number (releaseAnswer s i e) ≡ 14 → (i < s .plan .kinds) × (soon ≡ true)
-    fourteen-early h = let t = fourteen absent misfit soon over (sym release-told ∙ h) in (misfit-kind (t .0), t .2)
+    pub fourteen-early : number (releaseAnswer s i e) ≡ 14 → (i < s .plan .kinds) × (within (kindAt s i .length) e ≡ true) × (early (kindAt s i .separation) (unitOf s i) (gone s i) ≡ true)
+    fourteen-early h = let t = fourteen absent misfit soon over (sym release-told ∙ h) in (its-kind (t .0), not-false (within (kindAt s i .length) e) (t .1), t .2)
 
-    pub early-fourteen : i < s .plan .kinds → within (kindAt s i .length) e ≡ true → soon ≡ true → number (releaseAnswer s i e) ≡ 14
+    pub early-fourteen : i < s .plan .kinds → within (kindAt s i .length) e ≡ true → early (kindAt s i .separation) (unitOf s i) (gone s i) ≡ true → number (releaseAnswer s i e) ≡ 14
     early-fourteen l w c = release-told ∙ rw (lt-ltb i (s .plan .kinds) l, w, c)
 
   -- ---- a slice
@@ -136,9 +137,9 @@ chosen : (P : State → Since → Type 0) (a : Answer) (new old : State) (more s
 chosen P Good new old more since g h = g refl
 chosen P (No r) new old more since g h = h
 
--- a sound state, of which a run tells so much of kind i
+-- a safe state, of which a run tells so much of kind i
 pub record Told (i : ℕ) (s : State) (since : Since) : Type 0 where
-  pub sound : Sound s
+  pub safe : Safe s
   pub its-kind : i < s .plan .kinds
   pub tells : Tells (unitOf s i) (s .clock) since
 
@@ -146,20 +147,22 @@ module _ (i : ℕ) where
   told-slice : (s : State) (since : Since) (room : ℕ) → Told i s since → sliceAnswer s room ≡ Good → Told i (advanced s) (later since)
   unfolding advanced
   told-slice s since room t good =
-      let places : s .plan .kinds ≤ length (s .unit) = omega (arith, t .sound .places, sound-order s (t .sound) .counts .kinds-most) in
+      let may = slice-says s room good in
       record {
-        sound = slice-sound s (t .sound) room good;
+        safe = slice-safe s (t .safe) room good;
         its-kind = t .its-kind;
-        tells = tells-later (unitOf s i) (unitOf (advanced s) i) (s .clock) since (sliced-released s i places (t .its-kind)) (sliced-at s i places (t .its-kind)) (t .tells);
+        tells = tells-later (unitOf s i) (unitOf (advanced s) i) (s .clock) since (sliced-released s room may (t .safe .places) i (t .its-kind)) (sliced-at s room may (t .safe .places) i (t .its-kind)) (t .tells);
       }
 
   told-release : (s : State) (since : Since) (k e : ℕ) → Told i s since → releaseAnswer s k e ≡ Good → Told i (released s k e) (cond (eqb k i) (ago 0) since)
   unfolding released
-  told-release s since k e t good =
-      record { sound = release-sound s (t .sound) k e good; its-kind = t .its-kind; tells = elim (ℕ-discrete k i) [ yes q ↦ rw (eq-eqb k i q) (same q) | no q ↦ rw (ne-eqb k i q, released-other s k e i (λ z. q (sym z))) (t .tells) ] }
+  told-release s since k e t good = record { safe = release-safe s (t .safe) k e good; its-kind = t .its-kind; tells = elim (ℕ-discrete k i) [ yes q ↦ rw (eq-eqb k i q) (same q) | no q ↦ rw (ne-eqb k i q) (other q) ] }
     where
       same : k ≡ i → Tells (unitOf (released s k e) i) (s .clock) (ago 0)
-      same q = rw (← q) (rw (released-unit s k e (omega (arith, t .sound .places, t .its-kind, sound-order s (t .sound) .counts .kinds-most))) (refl, omega arith))
+      same q = rw (← q) (rw (release-unit s k e (release-says s k e good) (t .safe .places)) (refl, omega arith))
+
+      other : (k ≡ i → ⊥) → Tells (unitOf (released s k e) i) (s .clock) since
+      other q = rw (release-others s k e (release-says s k e good) (t .safe .places) i (λ z. q (sym z))) (t .tells)
 
   told-call : (s : State) (since : Since) (call : Call) → Told i s since → Told i (nextAfter s call .state) (sinceCall i s since call)
   unfolding sliceOf releaseOf sinceCall

@@ -6,9 +6,11 @@ use mathlib.Core.List.{List, [], _∷_, _++_}
 use lib.Dec.{ltb, eqb}
 use lib.ListN.{length, take}
 use Rattle.plan.specs.declared.Plan.{Plan}
+use Rattle.plan.specs.Answer.{ifGood}
 use Rattle.rack.specs.declared.State.{State}
 use Rattle.rack.specs.declared.Next.{Next}
-use Rattle.rack.specs.State.{ifGood, freshOf, noState}
+use Rattle.rack.specs.State.{noState}
+use Rattle.rack.specs.Start.{startOf}
 use Rattle.rack.specs.Release.{releaseAnswer, releaseOf}
 use Rattle.rack.specs.Slice.{sliceAnswer, sliceOf, bufferAfter}
 pub mod Properties
@@ -30,7 +32,7 @@ runFrom s (call ∷ calls) = runFrom (nextAfter s call .state) calls
 
 -- the state after the calls, from a fresh start on a plan
 abbrev pub after : Plan → List Call → State
-after p calls = runFrom (freshOf p) calls
+after p calls = runFrom (startOf p .state) calls
 
 -- ---- the rows written
 

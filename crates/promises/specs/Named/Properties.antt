@@ -1,12 +1,11 @@
 -- Laws of the bytes that name kinds: in the row of an accepted slice, and in several rows.
 -- Assumes nothing.
 use mathlib.Core.Path.{_≡_, refl, sym, ap, ap₂, _∙_}
-use mathlib.Core.Bool.{Bool, true, false, cond}
+use mathlib.Core.Bool.{Bool, cond}
 use mathlib.Core.List.{List, [], _∷_}
 use Prim.Native.Nat.{ℕ, zero, suc, _+_, _≤_, _<_, min}
 use native.Mathlib.Nat.{zero-add}
 use native.Mathlib.Numerals.{one-add}
-use native.Mathlib.Decide.{decLt}
 use native.Mathlib.Omega.{arith}
 use lib.ListN.{length, getD}
 use Rattle.laws.specs.Count.{countTo}
@@ -19,14 +18,10 @@ use Rattle.rack.specs.Rank.{activeKinds, served}
 use Rattle.rack.specs.Row.{rowByte}
 use Rattle.promises.specs.Run.{Accepted}
 use Rattle.promises.specs.Run.Properties.{At}
-use Rattle.promises.specs.Row.{kind-bytes, no-kind-bytes, project-bytes}
+use Rattle.promises.specs.Row.{kind-once, kind-cards, project-cards}
 use Rattle.promises.specs.Named.{namesKind, namesProject, bytesIn, bytesOf}
 
 -- ---- one row
-
-one-or-none : (b : Bool) → cond b 1 0 ≤ 1
-one-or-none true = omega arith
-one-or-none false = omega arith
 
 module _ (p : Plan) (clock : ℕ) (w : Accepted) (at : At p clock w) where
   -- the bytes of the row are those that the state shows
@@ -34,19 +29,19 @@ module _ (p : Plan) (clock : ℕ) (w : Accepted) (at : At p clock w) where
   unfolding bytesIn
   bytes-shown test = rw (at .size) (count-cong (w .before .plan .cards) (λ card. test (getD (w .row) card 0)) (λ card. test (rowByte (w .before) card)) (λ card l. ap test (at .shows card l)))
 
+  pub kind-at-most : (i : ℕ) → bytesIn (namesKind i) (w .row) ≤ 1
+  kind-at-most i = omega (arith, bytes-shown (namesKind i), kind-once (w .before) (at .ready) i)
+
   -- one byte for a kind that is served, none for any other
   pub kind-named : (i : ℕ) → i < p .kinds → bytesIn (namesKind i) (w .row) ≡ cond (served (w .before) i) 1 0
-  kind-named i l = bytes-shown (namesKind i) ∙ kind-bytes (w .before) i (omega (arith, ap (λ (q : Plan). q .kinds) (at .plan)))
-
-  pub kind-at-most : (i : ℕ) → bytesIn (namesKind i) (w .row) ≤ 1
-  kind-at-most i = elim (decLt i (p .kinds)) [ yes l ↦ omega (arith, kind-named i l, one-or-none (served (w .before) i)) | no l ↦ omega (arith, bytes-shown (namesKind i), no-kind-bytes (w .before) i (omega (arith, ap (λ (q : Plan). q .kinds) (at .plan)))) ]
+  kind-named i l = bytes-shown (namesKind i) ∙ kind-cards (w .before) (at .ready) i (omega (arith, ap (λ (q : Plan). q .kinds) (at .plan)))
 
   -- as many as the project holds cards, or all its kinds with slices left
-  pub project-named : (j : ℕ) → bytesIn (namesProject p j) (w .row) ≡ min (held p j clock) (activeKinds (w .before) j)
-  project-named j =
+  pub project-named : (j : ℕ) → j < p .projects → bytesIn (namesProject p j) (w .row) ≡ min (held p j clock) (activeKinds (w .before) j)
+  project-named j l =
       ap (λ (q : Plan). bytesIn (namesProject q j) (w .row)) (sym (at .plan))
       ∙ bytes-shown (namesProject (w .before .plan) j)
-      ∙ project-bytes (w .before) j
+      ∙ project-cards (w .before) (at .ready) j (omega (arith, ap (λ (q : Plan). q .projects) (at .plan)))
       ∙ ap₂ (λ (q : Plan) (c : ℕ). min (held q j c) (activeKinds (w .before) j)) (at .plan) (at .clock)
 
 -- ---- several rows

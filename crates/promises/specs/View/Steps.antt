@@ -20,26 +20,20 @@ use Rattle.rack.specs.Form.Properties.{Ready}
 use Rattle.rack.specs.Rank.{gone, due, until, active, outranks, rank, served}
 use Rattle.rack.specs.Rank.Properties.{working-left, working-of, active-of, active-project, ranked, outranks-due, served-working, unserved-rank}
 use Rattle.rack.specs.Release.{released}
-use Rattle.rack.specs.Release.Properties.{Releasable}
-use Rattle.rack.specs.Slice.{advanced}
+use Rattle.rack.specs.Release.Properties.{Releasable, release-unit, release-others}
+use Rattle.rack.specs.Slice.{unitAfter, advanced}
+use Rattle.rack.specs.Slice.Properties.{Sliceable, unit-after}
 use Rattle.promises.specs.Setup.{Own, other}
 use Rattle.promises.specs.Setup.Properties.{other-of}
 use Rattle.promises.specs.Moment.{Moment}
 use Rattle.promises.specs.Step.{noLater, Serves, Slice, Started, Kept, Release}
 use Rattle.promises.specs.Step.Properties.{later-of}
-use Rattle.promises.specs.After.{sliced-clock, sliced-released, sliced-at, sliced-left, sliced-until, released-clock, released-other, released-unit}
 use Rattle.promises.specs.View.{setupOf, waitOf, momentOf}
 use Rattle.promises.specs.View.Properties.{own-project}
 
-module _ (s : State) (ready : Ready s) (places : length (s .unit) ≡ 16) where
-  fits-places : s .plan .kinds ≤ length (s .unit)
-  fits-places = omega (arith, ready .order .counts .kinds-most)
+-- ---- whom a slice serves
 
-  not-ahead-of-clock : (i : ℕ) → i < s .plan .kinds → unitOf s i .at ≤ s .clock
-  not-ahead-of-clock i l = ready .form .unit-at i (omega (arith, ready .order .counts .kinds-most)) l .release-clock
-
-  -- ---- a slice
-
+module _ (s : State) where
   -- whom a project's first cards go to
   abbrev firstOf : ℕ → ℕ → Bool
   firstOf j k = firstIn (s .plan .kinds) (active s j) (outranks s) (held (s .plan) j (s .clock)) k
@@ -70,26 +64,47 @@ module _ (s : State) (ready : Ready s) (places : length (s .unit) ≡ 16) where
           let a = and-left (firstOf j k) (outranks s k i) t in
           and-both (served s k) (noLater (setupOf (s .plan) j) (momentOf s) i k) (first-served j k a) (first-no-later j i k l a (and-right (firstOf j k) (outranks s k i) t))
 
-  sliced-wait : (i : ℕ) → i < s .plan .kinds → waitOf (advanced s) i ≡ waitOf s i - 1
-  unfolding waitOf gone advanced
-  sliced-wait i l = rw (sliced-released s i fits-places l, sliced-at s i fits-places l) (go (unitOf s i .released))
-    where
-      go : (b : Bool) → cond b (kindAt s i .separation - (s .clock + 1 - unitOf s i .at)) 0 ≡ cond b (kindAt s i .separation - (s .clock - unitOf s i .at)) 0 - 1
-      go true = omega (arith, not-ahead-of-clock i l)
-      go false = refl
+-- ---- a slice
+
+module _ (s : State) (room : ℕ) (may : Sliceable s room) (places : length (s .unit) ≡ 16) where
+  module _ (i : ℕ) (l : i < s .plan .kinds) where
+    pub sliced-released : unitOf (advanced s) i .released ≡ unitOf s i .released
+    unfolding unitAfter
+    sliced-released = ap (λ (v : Unit). v .released) (unit-after s room may places i l)
+
+    pub sliced-at : unitOf (advanced s) i .at ≡ unitOf s i .at
+    unfolding unitAfter
+    sliced-at = ap (λ (v : Unit). v .at) (unit-after s room may places i l)
+
+    pub sliced-left : unitOf (advanced s) i .left ≡ unitOf s i .left - cond (served s i) 1 0
+    unfolding unitAfter
+    sliced-left = ap (λ (v : Unit). v .left) (unit-after s room may places i l)
+
+    pub sliced-until : until (advanced s) i ≡ until s i - 1
+    unfolding until due advanced
+    sliced-until = omega (arith, sliced-at)
+
+    sliced-wait : waitOf (advanced s) i ≡ waitOf s i - 1
+    unfolding waitOf gone advanced
+    sliced-wait = rw (sliced-released, sliced-at) (go (unitOf s i .released))
+      where
+        go : (b : Bool) → cond b (kindAt s i .separation - (s .clock + 1 - unitOf s i .at)) 0 ≡ cond b (kindAt s i .separation - (s .clock - unitOf s i .at)) 0 - 1
+        go true = omega (arith, may .ready .form .unit-at i (omega (arith, may .ready .order .counts .kinds-most)) l .release-clock)
+        go false = refl
 
   pub slice-step : (j : ℕ) → Slice (setupOf (s .plan) j) (served s) (momentOf s) (momentOf (advanced s))
+  unfolding advanced
   slice-step j = record {
-    serves = record { some-left = λ i o e. working-left s i (served-working s i e); waits = waiting j };
-    clock = sliced-clock s;
-    left = λ i o. sliced-left s i fits-places (o .below);
-    until = λ i o p. sliced-until s i fits-places (o .below);
+    serves = record { some-left = λ i o e. working-left s i (served-working s i e); waits = waiting s j };
+    clock = refl;
+    left = λ i o. sliced-left i (o .below);
+    until = λ i o p. sliced-until i (o .below);
     wait = λ i o. sliced-wait i (o .below);
   }
 
 -- ---- a release
 
-module _ (s : State) (places : length (s .unit) ≡ 16) (k e : ℕ) (may : Releasable s k e) where
+module _ (s : State) (k e : ℕ) (may : Releasable s k e) (places : length (s .unit) ≡ 16) where
   waited : waitOf s k ≡ 0
   unfolding waitOf
   waited = go (unitOf s k .released) refl
@@ -98,35 +113,33 @@ module _ (s : State) (places : length (s .unit) ≡ 16) (k e : ℕ) (may : Relea
       go true r = omega (arith, may .start .separated r)
       go false r = refl
 
-  new-unit : unitOf (released s k e) k ≡ record { released = true; at = s .clock; left = e }
-  new-unit = released-unit s k e (omega (arith, may .its-kind, may .ready .order .counts .kinds-most))
-
   pub new-until : until (released s k e) k ≡ kindAt s k .deadline
   unfolding until due released
-  new-until = omega (arith, ap (λ (v : Unit). v .at) new-unit)
+  new-until = omega (arith, ap (λ (v : Unit). v .at) (release-unit s k e may places))
 
   new-wait : waitOf (released s k e) k ≡ kindAt s k .separation
   unfolding waitOf gone released
-  new-wait = rw new-unit (omega arith)
+  new-wait = rw (release-unit s k e may places) (omega arith)
 
   pub kept-until : (i : ℕ) → i ≢ k → until (released s k e) i ≡ until s i
   unfolding until due released
-  kept-until i d = ap (λ (v : Unit). v .at + kindAt s i .deadline - s .clock) (released-other s k e i d)
+  kept-until i d = ap (λ (v : Unit). v .at + kindAt s i .deadline - s .clock) (release-others s k e may places i d)
 
   kept-wait : (i : ℕ) → i ≢ k → waitOf (released s k e) i ≡ waitOf s i
   unfolding waitOf gone released
-  kept-wait i d = ap (λ (v : Unit). cond (v .released) (kindAt s i .separation - (s .clock - v .at)) 0) (released-other s k e i d)
+  kept-wait i d = ap (λ (v : Unit). cond (v .released) (kindAt s i .separation - (s .clock - v .at)) 0) (release-others s k e may places i d)
 
   pub release-step : (j : ℕ) → Release (setupOf (s .plan) j) k e (momentOf s) (momentOf (released s k e))
+  unfolding released
   release-step j = record {
-    clock = released-clock s k e;
+    clock = refl;
     started = λ o. record {
       some = may .start .some;
       fits = may .start .length-most;
       may = waited;
-      left = ap (λ (v : Unit). v .left) new-unit;
+      left = ap (λ (v : Unit). v .left) (release-unit s k e may places);
       until = new-until;
       wait = new-wait;
     };
-    others = λ i o d. record { left = ap (λ (v : Unit). v .left) (released-other s k e i d); until = kept-until i d; wait = kept-wait i d };
+    others = λ i o d. record { left = ap (λ (v : Unit). v .left) (release-others s k e may places i d); until = kept-until i d; wait = kept-wait i d };
   }

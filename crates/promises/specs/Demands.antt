@@ -8,17 +8,24 @@ use mathlib.Core.List.{List}
 use Prim.Native.Nat.{ℕ, _+_, _-_, _≤_, _<_}
 use native.Mathlib.Omega.{arith}
 use lib.ListN.{length, getD, take, drop}
+use lib.Seq.{take-all}
+use borrow.Author.Tests.{eqb-true}
 use Rattle.plan.specs.declared.Plan.{Plan}
 use Rattle.plan.specs.declared.answer.Answer.the-variants.{Good}
 use Rattle.plan.specs.Answer.{number}
 use Rattle.plan.specs.Order.{within, projectOf, budgetOf, kindOf}
 use Rattle.layout.specs.Layout.{held}
+use Rattle.layout.specs.Layout.Properties.{held-ceiling}
 use Rattle.rack.specs.State.{unitOf}
 use Rattle.rack.specs.Rank.{activeKinds}
 use Rattle.rack.specs.Start.{startOf}
 use Rattle.rack.specs.Release.{releaseOf}
-use Rattle.promises.specs.Run.{Call, nextAfter, runFrom, after, slicesOf, noSlice, never, sinceFrom, fewer}
+use Rattle.promises.specs.Run.{Call, nextAfter, runFrom, after, Accepted, slicesOf, noSlice, never, sinceFrom, fewer}
+use Rattle.promises.specs.Run.Properties.{At}
 use Rattle.promises.specs.Named.{namesKind, namesProject, bytesIn, bytesOf}
+use Rattle.promises.specs.Named.Properties.{kind-at-most, project-named}
+use Rattle.promises.specs.Budget.{named-most, named-all}
+use Rattle.promises.specs.Kept.{start-plan, start-order, unit-named, unit-left, slice-at, not-ten, not-fifteen, fourteen-says, fourteen-of}
 
 -- ---- what a row owes the cards
 
@@ -32,47 +39,58 @@ pub record Orderly (p : Plan) (row : List ℕ) : Type 0 where
   -- no project exceeds its ceiling
   pub ceiling : (j : ℕ) → j < p .projects → bytesIn (namesProject p j) row ≤ projectOf p j .ceiling
 
+orderly : (p : Plan) (clock : ℕ) (w : Accepted) → At p clock w → Orderly p (w .row)
+unfolding namesKind
+orderly p clock w at = record {
+  cards = at .size ∙ ap (λ (q : Plan). q .cards) (at .plan);
+  one-unit = λ card i k a b. omega (arith, eqb-true (getD (w .row) card 0) (i + 1) a, eqb-true (getD (w .row) card 0) (k + 1) b);
+  one-card = kind-at-most p clock w at;
+  ceiling = λ j l. omega (arith, project-named p clock w at j l, held-ceiling p (rw (at .plan) at (at .ready .order)) j l clock);
+}
+
 module _ (p : Plan) (admitted : startOf p .answer ≡ Good) where
   -- ---- 1. In time
 
   -- after an accepted release of kind i with length e, the rows of the next D accepted slices name the kind e times
   pub in-time : (calls more : List Call) (i e : ℕ) → let next = releaseOf (after p calls) i e in let slices = slicesOf (next .state) more in let deadline = kindOf p i .deadline in next .answer ≡ Good → deadline ≤ length slices → bytesOf (namesKind i) (take deadline slices) ≡ e
-  in-time calls more i e good enough = ?
+  in-time calls more i e good enough = let n = unit-named p admitted calls more i e good in omega (arith, n .most, n .least)
 
   -- after x of them, what is left is at most D - x
   pub in-time-so-far : (calls more : List Call) (i e : ℕ) → let next = releaseOf (after p calls) i e in let slices = slicesOf (next .state) more in let deadline = kindOf p i .deadline in next .answer ≡ Good → length slices ≤ deadline → e - bytesOf (namesKind i) slices ≤ deadline - length slices
-  in-time-so-far calls more i e good few = ?
+  in-time-so-far calls more i e good few =
+      let slices = slicesOf (releaseOf (after p calls) i e .state) more in
+      omega (arith, unit-named p admitted calls more i e good .least, ap (bytesOf (namesKind i)) (take-all (kindOf p i .deadline) slices few))
 
   -- "A unit released at clock r is in time if left is 0 when the clock is r + D": while it is the kind's last, what the state says is left is at most D - x
   pub left-in-time : (calls more : List Call) (i e : ℕ) → let next = releaseOf (after p calls) i e in let end = runFrom (next .state) more in next .answer ≡ Good → unitOf end i .at ≡ after p calls .clock → unitOf end i .left ≤ kindOf p i .deadline - length (slicesOf (next .state) more)
-  left-in-time calls more i e good same = ?
+  left-in-time = unit-left p admitted
 
   -- ---- 2. Cards
 
   -- every row written
   pub rows-orderly : (calls : List Call) (x : ℕ) → let slices = slicesOf (startOf p .state) calls in x < length slices → Orderly p (getD slices x noSlice .row)
-  rows-orderly calls x l = ?
+  rows-orderly calls x l = orderly p (startOf p .state .clock + x) (getD (slicesOf (startOf p .state) calls) x noSlice) (slice-at p admitted calls x l)
 
   -- ---- 3. Budget
 
   -- in any F accepted slices in a row, the bytes that name kinds of a project are at most B
   pub budget-at-most : (calls : List Call) (x j : ℕ) → let slices = slicesOf (startOf p .state) calls in j < p .projects → x + p .frame ≤ length slices → bytesOf (namesProject p j) (take (p .frame) (drop x slices)) ≤ budgetOf p j
-  budget-at-most calls x j l enough = ?
+  budget-at-most calls x j l enough = rw (start-plan p admitted) at (named-most (startOf p .state) (start-order p admitted) calls x j (rw (start-plan p admitted) l) (rw (start-plan p admitted) enough))
 
   -- and exactly B if at each of those slices at least as many of its kinds have work left as it holds cards
   pub budget-exactly : (calls : List Call) (x j : ℕ) → let slices = slicesOf (startOf p .state) calls in j < p .projects → x + p .frame ≤ length slices → ((y : ℕ) → y < p .frame → let s = getD slices (x + y) noSlice .before in held p j (s .clock) ≤ activeKinds s j) → bytesOf (namesProject p j) (take (p .frame) (drop x slices)) ≡ budgetOf p j
-  budget-exactly calls x j l enough busy = ?
+  budget-exactly calls x j l enough busy = rw (start-plan p admitted) at (named-all (startOf p .state) (start-order p admitted) calls x j (rw (start-plan p admitted) l) (rw (start-plan p admitted) enough) (rw (start-plan p admitted) busy))
 
   -- ---- 4. Refusals on the way
 
   -- 10 never occurs
   pub never-out-of-form : (calls : List Call) (call : Call) → number (nextAfter (after p calls) call .answer) ≢ 10
-  never-out-of-form calls call = ?
+  never-out-of-form = not-ten p admitted
 
   -- 15 never occurs
   pub never-left-over : (calls : List Call) (call : Call) → number (nextAfter (after p calls) call .answer) ≢ 15
-  never-left-over calls call = ?
+  never-left-over = not-fifteen p admitted
 
   -- 14 exactly where the kind and the length are in range, and fewer than T accepted slices have gone by since the last accepted release of the kind
   pub told-early : (calls : List Call) (i e : ℕ) → (number (releaseOf (after p calls) i e .answer) ≡ 14) ↔ ((i < p .kinds) × (within (kindOf p i .length) e ≡ true) × (fewer (kindOf p i .separation) (sinceFrom i (startOf p .state) never calls) ≡ true))
-  told-early calls i e = ?
+  told-early calls i e = (fourteen-says p admitted calls i e, fourteen-of p admitted calls i e)

@@ -19,3 +19,4 @@ pub mod Safe
 pub mod InTime
 pub mod Budget
 pub mod Refusals
+pub mod Kept

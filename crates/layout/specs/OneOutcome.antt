@@ -9,12 +9,12 @@ use Rattle.layout.specs.Cards.{cardsBelow}
 use Rattle.layout.specs.Table.{Tabled}
 
 -- `cards_below`
-pub cards-below-one : (frame cell slice a b : ℕ) → a ≡ cardsBelow frame cell slice → b ≡ cardsBelow frame cell slice → a ≡ b
-cards-below-one frame cell slice a b x y = x ∙ sym y
+pub cards-below-one-outcome : (frame cell slice a b : ℕ) → a ≡ cardsBelow frame cell slice → b ≡ cardsBelow frame cell slice → a ≡ b
+cards-below-one-outcome frame cell slice a b x y = x ∙ sym y
 
 -- `slot_table`
-pub slot-table-one : (p : Plan) (entry exit exit′ : List ℕ) (r r′ : TableWritten) → Tabled p entry exit r → Tabled p entry exit′ r′ → (r ≡ r′) × (exit ≡ exit′)
-slot-table-one p entry exit exit′ r r′ a b =
+pub slot-table-one-outcome : (p : Plan) (entry exit exit′ : List ℕ) (r r′ : TableWritten) → Tabled p entry exit r → Tabled p entry exit′ r′ → (r ≡ r′) × (exit ≡ exit′)
+slot-table-one-outcome p entry exit exit′ r r′ a b =
     let answers = a .answer ∙ sym (b .answer) in
     let counts = a .count ∙ sym (b .count) in
     (λ i. record { answer = answers i; count = counts i }, a .bytes ∙ sym (b .bytes))

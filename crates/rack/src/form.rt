@@ -64,7 +64,8 @@ impl State {
         let plan = self.plan;
         let used = plan.kinds as usize;
         for i in 0..16 {
-            if !self.unit[i].fits_place(i < used, self.clock, plan.kind[i].length) {
+            if !self.unit[i]
+                .fits_place(i < used, self.clock, plan.kind[i].length) {
                 return false;
             }
         }

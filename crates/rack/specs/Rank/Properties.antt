@@ -86,6 +86,7 @@ module _ (s : State) where
     where
       less : (a b : ℕ) → s .clock ≤ a → s .clock ≤ b → ltb a b ≡ ltb (a - s .clock) (b - s .clock)
       less a b p q = elim (decLt a b) [ yes l ↦ lt-ltb a b l ∙ sym (lt-ltb (a - s .clock) (b - s .clock) (omega arith)) | no l ↦ le-ltb a b (omega arith) ∙ sym (le-ltb (a - s .clock) (b - s .clock) (omega arith)) ]
+
       same : (a b : ℕ) → s .clock ≤ a → s .clock ≤ b → eqb a b ≡ eqb (a - s .clock) (b - s .clock)
       same a b p q = go (eqb a b) refl
         where

@@ -137,6 +137,7 @@ seat-is s i end w e = go (served s i) refl
   where
     card : ℕ
     card = lowest (s .plan) (s .clock) (kindAt s i .project) + rank s i
+
     go : (b : Bool) → served s i ≡ b → cond (ltb card end) (card + 1) 0 ≡ seatOf s i
     go true p = rw (lt-ltb card end (omega (arith, served-rank s i p))) (sym (seat-served s i p))
     go false p = rw (le-ltb card end (omega (arith, unserved-rank s i w p))) (sym (seat-unserved s i p))

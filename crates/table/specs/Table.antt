@@ -1,4 +1,4 @@
--- Document 01, "Plan A, plan B and the numbers they give": the plans, and the table P2 to P11 as one claim.
+-- Document 01, "Plan A, plan B and the numbers they give": the plans, and the table P1 to P11 as one claim.
 -- Assumes nothing.
 use mathlib.Core.Path.{_≡_}
 use mathlib.Core.List.{List, [], _∷_, map}
@@ -12,8 +12,12 @@ use Rattle.plan.specs.Record.{noProject, noKind}
 use Rattle.plan.specs.Answer.{number, place, excess}
 use Rattle.layout.specs.Layout.{slotOf, held}
 use Rattle.supply.specs.Supply.{supply}
+use Rattle.plan_bytes.specs.declared.Reading.{Reading}
+use Rattle.plan_bytes.specs.Parts.{encoded}
+use Rattle.plan_bytes.specs.Reading.{readOf}
 use Rattle.verdict.specs.declared.Verdict.{Verdict}
 use Rattle.verdict.specs.Verdict.{judged}
+use Rattle.plan.specs.declared.answer.Answer.the-variants.{Good}
 pub mod Properties
 
 -- ---- the plans
@@ -45,6 +49,11 @@ abbrev pub opening : Plan
 opening =
     record { cards = 2; projects = 1; kinds = 3; frame = 1; project = project 2 2 ∷ replicate 7 noProject; kind = kind 0 3 3 2 ∷ kind 0 6 6 4 ∷ kind 0 6 6 3 ∷ replicate 13 noKind }
 
+-- "`22 18 40 10 0C 20 14 00 10 01 00 0C 20 08 00 80 04 20 10 01 00 04`"
+abbrev pub bytesA : List ℕ
+bytesA =
+    0x22 ∷ 0x18 ∷ 0x40 ∷ 0x10 ∷ 0x0c ∷ 0x20 ∷ 0x14 ∷ 0x00 ∷ 0x10 ∷ 0x01 ∷ 0x00 ∷ 0x0c ∷ 0x20 ∷ 0x08 ∷ 0x00 ∷ 0x80 ∷ 0x04 ∷ 0x20 ∷ 0x10 ∷ 0x01 ∷ 0x00 ∷ 0x04 ∷ []
+
 -- ---- what is said of them
 
 -- a verdict's number, place, excess and the sixteen k
@@ -62,6 +71,9 @@ refusedWith n at x = n ∷ at ∷ x ∷ replicate 16 0
 -- ---- the table
 
 pub record Table : Type 0 where
+  -- "P1 A is .., read and written."
+  pub P1-read : readOf bytesA ≡ record { answer = Good; plan = planA; taken = 22 }
+  pub P1-written : encoded planA ≡ bytesA
   -- "P2 A's slot table: card 0 is 1 1 1 2, card 1 is 2 2 2 2."
   pub P2 : written 8 (slotOf planA) (replicate 8 0) ≡ 1 ∷ 1 ∷ 1 ∷ 2 ∷ 2 ∷ 2 ∷ 2 ∷ 2 ∷ []
   -- "P3 A, project 0: S(1,t) for t = 0, 1, 3, 4, 8 is 0, 0, 2, 3, 6."

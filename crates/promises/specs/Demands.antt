@@ -1,7 +1,7 @@
 -- Demand 3: what the rows written owe each unit, each card and each project. Beside document 01, "Running".
 -- Of every run: any calls of slice and release, with any arguments and any lent row, refused ones among them, from a fresh start on an admitted plan.
 -- Assumes nothing.
-use mathlib.Core.Path.{_≡_, sym, ap, _∙_}
+use mathlib.Core.Path.{_≡_, ap}
 use mathlib.Core.Logic.{_≢_, _↔_}
 use mathlib.Core.Bool.{true}
 use mathlib.Core.List.{List}
@@ -9,44 +9,19 @@ use Prim.Native.Nat.{ℕ, _+_, _-_, _≤_, _<_}
 use native.Mathlib.Omega.{arith}
 use lib.ListN.{length, getD, take, drop}
 use lib.Seq.{take-all}
-use borrow.Author.Tests.{eqb-true}
 use Rattle.plan.specs.declared.Plan.{Plan}
 use Rattle.plan.specs.declared.answer.Answer.the-variants.{Good}
 use Rattle.plan.specs.Answer.{number}
-use Rattle.plan.specs.Order.{within, projectOf, budgetOf, kindOf}
+use Rattle.plan.specs.Order.{within, budgetOf, kindOf}
 use Rattle.layout.specs.Layout.{held}
-use Rattle.layout.specs.Layout.Properties.{held-ceiling}
 use Rattle.rack.specs.State.{unitOf}
 use Rattle.rack.specs.Rank.{activeKinds}
 use Rattle.rack.specs.Start.{startOf}
 use Rattle.rack.specs.Release.{releaseOf}
-use Rattle.promises.specs.Run.{Call, nextAfter, runFrom, after, Accepted, slicesOf, noSlice, never, sinceFrom, fewer}
-use Rattle.promises.specs.Run.Properties.{At}
-use Rattle.promises.specs.Named.{namesKind, namesProject, bytesIn, bytesOf}
-use Rattle.promises.specs.Named.Properties.{kind-at-most, project-named}
-use Rattle.promises.specs.Budget.{named-most, named-all}
-use Rattle.promises.specs.Kept.{start-plan, start-order, unit-named, unit-left, slice-at, not-ten, not-fifteen, fourteen-says, fourteen-of}
-
--- ---- what a row owes the cards
-
-pub record Orderly (p : Plan) (row : List ℕ) : Type 0 where
-  -- "The row written has m bytes": one for each card
-  pub cards : length row ≡ p .cards
-  -- no card serves two units
-  pub one-unit : (card i k : ℕ) → namesKind i (getD row card 0) ≡ true → namesKind k (getD row card 0) ≡ true → i ≡ k
-  -- no unit holds two cards
-  pub one-card : (i : ℕ) → bytesIn (namesKind i) row ≤ 1
-  -- no project exceeds its ceiling
-  pub ceiling : (j : ℕ) → j < p .projects → bytesIn (namesProject p j) row ≤ projectOf p j .ceiling
-
-orderly : (p : Plan) (clock : ℕ) (w : Accepted) → At p clock w → Orderly p (w .row)
-unfolding namesKind
-orderly p clock w at = record {
-  cards = at .size ∙ ap (λ (q : Plan). q .cards) (at .plan);
-  one-unit = λ card i k a b. omega (arith, eqb-true (getD (w .row) card 0) (i + 1) a, eqb-true (getD (w .row) card 0) (k + 1) b);
-  one-card = kind-at-most p clock w at;
-  ceiling = λ j l. omega (arith, project-named p clock w at j l, held-ceiling p (rw (at .plan) at (at .ready .order)) j l clock);
-}
+use Rattle.promises.specs.Run.{Call, nextAfter, runFrom, after, slicesOf, noSlice}
+use Rattle.promises.specs.Since.{never, sinceFrom, fewer}
+use Rattle.promises.specs.Named.{namesKind, namesProject, bytesOf, Orderly}
+use Rattle.promises.specs.Kept.{unit-named, unit-left, row-orderly, project-most, project-all, not-ten, not-fifteen, fourteen-says, fourteen-of}
 
 module _ (p : Plan) (admitted : startOf p .answer ≡ Good) where
   -- ---- 1. In time
@@ -69,17 +44,17 @@ module _ (p : Plan) (admitted : startOf p .answer ≡ Good) where
 
   -- every row written
   pub rows-orderly : (calls : List Call) (x : ℕ) → let slices = slicesOf (startOf p .state) calls in x < length slices → Orderly p (getD slices x noSlice .row)
-  rows-orderly calls x l = orderly p (startOf p .state .clock + x) (getD (slicesOf (startOf p .state) calls) x noSlice) (slice-at p admitted calls x l)
+  rows-orderly = row-orderly p admitted
 
   -- ---- 3. Budget
 
   -- in any F accepted slices in a row, the bytes that name kinds of a project are at most B
   pub budget-at-most : (calls : List Call) (x j : ℕ) → let slices = slicesOf (startOf p .state) calls in j < p .projects → x + p .frame ≤ length slices → bytesOf (namesProject p j) (take (p .frame) (drop x slices)) ≤ budgetOf p j
-  budget-at-most calls x j l enough = rw (start-plan p admitted) at (named-most (startOf p .state) (start-order p admitted) calls x j (rw (start-plan p admitted) l) (rw (start-plan p admitted) enough))
+  budget-at-most = project-most p admitted
 
   -- and exactly B if at each of those slices at least as many of its kinds have work left as it holds cards
   pub budget-exactly : (calls : List Call) (x j : ℕ) → let slices = slicesOf (startOf p .state) calls in j < p .projects → x + p .frame ≤ length slices → ((y : ℕ) → y < p .frame → let s = getD slices (x + y) noSlice .before in held p j (s .clock) ≤ activeKinds s j) → bytesOf (namesProject p j) (take (p .frame) (drop x slices)) ≡ budgetOf p j
-  budget-exactly calls x j l enough busy = rw (start-plan p admitted) at (named-all (startOf p .state) (start-order p admitted) calls x j (rw (start-plan p admitted) l) (rw (start-plan p admitted) enough) (rw (start-plan p admitted) busy))
+  budget-exactly = project-all p admitted
 
   -- ---- 4. Refusals on the way
 

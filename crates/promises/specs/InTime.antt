@@ -30,7 +30,7 @@ use Rattle.promises.specs.Safe.{Safe}
 use Rattle.promises.specs.Safe.Properties.{safe-unit, safe-left, slice-safe, release-safe, run-safe}
 
 -- with so much left, due in so many slices: in the rows until then kind i is named no more often, and no less but for the slices to come
-pub record Named (i left t : ℕ) (slices : List Accepted) : Type 0 where
+pub record OnTime (i left t : ℕ) (slices : List Accepted) : Type 0 where
   pub most : bytesOf (namesKind i) (take t slices) ≤ left
   pub least : left ≤ bytesOf (namesKind i) (take t slices) + (t - length slices)
 
@@ -40,19 +40,19 @@ no-bytes : (i t : ℕ) → bytesOf (namesKind i) (take t []) ≡ 0
 unfolding bytesOf
 no-bytes i t = ap (bytesOf (namesKind i)) (take-nil {A = Accepted} t)
 
-none-yet : (i left t : ℕ) → left ≤ t → Named i left t []
+none-yet : (i left t : ℕ) → left ≤ t → OnTime i left t []
 none-yet i left t l = record { most = omega (arith, no-bytes i t); least = omega (arith, no-bytes i t) }
 
-over : (i left : ℕ) (slices : List Accepted) → left ≡ 0 → Named i left 0 slices
+over : (i left : ℕ) (slices : List Accepted) → left ≡ 0 → OnTime i left 0 slices
 unfolding bytesOf
 over i left slices e = record { most = omega arith; least = omega arith }
 
-one-more : (i left t c : ℕ) (w : Accepted) (slices : List Accepted) → left ≤ t → bytesIn (namesKind i) (w .row) ≡ c → c ≤ left → Named i (left - c) (t - 1) slices → Named i left t (w ∷ slices)
+one-more : (i left t c : ℕ) (w : Accepted) (slices : List Accepted) → left ≤ t → bytesIn (namesKind i) (w .row) ≡ c → c ≤ left → OnTime i (left - c) (t - 1) slices → OnTime i left t (w ∷ slices)
 unfolding bytesOf
 one-more i left zero c w slices l e m n = over i left (w ∷ slices) (omega arith)
 one-more i left (suc t) c w slices l e m n =
     let z : suc t - 1 ≡ t = omega arith in
-    let h : Named i (left - c) t slices = rw z at n in
+    let h : OnTime i (left - c) t slices = rw z at n in
     record { most = omega (arith, h .most); least = omega (arith, h .least) }
 
 -- ---- along a run
@@ -72,7 +72,7 @@ pub record Under (i : ℕ) (s : State) : Type 0 where
 
 module _ (i : ℕ) where
   abbrev Claim : State → List Accepted → State → Type 0
-  Claim s slices end = Under i s → Named i (unitOf s i .left) (until s i) slices
+  Claim s slices end = Under i s → OnTime i (unitOf s i .left) (until s i) slices
 
   step-slice : (s end : State) (bytes : List ℕ) (slices : List Accepted) → sliceAnswer s (length bytes) ≡ Good → Claim (advanced s) slices end → Claim s (record { before = s; row = rowWritten s bytes } ∷ slices) end
   unfolding advanced
@@ -93,24 +93,24 @@ module _ (i : ℕ) where
   unfolding released
   step-release s end k e slices good h u = elim (ℕ-discrete i k) [ yes q ↦ same (rw (← q) at good) | no q ↦ other q ]
     where
-      same : releaseAnswer s i e ≡ Good → Named i (unitOf s i .left) (until s i) slices
+      same : releaseAnswer s i e ≡ Good → OnTime i (unitOf s i .left) (until s i) slices
       same g = let z = again s e g u in rw z (over i (unitOf s i .left) slices (omega (arith, safe-left s (u .safe) i (u .its-kind))))
 
-      other : i ≢ k → Named i (unitOf s i .left) (until s i) slices
+      other : i ≢ k → OnTime i (unitOf s i .left) (until s i) slices
       other q =
           let may = release-says s k e good in
           let v = release-others s k e may (u .safe .places) i q in
           let next : Under i (released s k e) = record { safe = release-safe s (u .safe) k e good; its-kind = u .its-kind; released = ap (λ (x : Unit). x .released) v ∙ u .released } in
           rw (kept-until s k e may (u .safe .places) i q, v) at (h next)
 
-  pub unit-named : (calls : List Call) (s : State) → Under i s → Named i (unitOf s i .left) (until s i) (slicesOf s calls)
+  pub unit-named : (calls : List Call) (s : State) → Under i s → OnTime i (unitOf s i .left) (until s i) (slicesOf s calls)
   unit-named = along Claim (λ s u. none-yet i (unitOf s i .left) (until s i) (safe-left s (u .safe) i (u .its-kind))) step-slice step-release
 
 -- ---- after an accepted release
 
 module _ (s : State) (safe : Safe s) (i e : ℕ) (good : releaseAnswer s i e ≡ Good) where
   -- the unit in the rows that follow
-  pub release-named : (more : List Call) → Named i e (kindAt s i .deadline) (slicesOf (released s i e) more)
+  pub release-named : (more : List Call) → OnTime i e (kindAt s i .deadline) (slicesOf (released s i e) more)
   unfolding released
   release-named more =
       let may = release-says s i e good in

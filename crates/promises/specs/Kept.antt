@@ -6,28 +6,33 @@ use mathlib.Core.Bool.{true, false}
 use mathlib.Core.List.{List}
 use Prim.Native.Nat.{ℕ, _+_, _-_, _≤_, _<_}
 use native.Mathlib.Omega.{arith}
-use lib.ListN.{length, getD, getD-replicate}
+use lib.ListN.{length, getD, take, drop, getD-replicate}
 use Rattle.plan.specs.declared.Plan.{Plan}
 use Rattle.plan.specs.declared.Kind.{Kind}
 use Rattle.plan.specs.declared.answer.Answer.the-variants.{Good}
 use Rattle.plan.specs.Answer.{number}
-use Rattle.plan.specs.Order.{kindOf, within}
+use Rattle.plan.specs.Order.{budgetOf, kindOf, within}
 use Rattle.plan.specs.Order.Properties.{InOrder}
+use Rattle.layout.specs.Layout.{held}
 use Rattle.rack.specs.declared.Unit.{Unit}
 use Rattle.rack.specs.declared.State.{State}
 use Rattle.rack.specs.State.{unitOf, kindAt, freshOf, noUnit}
 use Rattle.rack.specs.State.Properties.{good-moves}
 use Rattle.rack.specs.Start.{startOf}
 use Rattle.rack.specs.Start.Properties.{start-good}
-use Rattle.rack.specs.Rank.{gone}
+use Rattle.rack.specs.Rank.{gone, activeKinds}
 use Rattle.rack.specs.Release.{early, released, releaseAnswer, releaseOf}
 use Rattle.rack.specs.Slice.{sliceOf}
-use Rattle.promises.specs.Run.{Call, slice, release, nextAfter, runFrom, after, Accepted, noSlice, slicesOf, never, sinceFrom, fewer}
+use Rattle.promises.specs.Run.{Call, slice, release, nextAfter, runFrom, after, noSlice, slicesOf}
+use Rattle.promises.specs.Since.{never, sinceFrom, fewer}
 use Rattle.promises.specs.Run.Properties.{run-plan, At, slices-at}
-use Rattle.promises.specs.Safe.{Safe}
+use Rattle.promises.specs.Named.{namesProject, bytesOf, Orderly}
+use Rattle.promises.specs.Named.Properties.{orderly}
+use Rattle.promises.specs.Budget.{named-most, named-all}
 use Rattle.promises.specs.Safe.Properties.{start-safe, after-safe}
-use Rattle.promises.specs.InTime.{Named, release-named, release-left}
-use Rattle.promises.specs.Refusals.{release-not-ten, release-not-fifteen, fourteen-early, early-fourteen, slice-not, tells-early, Told, told-run}
+use Rattle.promises.specs.InTime.{OnTime, release-named, release-left}
+use Rattle.promises.specs.Refusals.{release-not-ten, release-not-fifteen, fourteen-early, early-fourteen, slice-not}
+use Rattle.promises.specs.Since.Properties.{tells-early, Told, told-run}
 
 -- an accepted release hands back the state that it says
 release-moves : (s : State) (i e : ℕ) → releaseOf s i e .answer ≡ Good → releaseOf s i e .state ≡ released s i e
@@ -39,10 +44,10 @@ unfolding releaseOf
 release-good s i e good = good
 
 module _ (p : Plan) (admitted : startOf p .answer ≡ Good) where
-  pub start-plan : startOf p .state .plan ≡ p
+  start-plan : startOf p .state .plan ≡ p
   start-plan = ap (λ (s : State). s .plan) (start-good p admitted)
 
-  pub start-order : InOrder (startOf p .state .plan)
+  start-order : InOrder (startOf p .state .plan)
   start-order = start-safe p admitted .ready .order
 
   after-plan : (calls : List Call) → after p calls .plan ≡ p
@@ -54,7 +59,7 @@ module _ (p : Plan) (admitted : startOf p .answer ≡ Good) where
     deadline-kept : kindAt (after p calls) i .deadline ≡ kindOf p i .deadline
     deadline-kept = ap (λ (q : Plan). kindOf q i .deadline) (after-plan calls)
 
-    pub unit-named : Named i e (kindOf p i .deadline) (slicesOf (releaseOf (after p calls) i e .state) more)
+    pub unit-named : OnTime i e (kindOf p i .deadline) (slicesOf (releaseOf (after p calls) i e .state) more)
     unit-named = rw (release-moves (after p calls) i e good, ← deadline-kept) (release-named (after p calls) (after-safe p admitted calls) i e (release-good (after p calls) i e good) more)
 
     pub unit-left : unitOf (runFrom (releaseOf (after p calls) i e .state) more) i .at ≡ after p calls .clock → unitOf (runFrom (releaseOf (after p calls) i e .state) more) i .left ≤ kindOf p i .deadline - length (slicesOf (releaseOf (after p calls) i e .state) more)
@@ -62,11 +67,20 @@ module _ (p : Plan) (admitted : startOf p .answer ≡ Good) where
 
   -- ---- a row
 
-  pub slice-at : (calls : List Call) (x : ℕ) → x < length (slicesOf (startOf p .state) calls) → At p (startOf p .state .clock + x) (getD (slicesOf (startOf p .state) calls) x noSlice)
-  slice-at calls x l = ap-plan (slices-at noSlice calls (startOf p .state) x l)
+  pub row-orderly : (calls : List Call) (x : ℕ) → x < length (slicesOf (startOf p .state) calls) → Orderly p (getD (slicesOf (startOf p .state) calls) x noSlice .row)
+  row-orderly calls x l = ap-plan (slices-at noSlice calls (startOf p .state) x l)
     where
-      ap-plan : {w : Accepted} → At (startOf p .state .plan) (startOf p .state .clock + x) w → At p (startOf p .state .clock + x) w
-      ap-plan a = record { plan = a .plan ∙ start-plan; clock = a .clock; ready = a .ready; size = a .size; shows = a .shows }
+      ap-plan : At (startOf p .state .plan) (startOf p .state .clock + x) (getD (slicesOf (startOf p .state) calls) x noSlice) → Orderly p (getD (slicesOf (startOf p .state) calls) x noSlice .row)
+      ap-plan a = orderly p (startOf p .state .clock + x) (getD (slicesOf (startOf p .state) calls) x noSlice) (rw start-plan at a)
+
+  -- ---- a project
+
+  module _ (calls : List Call) (x j : ℕ) (l : j < p .projects) (enough : x + p .frame ≤ length (slicesOf (startOf p .state) calls)) where
+    pub project-most : bytesOf (namesProject p j) (take (p .frame) (drop x (slicesOf (startOf p .state) calls))) ≤ budgetOf p j
+    project-most = rw start-plan at (named-most (startOf p .state) start-order calls x j (rw start-plan l) (rw start-plan enough))
+
+    pub project-all : ((y : ℕ) → y < p .frame → let s = getD (slicesOf (startOf p .state) calls) (x + y) noSlice .before in held p j (s .clock) ≤ activeKinds s j) → bytesOf (namesProject p j) (take (p .frame) (drop x (slicesOf (startOf p .state) calls))) ≡ budgetOf p j
+    project-all busy = rw start-plan at (named-all (startOf p .state) start-order calls x j (rw start-plan l) (rw start-plan enough) (rw start-plan busy))
 
   -- ---- a refusal
 

@@ -1,20 +1,23 @@
--- Demand 3, proved: `Demands` states it, over `Run` and `Named`; the other modules are the proof, in layers.
+-- Demands 1 and 3: `Outcomes` and `Demands` state them, over `Run`, `Since` and `Named`. The other modules are the proof, in layers.
 -- Assumes nothing.
 -- ---- the statements
 pub mod Run
+pub mod Since
 pub mod Named
+pub mod Outcomes
 pub mod Demands
--- ---- what a row is, and the arithmetic of workload and windows
+-- ---- what a row is
 pub mod Row
+-- ---- the arithmetic of workload and windows, the invariant of one project, and the steps that keep it
 pub mod Setup
 pub mod Workload
 pub mod Admitted
--- ---- the invariant of one project, and the steps that keep it
 pub mod Moment
 pub mod Step
 pub mod OnTrack
--- ---- the rack as a project sees it, and its runs
+-- ---- the rack as a project sees it: the ranking, and the rack's calls as such steps
 pub mod View
+-- ---- runs
 pub mod Safe
 pub mod InTime
 pub mod Budget

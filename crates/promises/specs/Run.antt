@@ -1,9 +1,7 @@
 -- A run of the rack: any calls, accepted or refused, each on the state that the last gave back, and the rows that its slices write.
 -- Assumes nothing.
-use Prim.Native.Nat.{ℕ, _+_}
-use mathlib.Core.Bool.{Bool, false, cond}
+use Prim.Native.Nat.{ℕ}
 use mathlib.Core.List.{List, [], _∷_, _++_}
-use lib.Dec.{ltb, eqb}
 use lib.ListN.{length, take}
 use Rattle.plan.specs.declared.Plan.{Plan}
 use Rattle.plan.specs.Answer.{ifGood}
@@ -11,7 +9,7 @@ use Rattle.rack.specs.declared.State.{State}
 use Rattle.rack.specs.declared.Next.{Next}
 use Rattle.rack.specs.State.{noState}
 use Rattle.rack.specs.Start.{startOf}
-use Rattle.rack.specs.Release.{releaseAnswer, releaseOf}
+use Rattle.rack.specs.Release.{releaseOf}
 use Rattle.rack.specs.Slice.{sliceAnswer, sliceOf, bufferAfter}
 pub mod Properties
 
@@ -58,30 +56,3 @@ acceptedIn s (release i e) = []
 unfoldable pub slicesOf : State → List Call → List Accepted
 slicesOf s [] = []
 slicesOf s (call ∷ calls) = acceptedIn s call ++ slicesOf (nextAfter s call .state) calls
-
--- ---- the slices since a release
-
--- the accepted slices since the last accepted release of a kind, if there was one
-pub data Since : Type 0 where
-  never : Since
-  ago : ℕ → Since
-
--- one more
-abbrev pub later : Since → Since
-later never = never
-later (ago slices) = ago (slices + 1)
-
--- after a call, for kind i
-unfoldable pub sinceCall : ℕ → State → Since → Call → Since
-sinceCall i s since (slice bytes) = ifGood (sliceAnswer s (length bytes)) (later since) since
-sinceCall i s since (release k e) = ifGood (releaseAnswer s k e) (cond (eqb k i) (ago 0) since) since
-
--- after all the calls
-unfoldable pub sinceFrom : ℕ → State → Since → List Call → Since
-sinceFrom i s since [] = since
-sinceFrom i s since (call ∷ calls) = sinceFrom i (nextAfter s call .state) (sinceCall i s since call) calls
-
--- "released before, and fewer than T slices ago"
-abbrev pub fewer : ℕ → Since → Bool
-fewer separation never = false
-fewer separation (ago slices) = ltb slices separation

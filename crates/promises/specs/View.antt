@@ -13,6 +13,7 @@ use Rattle.rack.specs.Rank.{gone, until}
 use Rattle.promises.specs.Setup.{Setup}
 use Rattle.promises.specs.Moment.{Moment}
 pub mod Properties
+pub mod Ranks
 pub mod Steps
 
 -- project j of a plan

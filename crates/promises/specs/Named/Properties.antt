@@ -8,18 +8,20 @@ use native.Mathlib.Nat.{zero-add}
 use native.Mathlib.Numerals.{one-add}
 use native.Mathlib.Omega.{arith}
 use lib.ListN.{length, getD}
+use borrow.Author.Tests.{eqb-true}
 use Rattle.laws.specs.Count.{countTo}
 use Rattle.laws.specs.Count.Properties.{count-cong}
 use Rattle.laws.specs.Sum.{sumTo}
 use Rattle.laws.specs.Sum.Properties.{sum-none, sum-split, sum-cong}
 use Rattle.plan.specs.declared.Plan.{Plan}
 use Rattle.layout.specs.Layout.{held}
+use Rattle.layout.specs.Layout.Properties.{held-ceiling}
 use Rattle.rack.specs.Rank.{activeKinds, served}
 use Rattle.rack.specs.Row.{rowByte}
 use Rattle.promises.specs.Run.{Accepted}
 use Rattle.promises.specs.Run.Properties.{At}
 use Rattle.promises.specs.Row.{kind-once, kind-cards, project-cards}
-use Rattle.promises.specs.Named.{namesKind, namesProject, bytesIn, bytesOf}
+use Rattle.promises.specs.Named.{namesKind, namesProject, bytesIn, bytesOf, Orderly}
 
 -- ---- one row
 
@@ -43,6 +45,16 @@ module _ (p : Plan) (clock : ℕ) (w : Accepted) (at : At p clock w) where
       ∙ bytes-shown (namesProject (w .before .plan) j)
       ∙ project-cards (w .before) (at .ready) j (omega (arith, ap (λ (q : Plan). q .projects) (at .plan)))
       ∙ ap₂ (λ (q : Plan) (c : ℕ). min (held q j c) (activeKinds (w .before) j)) (at .plan) (at .clock)
+
+-- every row written
+pub orderly : (p : Plan) (clock : ℕ) (w : Accepted) → At p clock w → Orderly p (w .row)
+unfolding namesKind
+orderly p clock w at = record {
+  cards = at .size ∙ ap (λ (q : Plan). q .cards) (at .plan);
+  one-unit = λ card i k a b. omega (arith, eqb-true (getD (w .row) card 0) (i + 1) a, eqb-true (getD (w .row) card 0) (k + 1) b);
+  one-card = kind-at-most p clock w at;
+  ceiling = λ j l. omega (arith, project-named p clock w at j l, held-ceiling p (rw (at .plan) at (at .ready .order)) j l clock);
+}
 
 -- ---- several rows
 

@@ -1,68 +1,22 @@
 -- An accepted slice and an accepted release are steps of every project's view.
 -- Assumes nothing.
-use mathlib.Core.Path.{_≡_, refl, sym, ap, _∙_}
+use mathlib.Core.Path.{_≡_, refl, ap}
 use mathlib.Core.Logic.{_≢_}
-use mathlib.Core.Bool.{Bool, true, false, cond, _&&_, false≢true}
-use Prim.Native.Nat.{ℕ, _+_, _-_, _≤_, _<_}
+use mathlib.Core.Bool.{Bool, true, false, cond}
+use Prim.Native.Nat.{ℕ, _+_, _-_, _<_}
 use native.Mathlib.Omega.{arith}
 use lib.ListN.{length}
-use borrow.Author.Tests.{eq-eqb, eqb-true}
-use Rattle.laws.specs.Tests.{and-left, and-right, and-both}
-use Rattle.laws.specs.Count.{countTo}
-use Rattle.laws.specs.Count.Properties.{count-le-count}
-use Rattle.laws.specs.Ranking.{firstIn}
-use Rattle.laws.specs.Ranking.Properties.{first-member, first-above}
-use Rattle.layout.specs.Layout.{held}
 use Rattle.rack.specs.declared.Unit.{Unit}
 use Rattle.rack.specs.declared.State.{State}
 use Rattle.rack.specs.State.{unitOf, kindAt}
-use Rattle.rack.specs.Form.Properties.{Ready}
-use Rattle.rack.specs.Rank.{gone, due, until, active, outranks, rank, served}
-use Rattle.rack.specs.Rank.Properties.{working-left, working-of, active-of, active-project, ranked, outranks-due, served-working, unserved-rank}
+use Rattle.rack.specs.Rank.{gone, due, until, served}
 use Rattle.rack.specs.Release.{released}
 use Rattle.rack.specs.Release.Properties.{Releasable, release-unit, release-others}
 use Rattle.rack.specs.Slice.{unitAfter, advanced}
 use Rattle.rack.specs.Slice.Properties.{Sliceable, unit-after}
-use Rattle.promises.specs.Setup.{Own, other}
-use Rattle.promises.specs.Setup.Properties.{other-of}
-use Rattle.promises.specs.Moment.{Moment}
-use Rattle.promises.specs.Step.{noLater, Serves, Slice, Started, Kept, Release}
-use Rattle.promises.specs.Step.Properties.{later-of}
+use Rattle.promises.specs.Step.{Slice, Release}
 use Rattle.promises.specs.View.{setupOf, waitOf, momentOf}
-use Rattle.promises.specs.View.Properties.{own-project}
-
--- ---- whom a slice serves
-
-module _ (s : State) where
-  -- whom a project's first cards go to
-  abbrev firstOf : ℕ → ℕ → Bool
-  firstOf j k = firstIn (s .plan .kinds) (active s j) (outranks s) (held (s .plan) j (s .clock)) k
-
-  first-project : (j k : ℕ) → firstOf j k ≡ true → kindAt s k .project ≡ j
-  first-project j k e = active-project s j k (first-member (s .plan .kinds) (active s j) (outranks s) (held (s .plan) j (s .clock)) k e)
-
-  first-served : (j k : ℕ) → firstOf j k ≡ true → served s k ≡ true
-  unfolding served
-  first-served j k e = ap (λ (x : ℕ). firstOf x k) (first-project j k e) ∙ e
-
-  -- they are due no later than one that they outrank
-  first-no-later : (j i k : ℕ) → k < s .plan .kinds → firstOf j k ≡ true → outranks s k i ≡ true → noLater (setupOf (s .plan) j) (momentOf s) i k ≡ true
-  unfolding until
-  first-no-later j i k l e a =
-      let own : Own (setupOf (s .plan) j) k = record { below = l; mine = eq-eqb (kindAt s k .project) j (first-project j k e) } in
-      later-of (setupOf (s .plan) j) (momentOf s) i k (other-of (setupOf (s .plan) j) i k own (λ x. false≢true (sym (ranked s .never-itself i) ∙ (rw x at a)))) (omega (arith, outranks-due s k i a))
-
-  -- one that has slices left and is not served waits for as many of them as the project holds cards
-  waiting : (j i : ℕ) → Own (setupOf (s .plan) j) i → 0 < unitOf s i .left → served s i ≡ false → held (s .plan) j (s .clock) ≤ countTo (s .plan .kinds) (λ k. served s k && noLater (setupOf (s .plan) j) (momentOf s) i k)
-  unfolding rank
-  waiting j i o w e =
-      let p = own-project (s .plan) i j o in
-      omega (arith, first-above (s .plan .kinds) (active s j) (outranks s) (ranked s) (held (s .plan) j (s .clock)) i (o .below) (active-of s j i p (working-of s i w)) (rw p at (unserved-rank s i (working-of s i w) e)), count-le-count (s .plan .kinds) (λ k. firstOf j k && outranks s k i) (λ k. served s k && noLater (setupOf (s .plan) j) (momentOf s) i k) one)
-    where
-      one : (k : ℕ) → k < s .plan .kinds → (firstOf j k && outranks s k i) ≡ true → (served s k && noLater (setupOf (s .plan) j) (momentOf s) i k) ≡ true
-      one k l t =
-          let a = and-left (firstOf j k) (outranks s k i) t in
-          and-both (served s k) (noLater (setupOf (s .plan) j) (momentOf s) i k) (first-served j k a) (first-no-later j i k l a (and-right (firstOf j k) (outranks s k i) t))
+use Rattle.promises.specs.View.Ranks.{view-serves}
 
 -- ---- a slice
 
@@ -95,7 +49,7 @@ module _ (s : State) (room : ℕ) (may : Sliceable s room) (places : length (s .
   pub slice-step : (j : ℕ) → Slice (setupOf (s .plan) j) (served s) (momentOf s) (momentOf (advanced s))
   unfolding advanced
   slice-step j = record {
-    serves = record { some-left = λ i o e. working-left s i (served-working s i e); waits = waiting s j };
+    serves = view-serves s j;
     clock = refl;
     left = λ i o. sliced-left i (o .below);
     until = λ i o p. sliced-until i (o .below);

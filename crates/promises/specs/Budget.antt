@@ -1,6 +1,6 @@
 -- A project over a frame's length of slices in a row: the rows name its kinds as often as it holds cards, or as it has kinds with slices left.
 -- Assumes nothing.
-use mathlib.Core.Path.{_≡_, refl, sym, ap, _∙_}
+use mathlib.Core.Path.{_≡_, ap, _∙_}
 use mathlib.Core.List.{List}
 use Prim.Native.Nat.{ℕ, _+_, _≤_, _<_, min}
 use native.Mathlib.Nat.{add-assoc}
@@ -9,7 +9,6 @@ use lib.ListN.{length, getD, take, drop, length-drop}
 use lib.Seq.{length-take-le, getD-take, getD-drop}
 use Rattle.laws.specs.Sum.{sumTo}
 use Rattle.laws.specs.Sum.Properties.{sum-cong, sum-le}
-use Rattle.plan.specs.declared.Plan.{Plan}
 use Rattle.plan.specs.Order.{budgetOf}
 use Rattle.plan.specs.Order.Properties.{InOrder}
 use Rattle.layout.specs.Layout.{held}

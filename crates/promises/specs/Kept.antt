@@ -1,6 +1,6 @@
 -- The layers together: what a run from a fresh start on an admitted plan keeps.
 -- Assumes nothing.
-use mathlib.Core.Path.{_≡_, refl, sym, ap, _∙_}
+use mathlib.Core.Path.{_≡_, sym, ap, _∙_}
 use mathlib.Core.Logic.{_≢_}
 use mathlib.Core.Bool.{true, false}
 use mathlib.Core.List.{List}
@@ -16,7 +16,7 @@ use Rattle.plan.specs.Order.Properties.{InOrder}
 use Rattle.layout.specs.Layout.{held}
 use Rattle.rack.specs.declared.Unit.{Unit}
 use Rattle.rack.specs.declared.State.{State}
-use Rattle.rack.specs.State.{unitOf, kindAt, freshOf, noUnit}
+use Rattle.rack.specs.State.{unitOf, kindAt, noUnit}
 use Rattle.rack.specs.State.Properties.{good-moves}
 use Rattle.rack.specs.Start.{startOf}
 use Rattle.rack.specs.Start.Properties.{start-good}

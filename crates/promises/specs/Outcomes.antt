@@ -6,21 +6,18 @@ use mathlib.Core.List.{List, _++_}
 use Prim.Native.Nat.{ℕ}
 use lib.ListN.{length, drop, replicate}
 use Rattle.plan.specs.declared.Plan.{Plan}
-use Rattle.plan.specs.declared.answer.Answer.{Answer}
-use Rattle.plan.specs.declared.answer.Answer.the-variants.{Good, No}
+use Rattle.plan.specs.declared.answer.Answer.the-variants.{No}
 use Rattle.plan.specs.declared.answer.Refusal.{Refusal}
 use Rattle.plan.specs.Answer.{ifGood}
 use Rattle.plan.specs.Record.{noPlan}
-use Rattle.plan_bytes.specs.declared.Reading.{Reading}
 use Rattle.plan_bytes.specs.declared.Written.{Written}
 use Rattle.plan_bytes.specs.Parts.{encoded, size}
-use Rattle.plan_bytes.specs.Reading.{readAnswer, readOf}
+use Rattle.plan_bytes.specs.Reading.{readOf}
 use Rattle.plan_bytes.specs.Writing.{writeAnswer, counted, Writes}
 use Rattle.plan_bytes.specs.OneOutcome.{write-one-outcome}
 use Rattle.layout.specs.declared.table.TableWritten.{TableWritten}
 use Rattle.layout.specs.Table.{tableAnswer, tableLength, tableOver, Tabled}
 use Rattle.layout.specs.OneOutcome.{slot-table-one-outcome}
-use Rattle.verdict.specs.declared.Verdict.{Verdict}
 use Rattle.verdict.specs.Verdict.{judged}
 use Rattle.verdict.specs.Admission.Properties.{none-refused}
 use Rattle.rack.specs.declared.State.{State}

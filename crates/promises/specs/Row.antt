@@ -1,11 +1,11 @@
 -- What a row is: each kind that is served stands in it once, and a project's cards name as many of its kinds as it holds cards, or all that have slices left.
 -- Assumes nothing.
-use mathlib.Core.Path.{_≡_, refl, sym, ap, _∙_}
+use mathlib.Core.Path.{_≡_, refl, sym, _∙_}
 use mathlib.Core.Bool.{Bool, true, false, cond, false≢true}
 use Prim.Native.Nat.{ℕ, suc, _+_, _≤_, _<_, min}
 use native.Mathlib.Omega.{arith}
 use lib.Dec.{eqb}
-use borrow.Author.Tests.{eq-eqb, ne-eqb, eqb-true}
+use borrow.Author.Tests.{eq-eqb, eqb-true}
 use Rattle.laws.specs.Count.{countTo}
 use Rattle.laws.specs.Count.Properties.{count-never, count-one, count-some}
 use Rattle.layout.specs.Layout.{held}
@@ -13,7 +13,7 @@ use Rattle.rack.specs.declared.State.{State}
 use Rattle.rack.specs.Form.Properties.{Ready}
 use Rattle.rack.specs.Rank.{activeKinds, served}
 use Rattle.rack.specs.Row.{rowByte, ofProject, cardsTaken}
-use Rattle.rack.specs.Row.Properties.{row-below, served-stands, stands-served, stands-once, taken-cards}
+use Rattle.rack.specs.Row.Properties.{served-stands, stands-served, stands-once, taken-cards}
 use Rattle.promises.specs.Named.{namesKind, namesProject}
 
 module _ (s : State) (ready : Ready s) where

@@ -16,7 +16,7 @@ use Rattle.rack.specs.Row.{rowByte, rowOver}
 use Rattle.rack.specs.Release.{released, releaseAnswer, releaseOf}
 use Rattle.rack.specs.Slice.{advanced, sliceAnswer, sliceOf, bufferAfter}
 use Rattle.rack.specs.Slice.Properties.{slice-says}
-use Rattle.promises.specs.Run.{Call, slice, release, nextAfter, runFrom, Accepted, rowWritten, acceptedIn, slicesOf}
+use Rattle.promises.specs.Run.{Call, slice, release, runFrom, Accepted, rowWritten, acceptedIn, slicesOf}
 
 -- ---- the calls that are accepted: refusals change nothing
 

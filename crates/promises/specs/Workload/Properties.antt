@@ -2,7 +2,7 @@
 -- Every division of the proof stands here.
 -- Assumes nothing.
 use mathlib.Core.Path.{_≡_}
-use Prim.Native.Nat.{ℕ, _+_, _-_, _*_, _/_, _≤_, _<_, min}
+use Prim.Native.Nat.{ℕ, _+_, _-_, _*_, _/_, _≤_, _<_}
 use native.Mathlib.Decide.{decLe}
 use native.Mathlib.Nat.{div-mul-le-self, le-div-iff-mul-le, add-div-right, div-eq-of-lt, zero-div, mul-le-mul-left, mul-comm}
 use native.Mathlib.Omega.{arith}

@@ -1,9 +1,8 @@
 -- A branch of the code, as the `cond`, the conjunction or the refusal that a definition makes of the same test.
 -- Assumes nothing.
 use mathlib.Core.Path.{_≡_, refl, sym, _∙_}
-use mathlib.Core.Bool.{Bool, true, false, not, cond, _&&_, true≢false}
+use mathlib.Core.Bool.{Bool, true, false, not, cond, _&&_}
 use borrow.Author.Tests.{not-true, not-false}
-use Rattle.plan.specs.declared.answer.Answer.{Answer}
 use Rattle.plan.specs.declared.answer.Answer.the-variants.{Good, No}
 use Rattle.plan.specs.declared.answer.Refusal.{Refusal}
 use Rattle.plan.specs.Answer.{refuse}

@@ -3,14 +3,13 @@
 use mathlib.Core.Path.{_≡_, refl, sym, ap, ap₂, _∙_}
 use mathlib.Core.List.{List}
 use Prim.Native.Nat.{ℕ, zero, suc, _+_, _≤_, _<_}
-use native.Mathlib.Numerals.{add-one}
 use native.Mathlib.Omega.{arith}
 use mathlib.Core.Logic.{_≢_}
 use native.Mathlib.Decide.{decLt, ℕ-discrete}
 use lib.ListN.{length, getD, set, length-set, replicate, length-replicate, getD-replicate, List·getD-eq-default}
 use lib.Seq.{set-getD, getD-set-same, getD-set-other, ext-getD}
 use Rattle.laws.specs.Written.{written}
-use Rattle.laws.specs.Written.Properties.{written-more, written-suc, written-length, written-at, written-kept, written-stop}
+use Rattle.laws.specs.Written.Properties.{written-more, written-length, written-at, written-kept, written-stop}
 
 -- a loop that stores one place ahead
 pub written-ahead : {A : Type 0} (i n : ℕ) (f : ℕ → A) (l m : List A) → m ≡ written (i + 1) f l → i ≤ n → n ≤ i → m ≡ written (n + 1) f l

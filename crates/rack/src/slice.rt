@@ -203,7 +203,7 @@ impl State {
     }
 
     // Runs one slice: writes its row and hands back the state that follows.
-    pub fn slice(self, out: &mut [u8]) -> Next
+    pub fn slice(mut self, out: &mut [u8]) -> Next
         ensures { λ r. ⌜ Sliced self (now (out .entry)) r (now (out .exit)) ⌝ }
     {
         let answer = self.may_slice(out.len());
@@ -217,7 +217,10 @@ impl State {
         let seat = self.seats();
         clear(out, plan.cards as usize);
         seat_kinds(out, &seat, plan.kinds as usize);
-        let state = self.advanced(&seat);
-        Next { answer, state }
+        self = self.advanced(&seat);
+        Next {
+            answer,
+            state: self,
+        }
     }
 }

@@ -1,21 +1,21 @@
 -- Laws of ranks: who has work, that ranks are an order's, and that the served are the first by deadline.
 -- Assumes nothing.
 use mathlib.Core.Path.{_≡_, refl, sym, ap, _∙_}
-use mathlib.Core.Bool.{Bool, true, false, not, cond, _&&_, _||_, true≢false, false≢true}
-use Prim.Native.Nat.{ℕ, zero, suc, _+_, _-_, _≤_, _<_, min}
+use mathlib.Core.Bool.{Bool, true, false, _&&_, false≢true}
+use Prim.Native.Nat.{ℕ, _-_, _≤_, _<_, min}
 use native.Mathlib.Decide.{decLt}
 use native.Mathlib.Omega.{arith}
 use lib.Dec.{ltb, eqb}
-use borrow.Author.Tests.{lt-ltb, le-ltb, eq-eqb, ne-eqb, ltb-true, eqb-true, eqb-false, not-true, not-false}
+use borrow.Author.Tests.{lt-ltb, le-ltb, eq-eqb, ne-eqb, eqb-true, eqb-false, not-true, not-false}
 use Rattle.laws.specs.Tests.{and-left, and-right, and-both}
 use Rattle.laws.specs.Count.{countTo}
 use Rattle.laws.specs.Count.Properties.{count-cong}
 use Rattle.laws.specs.Ranking.{rankIn, firstIn, sooner}
-use Rattle.laws.specs.Ranking.Properties.{Order, OfRank, first-of, first-member, first-rank, not-first, rank-distinct, rank-at, rank-lt-members, above-of-rank, first-count, sooner-le, sooner-tie, sooner-order}
+use Rattle.laws.specs.Ranking.Properties.{Order, first-of, first-member, first-rank, not-first, rank-distinct, rank-at, rank-lt-members, above-of-rank, first-count, sooner-le, sooner-tie, sooner-order}
 use Rattle.layout.specs.Layout.{held}
 use Rattle.rack.specs.declared.State.{State}
 use Rattle.rack.specs.State.{unitOf, kindAt}
-use Rattle.rack.specs.Rank.{gone, due, until, working, active, activeKinds, outranks, rank, served}
+use Rattle.rack.specs.Rank.{due, until, working, active, activeKinds, outranks, rank, served}
 
 module _ (s : State) where
   -- ---- a kind with slices left

@@ -1,31 +1,28 @@
 -- Laws of the row: every served kind has one card, every card one kind at most, of the project that holds it, the first by deadline on the lowest card.
 -- Assumes nothing.
 use mathlib.Core.Path.{_≡_, refl, sym, ap, _∙_}
-use mathlib.Core.Bool.{Bool, true, false, not, cond, _&&_, true≢false, false≢true}
+use mathlib.Core.Bool.{Bool, true, false, not, _&&_, false≢true}
 use Prim.Native.Nat.{ℕ, zero, suc, pred, _+_, _-_, _%_, _≤_, _<_, min}
-use native.Mathlib.Decide.{decLe, decLt}
+use native.Mathlib.Decide.{decLt}
 use native.Mathlib.Nat.{mod-lt}
 use native.Mathlib.Omega.{arith}
 use lib.Dec.{leb, ltb, eqb}
 use borrow.Author.Tests.{eq-eqb, ne-eqb, eqb-true, eqb-false, not-true}
-use Rattle.laws.specs.Tests.{and-left, and-right, and-both}
-use Rattle.laws.specs.Count.{countTo}
+use Rattle.laws.specs.Tests.{and-left, and-right}
 use Rattle.laws.specs.Count.Properties.{count-cong}
-use Rattle.laws.specs.First.{firstTo}
 use Rattle.laws.specs.First.Properties.{first-le, first-holds, first-zero, first-some}
 use Rattle.plan.specs.declared.Plan.{Plan}
 use Rattle.plan.specs.Order.{projectOf}
 use Rattle.plan.specs.Order.Properties.{InOrder}
 use Rattle.layout.specs.Counts.{between-yes, between-low, between-high, count-between}
-use Rattle.layout.specs.Cards.{cardsBelow}
-use Rattle.layout.specs.Layout.{firstCell, cellAt, owns, held}
+use Rattle.layout.specs.Layout.{firstCell, cellAt, held}
 use Rattle.layout.specs.Cards.Properties.{below-grows}
 use Rattle.layout.specs.Layout.Properties.{one-owner, card-owned, owned-from, owned-to, held-closed, held-ceiling, below-cards, first-next}
 use Rattle.rack.specs.declared.State.{State}
-use Rattle.rack.specs.State.{unitOf, kindAt}
+use Rattle.rack.specs.State.{kindAt}
 use Rattle.rack.specs.Form.Properties.{Ready}
-use Rattle.rack.specs.Rank.{working, active, activeKinds, outranks, rank, served}
-use Rattle.rack.specs.Rank.Properties.{active-of, active-project, active-working, served-of, served-working, served-rank, served-first, ranks-distinct, rank-taken, rank-most, rank-above}
+use Rattle.rack.specs.Rank.{working, activeKinds, outranks, rank, served}
+use Rattle.rack.specs.Rank.Properties.{active-project, active-working, served-of, served-working, served-rank, served-first, ranks-distinct, rank-taken, rank-most, rank-above}
 use Rattle.rack.specs.Seat.{lowest}
 use Rattle.rack.specs.Row.{holds, cardsBefore, takes, rowByte, ofProject, cardsTaken}
 

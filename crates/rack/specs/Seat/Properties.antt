@@ -9,7 +9,7 @@ use native.Mathlib.Nat.{mod-lt, mul-le-mul}
 use native.Mathlib.Omega.{arith}
 use lib.Dec.{ltb, eqb}
 use native.Mathlib.Decide.{decLt}
-use lib.ListN.{length, getD, set, replicate}
+use lib.ListN.{length, set, replicate}
 use borrow.Author.Tests.{lt-ltb, le-ltb, eq-eqb, ne-eqb, eqb-true, eqb-false, not-true, not-false}
 use Rattle.laws.specs.Count.{countTo}
 use Rattle.laws.specs.Count.Properties.{count-stop}
@@ -32,7 +32,7 @@ use Rattle.rack.specs.declared.State.{State}
 use Rattle.rack.specs.State.{unitOf, kindAt}
 use Rattle.rack.specs.Form.Properties.{Ready}
 use Rattle.rack.specs.Rank.{due, working, active, outranks, rank, served}
-use Rattle.rack.specs.Rank.Properties.{working-left, idle-left, active-is, active-idle, served-of, served-rank, idle-unserved, unserved-rank}
+use Rattle.rack.specs.Rank.Properties.{working-left, idle-left, active-is, active-idle, served-rank, idle-unserved, unserved-rank}
 use Rattle.rack.specs.Row.{takes, rowByte, rowOver}
 use Rattle.rack.specs.Row.Properties.{lowest-held, lowest-cards, takes-card, card-takes, takes-served, takes-below, one-kind}
 use Rattle.rack.specs.Picks.{second-no}

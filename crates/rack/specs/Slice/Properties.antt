@@ -1,7 +1,7 @@
 -- Laws of a slice: the state that follows, what an accepted one says, and that nothing less is asked.
 -- Assumes nothing.
 use mathlib.Core.Path.{_≡_, refl, sym, ap, _∙_}
-use mathlib.Core.Bool.{Bool, true, false, not, cond}
+use mathlib.Core.Bool.{Bool, true, false}
 use mathlib.Core.List.{List}
 use Prim.Native.Nat.{ℕ, _+_, _-_, _≤_, _<_}
 use native.Mathlib.Omega.{arith}
@@ -23,7 +23,6 @@ use Rattle.rack.specs.State.{noUnit, unitOf, kindAt}
 use Rattle.rack.specs.State.Properties.{refused-keeps}
 use Rattle.rack.specs.Form.{ready}
 use Rattle.rack.specs.Form.Properties.{Ready, UnitInForm, ready-says, ready-of}
-use Rattle.rack.specs.Row.{rowOver}
 use Rattle.rack.specs.Rank.{served}
 use Rattle.rack.specs.Rank.Properties.{served-working, working-left}
 use Rattle.rack.specs.Seat.{at, idle, seated, seatsOf, seatOf}

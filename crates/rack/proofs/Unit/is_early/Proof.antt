@@ -1,4 +1,4 @@
-use Rattle.laws.specs.Tests.{tests, conjunction}
+use Rattle.laws.specs.Tests.{conjunction}
 use Rattle.rack.specs.Release.{early}
 use Rattle.rack.proofs.Unit.is_early.Statement.{statement}
 use Rattle.rack.proofs.Unit.is_early.Tie as tie

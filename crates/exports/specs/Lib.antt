@@ -3,3 +3,4 @@
 pub mod Image
 pub mod Outcome
 pub mod Exports
+pub mod OneOutcome

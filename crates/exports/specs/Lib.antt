@@ -4,3 +4,4 @@ pub mod Image
 pub mod Outcome
 pub mod Exports
 pub mod OneOutcome
+pub mod RoundTrip

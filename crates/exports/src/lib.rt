@@ -88,9 +88,9 @@ pub extern "C" fn parchbeetle_slot_table(plan: &[u8], out: &mut [u8]) -> u64
         return told(Answer::No(Refusal::Bare(9)), 0);
     }
     let given = image::plan_from(plan);
-    let done = layout::slot_table(given, out);
-    let answer = done.answer;
-    told(answer, done.count)
+    let table = layout::slot_table(given, out);
+    let answer = table.answer;
+    told(answer, table.count)
 }
 
 fn put_widths(width: [u8; 16], k: &mut [u8])
@@ -146,18 +146,18 @@ pub extern "C" fn parchbeetle_fresh(plan: &[u8], state: &mut [u8]) -> u64
 }
 
 // Whether an image is a state's.
-fn is_state(state: &[u8]) -> Answer
-    ensures { λ r. ⌜ r ≡ stateAnswer (now (state .entry)) ⌝ }
+fn is_state(s: &[u8]) -> Answer
+    ensures { λ r. ⌜ r ≡ stateAnswer (now (s .entry)) ⌝ }
 {
-    if state.len() < 256 {
+    if s.len() < 256 {
         return Answer::No(Refusal::Bare(9));
     }
-    let plan = image::plan_from(state);
+    let plan = image::plan_from(s);
     let checked = plan.check();
     let Answer::Good = checked else {
         return checked;
     };
-    if !image::released_told(state) {
+    if !image::released_told(s) {
         return Answer::No(Refusal::Bare(10));
     }
     Answer::Good

@@ -1,0 +1,2 @@
+// The player: document 01, "The player". What each command prints and does to the state.
+mod text;

@@ -3,3 +3,4 @@
 pub mod Record
 pub mod Answer
 pub mod Order
+pub mod OneOutcome

@@ -7,3 +7,4 @@ pub mod Put
 pub mod Reading
 pub mod Writing
 pub mod RoundTrip
+pub mod OneOutcome

@@ -39,8 +39,3 @@ unfolding writeAnswer
 write-good p out after a n e q s l f =
     let z : Good ≡ writeAnswer p out = opened-on a (checked p) (refuse (ltb (length out) (size p)) (Bare 9)) Good e q (rw (le-ltb (length out) (size p) (omega arith))) in
     record { result = rw (← z, s); buffer = rw (← z) f }
-
--- ---- writing admits one outcome
-
-pub write-one-outcome : (p : Plan) (out : List ℕ) (r s : Written) (after later : List ℕ) → Writes p out r after → Writes p out s later → (r ≡ s) × (after ≡ later)
-write-one-outcome p out r s after later a b = (a .result ∙ sym (b .result), a .buffer ∙ sym (b .buffer))

@@ -1,3 +1,6 @@
 -- The player: document 01, "The player".
 -- Assumes nothing.
+pub mod Ascii
 pub mod Text
+pub mod Line
+pub mod Command

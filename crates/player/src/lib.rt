@@ -1,2 +1,7 @@
 // The player: document 01, "The player". What each command prints and does to the state.
+mod command;
+mod line;
 mod text;
+
+pub use command::Command;
+pub use command::command;

@@ -14,8 +14,8 @@ pub fn put(out: &mut [u8], at: usize, word: &[u8]) -> usize
     at + word.len()
 }
 
-// The digits of a number, from index at on: those of its tenth first.
-pub fn put_number(out: &mut [u8], at: usize, n: u32) -> usize
+// The digits of a number: those of its tenth, then the last.
+fn put_digits(out: &mut [u8], at: usize, n: u32) -> usize
     requires { ⌜ at + length (decimal n) ≤ length (now out) ⌝ }
     ensures { λ r. ⌜ Puts (now (out .entry)) at (decimal n) r (now (out .exit)) ⌝ }
 {
@@ -23,15 +23,15 @@ pub fn put_number(out: &mut [u8], at: usize, n: u32) -> usize
         out[at] = (48 + n) as u8;
         return at + 1;
     }
-    let next = put_number(out, at, n / 10);
+    let next = put_digits(out, at, n / 10);
     out[next] = (48 + n % 10) as u8;
     next + 1
 }
 
-fn put_two(out: &mut [u8], at: usize, n: u8) -> usize
-    requires { ⌜ at + 128 ≤ length (now out) ⌝ }
+// A number in decimal, from index at on. Ten digits are enough for 32 bits.
+pub fn put_number(out: &mut [u8], at: usize, n: u32) -> usize
+    requires { ⌜ at + 10 ≤ length (now out) ⌝ }
+    ensures { λ r. ⌜ (Puts (now (out .entry)) at (decimal n) r (now (out .exit))) × (r ≤ at + 10) ⌝ }
 {
-    let at = put(out, at, b"plan ok\n");
-    let at = put_number(out, at, n as u32);
-    put(out, at, b"\n")
+    put_digits(out, at, n)
 }

@@ -20,6 +20,9 @@ sets-append l at (x ∷ xs) ys =
     let e : suc at + length xs ≡ at + suc (length xs) = omega arith in
     sets-append (set l at x) (suc at) xs ys ∙ ap (λ (k : ℕ). sets (sets (set l at x) (suc at) xs) k ys) e
 
+pub puts-none : (l : List ℕ) (at : ℕ) → Puts l at [] at l
+puts-none l at = record { end = sym (add-zero at); buffer = refl }
+
 -- text behind text is both
 pub puts-then : (l m o : List ℕ) (at n k : ℕ) (xs ys : List ℕ) → Puts l at xs n m → Puts m n ys k o → Puts l at (xs ++ ys) k o
 puts-then l m o at n k xs ys p q =
@@ -29,6 +32,13 @@ puts-then l m o at n k xs ys p q =
       end = omega (arith, length-append xs ys);
       buffer = q .buffer ∙ ap₂ (λ (x : List ℕ) (j : ℕ). sets x j ys) (p .buffer) e ∙ sym (sets-append l at xs ys);
     }
+
+-- three, and four, one behind the other
+pub puts-three : (l m o p : List ℕ) (at n k j : ℕ) (xs ys zs : List ℕ) → Puts l at xs n m → Puts m n ys k o → Puts o k zs j p → Puts l at (xs ++ ys ++ zs) j p
+puts-three l m o p at n k j xs ys zs a b c = puts-then l o p at k j (xs ++ ys) zs (puts-then l m o at n k xs ys a b) c
+
+pub puts-four : (l m o p q : List ℕ) (at n k j i : ℕ) (xs ys zs ws : List ℕ) → Puts l at xs n m → Puts m n ys k o → Puts o k zs j p → Puts p j ws i q → Puts l at (xs ++ ys ++ zs ++ ws) i q
+puts-four l m o p q at n k j i xs ys zs ws a b c d = puts-then l p q at j i (xs ++ ys ++ zs) ws (puts-three l m o p at n k j xs ys zs a b c) d
 
 -- one byte more
 pub puts-byte : (l m : List ℕ) (at n : ℕ) (xs : List ℕ) (v : ℕ) → Puts l at xs n m → Puts l at (xs ++ (v ∷ [])) (n + 1) (set m n v)
@@ -102,5 +112,17 @@ decimal-ten n h = decimal-most 9 n (omega arith)
 pub room-first : (at n len : ℕ) → n < 10 → at + length (decimal n) ≤ len → at < len
 room-first at n len h l = omega (arith, decimal-one n h)
 
-pub room-next : (at n len next : ℕ) (out after : List ℕ) → 10 ≤ n → at + length (decimal n) ≤ len → Puts out at (decimal (n / 10)) next after → next < len
-room-next at n len next out after h l p = omega (arith, decimal-more n h, p .end)
+pub room-tenth : (at n len : ℕ) → 10 ≤ n → at + length (decimal n) ≤ len → at + length (decimal (n / 10)) ≤ len
+room-tenth at n len h l = omega (arith, decimal-more n h)
+
+pub room-last : (at n next : ℕ) (out after : List ℕ) → 10 ≤ n → at + length (decimal n) ≤ length out → Puts out at (decimal (n / 10)) next after → next < length after
+room-last at n next out after h l p = omega (arith, decimal-more n h, p .end, puts-length out after at next (decimal (n / 10)) p)
+
+pub room-after : (at n next : ℕ) (out after : List ℕ) → 10 ≤ n → at + length (decimal n) ≤ length out → length out < 2 ^ 64 → Puts out at (decimal (n / 10)) next after → next + 1 < 2 ^ 64
+room-after at n next out after h l m p = omega (arith, decimal-more n h, p .end)
+
+pub room-ten : (at n len : ℕ) → n < 2 ^ 32 → at + 10 ≤ len → at + length (decimal n) ≤ len
+room-ten at n len h l = omega (arith, decimal-ten n h)
+
+pub ends-ten : (at n next : ℕ) (out after : List ℕ) → n < 2 ^ 32 → Puts out at (decimal n) next after → next ≤ at + 10
+ends-ten at n next out after h p = omega (arith, decimal-ten n h, p .end)

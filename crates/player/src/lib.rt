@@ -4,4 +4,3 @@ mod line;
 mod text;
 
 pub use command::Command;
-pub use command::command;

@@ -1,3 +1,7 @@
 -- The layout of budgets onto cards: document 01, "Layout".
 -- Assumes nothing.
+pub mod Counts
+pub mod Cards
 pub mod Layout
+pub mod Table
+pub mod Walk

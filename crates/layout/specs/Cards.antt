@@ -1,0 +1,15 @@
+-- Document 01, "Layout": the cells of a slice, counted below a cell and in a run of cells.
+-- Assumes nothing.
+use Prim.Native.Nat.{ℕ, _+_, _%_}
+use mathlib.Core.Bool.{cond}
+use lib.Dec.{ltb, eqb}
+use Rattle.laws.specs.Count.{countTo}
+pub mod Properties
+
+-- "cell x is card floor(x/F), slice x mod F": how many cells of a slice stand below cell x; 0 for a slice that the frame does not have
+unfoldable pub cardsBelow : ℕ → ℕ → ℕ → ℕ
+cardsBelow frame x slice = cond (ltb slice frame) (countTo x (λ y. eqb (y % frame) slice)) 0
+
+-- "the cards a project holds at slice s, taken modulo F", for a run of budget cells from cell first on
+unfoldable pub heldFrom : ℕ → ℕ → ℕ → ℕ → ℕ
+heldFrom first budget frame s = countTo budget (λ y. eqb ((first + y) % frame) (s % frame))

@@ -1,0 +1,40 @@
+-- Document 01, "Layout" and "Numbers given back when we say no": what writing the slot table answers and leaves behind.
+-- Assumes nothing.
+use Prim.Native.Nat.{ℕ, _*_}
+use mathlib.Core.Path.{_≡_}
+use mathlib.Core.List.{List}
+use lib.Dec.{ltb}
+use lib.ListN.{length}
+use Rattle.laws.specs.Written.{written}
+use Rattle.plan.specs.declared.Plan.{Plan}
+use Rattle.plan.specs.declared.answer.Answer.{Answer}
+use Rattle.plan.specs.declared.answer.Answer.the-variants.{Good, No}
+use Rattle.plan.specs.declared.answer.Refusal.the-variants.{Bare}
+use Rattle.plan.specs.Answer.{refuse, _andThen_}
+use Rattle.plan.specs.Order.{checked}
+use Rattle.layout.specs.declared.table.TableWritten.{TableWritten}
+use Rattle.layout.specs.Layout.{slotOf}
+pub mod Properties
+
+-- "The slot table is written card by card, F bytes each": how many bytes that is
+unfoldable pub tableLength : Plan → ℕ
+tableLength p = p .cards * p .frame
+
+-- "The slot table is written card by card, F bytes each", so byte x is cell x's; "bytes past those needed keep their value"
+unfoldable pub tableOver : Plan → List ℕ → List ℕ
+tableOver p bytes = written (tableLength p) (slotOf p) bytes
+
+-- "Writing plan bytes or the slot table adds 9 and not 8"; "9: buffer shorter than needed"
+unfoldable pub tableAnswer : Plan → ℕ → Answer
+tableAnswer p room = checked p andThen refuse (ltb room (tableLength p)) (Bare 9)
+
+-- one thing with a good answer, another with a refusal
+abbrev pub ifGood : {A : Type 0} → Answer → A → A → A
+ifGood Good a b = a
+ifGood (No r) a b = b
+
+-- "Writers answer with the count of bytes written, 0 on a refusal. Lent buffers keep every byte on a refusal."
+pub record Tabled (p : Plan) (entry exit : List ℕ) (r : TableWritten) : Type 0 where
+  pub answer : r .answer ≡ tableAnswer p (length entry)
+  pub count : r .count ≡ ifGood (tableAnswer p (length entry)) (tableLength p) 0
+  pub bytes : exit ≡ ifGood (tableAnswer p (length entry)) (tableOver p entry) entry

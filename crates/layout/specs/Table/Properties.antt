@@ -1,0 +1,2 @@
+-- Laws of the slot table.
+-- Assumes nothing.

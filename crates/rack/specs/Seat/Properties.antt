@@ -1,0 +1,323 @@
+-- Laws of seats: what the code counts is the rank, and what it stores is the row.
+-- Assumes nothing.
+use mathlib.Core.Path.{_≡_, refl, sym, ap, _∙_}
+use mathlib.Core.Bool.{Bool, true, false, not, cond, _&&_, _||_, true≢false}
+use mathlib.Core.List.{List}
+use Prim.Native.Nat.{ℕ, zero, suc, pred, _+_, _-_, _%_, _≤_, _<_}
+use native.Mathlib.Numerals.{add-one}
+use native.Mathlib.Nat.{mod-lt, mul-le-mul}
+use native.Mathlib.Omega.{arith}
+use lib.Dec.{ltb, eqb}
+use native.Mathlib.Decide.{decLt}
+use lib.ListN.{length, getD, set, replicate}
+use borrow.Author.Tests.{lt-ltb, le-ltb, eq-eqb, ne-eqb, eqb-true, eqb-false, not-true, not-false}
+use Rattle.laws.specs.Count.{countTo}
+use Rattle.laws.specs.Count.Properties.{count-stop}
+use Rattle.laws.specs.First.{firstTo}
+use Rattle.laws.specs.First.Properties.{first-none}
+use Rattle.laws.specs.Ranking.{rankIn, sooner}
+use Rattle.laws.specs.Ranking.Properties.{rank-cong}
+use Rattle.laws.specs.Written.{written}
+use Rattle.laws.specs.Written.Properties.{written-none, written-suc, written-again}
+use Rattle.plan.specs.declared.Plan.{Plan}
+use Rattle.plan.specs.Order.{budgetOf}
+use Rattle.plan.specs.Order.Properties.{InOrder}
+use Rattle.layout.specs.Cards.{cardsBelow}
+use Rattle.layout.specs.Cards.Properties.{below-start}
+use Rattle.layout.specs.Layout.{firstCell, held}
+use Rattle.layout.specs.Layout.Properties.{first-start, first-next, last-most}
+use Rattle.plan.specs.declared.Kind.{Kind}
+use Rattle.rack.specs.declared.Unit.{Unit}
+use Rattle.rack.specs.declared.State.{State}
+use Rattle.rack.specs.State.{unitOf, kindAt}
+use Rattle.rack.specs.Form.Properties.{Ready}
+use Rattle.rack.specs.Rank.{due, working, active, outranks, rank, served}
+use Rattle.rack.specs.Rank.Properties.{working-left, idle-left, active-is, active-idle, served-of, served-rank, idle-unserved, unserved-rank}
+use Rattle.rack.specs.Row.{takes, rowByte, rowOver}
+use Rattle.rack.specs.Row.Properties.{lowest-held, lowest-cards, takes-card, card-takes, takes-served, takes-below, one-kind}
+use Rattle.rack.specs.Picks.{second-no}
+use Rattle.rack.specs.Stores.{written-cong, written-set, stored-at, stored-most}
+use Rattle.rack.specs.Firsts.{first-cong, first-skip, first-new}
+use Rattle.rack.specs.Seat.{at, idle, seated, worksFor, worksOf, seatsOf, rankBy, aheadBy, seatAt, seatBy, lowest, seatOf}
+
+-- ---- a rank counted: r is whether kind k, due then, goes before kind i
+
+module _ (works due : List ℕ) (i k : ℕ) where
+  pub other-project : (at works k ≡ at works i → ⊥) → aheadBy works due i k ≡ false
+  unfolding aheadBy
+  other-project h = rw (ne-eqb (at works k) (at works i) h)
+
+  pub not-ahead : (r : Bool) → r ≡ (ltb (at due k) (at due i) || (eqb (at due k) (at due i) && ltb k i)) → not r ≡ true → aheadBy works due i k ≡ false
+  unfolding aheadBy sooner
+  not-ahead r e t = sym (second-no (eqb (at works k) (at works i)) (sooner (at due) k i) (sym (not-true r t) ∙ e))
+
+  pub is-ahead : (r : Bool) → at works k ≡ at works i → r ≡ (ltb (at due k) (at due i) || (eqb (at due k) (at due i) && ltb k i)) → not r ≡ false → aheadBy works due i k ≡ true
+  unfolding aheadBy sooner
+  is-ahead r p e t = rw (eq-eqb (at works k) (at works i) p) (sym e ∙ not-false r t)
+
+pub rank-counted : (works due : List ℕ) (r n k i : ℕ) → r ≡ countTo k (aheadBy works due i) → k ≤ n → n ≤ k → r ≡ rankBy works due n i
+unfolding rankBy rankIn aheadBy
+rank-counted works due r n k i e p q = count-stop r k n (aheadBy works due i) e p q
+
+-- ---- a seat found
+
+pub no-seat : (works due low : List ℕ) (n i : ℕ) → at works i ≡ 0 → 0 ≡ seatBy works due low n i
+unfolding seatBy
+no-seat works due low n i e = rw (eq-eqb (at works i) 0 e)
+
+pub a-seat : (works due low : List ℕ) (n i r x : ℕ) → (at works i ≡ 0 → ⊥) → r ≡ rankBy works due n i → x ≡ seatAt (at low (at works i - 1) + r) (at low (at works i)) → x ≡ seatBy works due low n i
+unfolding seatBy
+a-seat works due low n i r x h e q = rw (ne-eqb (at works i) 0 h, ← e) q
+
+-- ---- the walk over the projects of a plan in order: cell is the first cell of project j
+
+module _ (p : Plan) (o : InOrder p) (clock : ℕ) where
+  pub slice-small : clock % p .frame < 256
+  slice-small = omega (arith, mod-lt clock (o .counts .some-slice), o .counts .frame-most)
+
+  pub lowest-most : (j : ℕ) → j ≤ p .projects → lowest p clock j ≤ 8
+  lowest-most j l = omega (arith, lowest-cards p o j clock l, o .counts .cards-most)
+
+  pub lowest-start : replicate 9 0 ≡ written 1 (lowest p clock) (replicate 9 0)
+  unfolding lowest
+  lowest-start = sym (written-suc 0 (lowest p clock) (replicate 9 0) ∙ rw (← (written-none (lowest p clock) (replicate 9 0)), first-start p, below-start (p .frame) (clock % p .frame) (mod-lt clock (o .counts .some-slice))))
+
+  pub cell-small : (cell j : ℕ) → cell ≡ firstCell p j → j < p .projects → cell + budgetOf p j < 65536
+  cell-small cell j e l =
+      omega (arith, last-most p o j l, mul-le-mul (o .counts .cards-most) (o .counts .frame-most))
+
+pub cell-next : (p : Plan) (cell j : ℕ) → cell ≡ firstCell p j → cell + budgetOf p j ≡ firstCell p (j + 1)
+cell-next p cell j e = omega (arith, first-next p j)
+
+pub lowest-next : (p : Plan) (clock cell j r : ℕ) → cell ≡ firstCell p j → r ≡ cardsBelow (p .frame) (cell + budgetOf p j) (clock % p .frame) → r ≡ lowest p clock (j + 1)
+unfolding lowest
+lowest-next p clock cell j r e q = q ∙ ap (λ (x : ℕ). cardsBelow (p .frame) x (clock % p .frame)) (cell-next p cell j e)
+
+pub lowest-small : (p : Plan) (o : InOrder p) (clock cell j r : ℕ) → cell ≡ firstCell p j → j < p .projects → r ≡ cardsBelow (p .frame) (cell + budgetOf p j) (clock % p .frame) → r < 256
+lowest-small p o clock cell j r e l q = omega (arith, lowest-next p clock cell j r e q, lowest-most p o clock (j + 1) (omega arith))
+
+-- ---- a kind's seat is its project's card of its rank
+
+pub seat-served : (s : State) (i : ℕ) → served s i ≡ true → seatOf s i ≡ lowest (s .plan) (s .clock) (kindAt s i .project) + rank s i + 1
+unfolding seatOf
+seat-served s i e = rw e
+
+pub seat-unserved : (s : State) (i : ℕ) → served s i ≡ false → seatOf s i ≡ 0
+unfolding seatOf
+seat-unserved s i e = rw e
+
+pub works-nothing : (v : Unit) (k : Kind) → v .left ≡ 0 → worksFor v k ≡ 0
+unfolding worksFor
+works-nothing v k e = rw (eq-eqb (v .left) 0 e)
+
+pub works-something : (v : Unit) (k : Kind) → (v .left ≡ 0 → ⊥) → worksFor v k ≡ k .project + 1
+unfolding worksFor
+works-something v k h = rw (ne-eqb (v .left) 0 h)
+
+-- ---- small facts of the below
+
+plus-one : (a b : ℕ) → eqb (a + 1) (b + 1) ≡ eqb a b
+plus-one a b = go (eqb a b) refl
+  where
+    go : (t : Bool) → eqb a b ≡ t → eqb (a + 1) (b + 1) ≡ eqb a b
+    go true e = eq-eqb (a + 1) (b + 1) (ap (λ (x : ℕ). x + 1) (eqb-true a b e)) ∙ sym e
+    go false e = ne-eqb (a + 1) (b + 1) (λ h. eqb-false a b e (omega arith)) ∙ sym e
+
+less-one : (a : ℕ) → a + 1 - 1 ≡ a
+less-one a = omega arith
+
+sooner-agree : (f g : ℕ → ℕ) (k i : ℕ) → f k ≡ g k → f i ≡ g i → sooner f k i ≡ sooner g k i
+unfolding sooner
+sooner-agree f g k i p q = rw (p, q)
+
+-- the card of a kind's rank is below the end of its project's exactly when the kind is served
+seat-is : (s : State) (i end : ℕ) → working s i ≡ true → lowest (s .plan) (s .clock) (kindAt s i .project) + held (s .plan) (kindAt s i .project) (s .clock) ≡ end → seatAt (lowest (s .plan) (s .clock) (kindAt s i .project) + rank s i) end ≡ seatOf s i
+unfolding seatAt
+seat-is s i end w e = go (served s i) refl
+  where
+    card : ℕ
+    card = lowest (s .plan) (s .clock) (kindAt s i .project) + rank s i
+
+    go : (b : Bool) → served s i ≡ b → cond (ltb card end) (card + 1) 0 ≡ seatOf s i
+    go true p = rw (lt-ltb card end (omega (arith, served-rank s i p))) (sym (seat-served s i p))
+    go false p = rw (le-ltb card end (omega (arith, unserved-rank s i w p))) (sym (seat-unserved s i p))
+
+module _ (s : State) (r : Ready s) where
+  abbrev kinds : ℕ
+  kinds = s .plan .kinds
+
+  abbrev project : ℕ → ℕ
+  project i = kindAt s i .project
+
+  abbrev low : ℕ → ℕ
+  low j = lowest (s .plan) (s .clock) j
+
+  its-project : (i : ℕ) → i < kinds → project i < s .plan .projects
+  its-project i l = r .order .kind-at i l .its-project
+
+  -- the arrays hold what the state says
+  module _ (works dues lows : List ℕ) (ew : (k : ℕ) → k < kinds → at works k ≡ worksOf s k) (ed : (k : ℕ) → k < kinds → at dues k ≡ due s k) (el : (j : ℕ) → j ≤ s .plan .projects → at lows j ≡ low j) where
+    works-working : (k : ℕ) → k < kinds → working s k ≡ true → at works k ≡ project k + 1
+    works-working k l w = ew k l ∙ works-something (unitOf s k) (kindAt s k) (λ e. omega (arith, working-left s k w))
+
+    works-idle : (k : ℕ) → k < kinds → working s k ≡ false → at works k ≡ 0
+    works-idle k l w = ew k l ∙ works-nothing (unitOf s k) (kindAt s k) (idle-left s k w)
+
+    -- the same project, with slices left
+    same-project : (i k : ℕ) → i < kinds → k < kinds → working s i ≡ true → eqb (at works k) (at works i) ≡ active s (project i) k
+    same-project i k l m w = go (working s k) refl
+      where
+        go : (b : Bool) → working s k ≡ b → eqb (at works k) (at works i) ≡ active s (project i) k
+        go true e = rw (works-working k m e, works-working i l w) (plus-one (project k) (project i) ∙ sym (active-is s (project i) k e))
+        go false e = rw (works-idle k m e, works-working i l w) (ne-eqb 0 (project i + 1) (λ z. omega arith) ∙ sym (active-idle s (project i) k e))
+
+    ranks-agree : (i : ℕ) → i < kinds → working s i ≡ true → rankBy works dues kinds i ≡ rank s i
+    unfolding rankBy rank outranks
+    ranks-agree i l w =
+        rank-cong kinds (λ k. eqb (at works k) (at works i)) (active s (project i)) (sooner (at dues)) (sooner (due s)) i (λ k m. same-project i k l m w) (λ k m e. sooner-agree (at dues) (due s) k i (ed k m) (ed i l))
+
+    pub seat-found : (i : ℕ) → i < kinds → seatBy works dues lows kinds i ≡ seatOf s i
+    unfolding seatBy
+    seat-found i l = go (working s i) refl
+      where
+        go : (b : Bool) → working s i ≡ b → seatBy works dues lows kinds i ≡ seatOf s i
+        go true w =
+            let p = its-project i l in
+            rw (works-working i l w, ne-eqb (project i + 1) 0 (λ z. omega arith), ranks-agree i l w, less-one (project i), el (project i) (omega arith), el (project i + 1) (omega arith))
+            (seat-is s i (low (project i + 1)) w (lowest-held (s .plan) (r .order) (project i) (s .clock) p))
+        go false w = rw (works-idle i l w) (sym (seat-unserved s i (idle-unserved s i w)))
+
+  -- ---- the arrays as the code fills them
+
+  pub project-small : (i : ℕ) → i < kinds → project i < 8
+  project-small i l = omega (arith, its-project i l, r .order .counts .projects-most)
+
+  pub clock-small : (i : ℕ) → i < kinds → unitOf s i .at ≤ 1000000000
+  clock-small i l = omega (arith, r .form .unit-at i (omega (arith, r .order .counts .kinds-most)) l .release-clock, r .form .clock-most)
+
+  pub works-most : (works : List ℕ) (n : ℕ) → works ≡ written n (worksOf s) (replicate 16 0) → n ≤ kinds → (k : ℕ) → at works k ≤ 8
+  works-most works n e l k =
+      rw e (stored-most n 16 8 (worksOf s) (λ i p. go i (omega arith) (working s i) refl) (omega (arith, r .order .counts .kinds-most)) k)
+    where
+      go : (i : ℕ) → i < kinds → (b : Bool) → working s i ≡ b → worksOf s i ≤ 8
+      go i m true w = omega (arith, works-something (unitOf s i) (kindAt s i) (λ z. omega (arith, working-left s i w)), project-small i m)
+      go i m false w = omega (arith, works-nothing (unitOf s i) (kindAt s i) (idle-left s i w))
+
+  pub lows-most : (lows : List ℕ) → lows ≡ written (s .plan .projects + 1) low (replicate 9 0) → (j : ℕ) → at lows j ≤ 8
+  lows-most lows e j = rw e (stored-most (s .plan .projects + 1) 9 8 low (λ i p. lowest-most (s .plan) (r .order) (s .clock) i (omega arith)) (omega (arith, r .order .counts .projects-most)) j)
+
+  pub seats-found : (works dues lows seats : List ℕ) (n : ℕ) → n ≤ kinds → kinds ≤ n → works ≡ written n (worksOf s) (replicate 16 0) → dues ≡ written n (due s) (replicate 16 0) → lows ≡ written (s .plan .projects + 1) low (replicate 9 0) → seats ≡ written kinds (seatBy works dues lows kinds) (replicate 16 0) → seats ≡ seatsOf s
+  unfolding seatsOf
+  seats-found works dues lows seats n a b ew ed el es =
+      es ∙ written-cong kinds (seatBy works dues lows kinds) (seatOf s) (replicate 16 0) (seat-found works dues lows (λ k l. ap (λ (m : List ℕ). at m k) ew ∙ stored-at n 16 (worksOf s) k (omega arith) (omega (arith, r .order .counts .kinds-most))) (λ k l. ap (λ (m : List ℕ). at m k) ed ∙ stored-at n 16 (due s) k (omega arith) (omega (arith, r .order .counts .kinds-most))) (λ j l. ap (λ (m : List ℕ). at m j) el ∙ stored-at (s .plan .projects + 1) 9 low j (omega arith) (omega (arith, r .order .counts .projects-most))))
+
+  pub seats-at : (i : ℕ) → i < kinds → at (seatsOf s) i ≡ seatOf s i
+  unfolding seatsOf
+  seats-at i l = stored-at kinds 16 (seatOf s) i l (r .order .counts .kinds-most)
+
+  -- ---- the row from the seats
+
+  -- a kind takes a card exactly when its seat is that card's number plus 1
+  pub takes-seat : (i card : ℕ) → i < kinds → takes s i card ≡ eqb (seatOf s i) (card + 1)
+  takes-seat i card l = go (takes s i card) refl
+    where
+      seat : (b : Bool) → served s i ≡ b → seatOf s i ≡ card + 1 → takes s i card ≡ true
+      seat true e q = card-takes s r i card l e (omega (arith, seat-served s i e))
+      seat false e q = absurd (omega (arith, seat-unserved s i e))
+
+      go : (b : Bool) → takes s i card ≡ b → takes s i card ≡ eqb (seatOf s i) (card + 1)
+      go true e = e ∙ sym (eq-eqb (seatOf s i) (card + 1) (omega (arith, seat-served s i (takes-served s r i card l e), takes-card s r i card e)))
+      go false e = e ∙ sym (ne-eqb (seatOf s i) (card + 1) (λ q. true≢false (sym (seat (served s i) refl q) ∙ e)))
+
+  -- a seat is one of the rack's cards
+  pub seat-most : (i : ℕ) → i < kinds → seatOf s i ≤ s .plan .cards
+  seat-most i l = go (served s i) refl
+    where
+      go : (b : Bool) → served s i ≡ b → seatOf s i ≤ s .plan .cards
+      go true e = omega (arith, seat-served s i e, takes-below s r i (low (project i) + rank s i) l (card-takes s r i (low (project i) + rank s i) l e refl))
+      go false e = omega (arith, seat-unserved s i e)
+
+  -- and no two kinds have one
+  seat-one : (i k card : ℕ) → i < kinds → k < kinds → seatOf s i ≡ card + 1 → seatOf s k ≡ card + 1 → i ≡ k
+  seat-one i k card l m p q =
+      one-kind s i k card l m (takes-seat i card l ∙ eq-eqb (seatOf s i) (card + 1) p) (takes-seat k card m ∙ eq-eqb (seatOf s k) (card + 1) q)
+
+  module _ (seat : ℕ → ℕ) (es : (k : ℕ) → k < kinds → seat k ≡ seatOf s k) (bytes : List ℕ) (room : s .plan .cards ≤ length bytes) where
+    -- the byte of a card once the kinds below i are seated
+    filled : ℕ → ℕ → ℕ
+    filled i card = firstTo i (λ number. eqb (seat (pred number)) (card + 1))
+
+    filled-other : (i card : ℕ) → (seat i ≡ card + 1 → ⊥) → filled (suc i) card ≡ filled i card
+    unfolding filled
+    filled-other i card h = first-skip i (λ number. eqb (seat (pred number)) (card + 1)) (ne-eqb (seat i) (card + 1) h)
+
+    filled-here : (i card : ℕ) → i < kinds → seat i ≡ card + 1 → filled (suc i) card ≡ suc i
+    unfolding filled
+    filled-here i card l e = first-new i (λ number. eqb (seat (pred number)) (card + 1)) (eq-eqb (seat i) (card + 1) e) earlier
+      where
+        earlier : (k : ℕ) → 0 < k → k ≤ i → eqb (seat (pred k)) (card + 1) ≡ true → ⊥
+        earlier zero p q t = omega arith
+        earlier (suc k) p q t =
+            omega (arith, seat-one i k card l (omega arith) (sym (es i l) ∙ e) (sym (es k (omega arith)) ∙ eqb-true (seat k) (card + 1) t))
+
+    seated-filled : (i : ℕ) → i ≤ kinds → seated seat i (written (s .plan .cards) idle bytes) ≡ written (s .plan .cards) (filled i) bytes
+    unfolding seated filled
+    seated-filled zero l = written-cong (s .plan .cards) idle (filled 0) bytes (λ card q. first-none (λ number. eqb (seat (pred number)) (card + 1)))
+    seated-filled (suc i) l = elim (decLt 0 (seat i)) [ yes p ↦ sits p (seated-filled i (omega arith)) | no p ↦ stands (omega arith) (seated-filled i (omega arith)) ]
+      where
+        So : Type 0
+        So = seated seat i (written (s .plan .cards) idle bytes) ≡ written (s .plan .cards) (filled i) bytes
+
+        stands : seat i ≡ 0 → So → seated seat (suc i) (written (s .plan .cards) idle bytes) ≡ written (s .plan .cards) (filled (suc i)) bytes
+        stands e rec =
+            rw (eq-eqb (seat i) 0 e) (rec ∙ written-cong (s .plan .cards) (filled i) (filled (suc i)) bytes (λ card q. sym (filled-other i card (λ z. omega arith))))
+
+        sits : 0 < seat i → So → seated seat (suc i) (written (s .plan .cards) idle bytes) ≡ written (s .plan .cards) (filled (suc i)) bytes
+        sits p rec =
+            let low-one : seat i ≡ seat i - 1 + 1 = omega arith in
+            rw (ne-eqb (seat i) 0 (λ z. omega arith), rec)
+            (ap (λ (v : ℕ). set (written (s .plan .cards) (filled i) bytes) (seat i - 1) v) (add-one i ∙ sym (filled-here i (seat i - 1) l low-one))
+            ∙ written-set (s .plan .cards) (filled i) (filled (suc i)) bytes 0 (seat i - 1) (omega (arith, seat-most i l, es i l)) room (λ card q z. filled-other i card (λ t. z (omega arith))))
+
+    -- what is stored is the row
+    pub row-seated : seated seat kinds (written (s .plan .cards) idle bytes) ≡ rowOver s bytes
+    unfolding rowOver rowByte filled
+    row-seated =
+        seated-filled kinds (omega arith)
+        ∙ written-cong (s .plan .cards) (filled kinds) (rowByte s) bytes (λ card q. first-cong kinds (λ number. eqb (seat (pred number)) (card + 1)) (λ number. takes s (pred number) card) (same card))
+      where
+        same : (card number : ℕ) → 0 < number → number ≤ kinds → eqb (seat (pred number)) (card + 1) ≡ takes s (pred number) card
+        same card zero p q = absurd (omega arith)
+        same card (suc i) p q = ap (λ (x : ℕ). eqb x (card + 1)) (es i q) ∙ sym (takes-seat i card q)
+
+-- ---- the steps of the loops that clear the cards and seat the kinds
+
+pub cleared-again : (i : ℕ) (bytes m : List ℕ) → m ≡ written i idle bytes → set m i 0 ≡ written (i + 1) idle bytes
+cleared-again i bytes m e = written-again i idle bytes m 0 e refl
+
+module _ (seat : List ℕ) (i : ℕ) (bytes m : List ℕ) where
+  pub seated-none : bytes ≡ seated (at seat) 0 bytes
+  unfolding seated
+  seated-none = refl
+
+  pub seated-idle : m ≡ seated (at seat) i bytes → at seat i ≡ 0 → m ≡ seated (at seat) (i + 1) bytes
+  unfolding seated
+  seated-idle e z = rw (add-one i, eq-eqb (at seat i) 0 z) e
+
+  pub seated-more : m ≡ seated (at seat) i bytes → (at seat i ≡ 0 → ⊥) → set m (at seat i - 1) (i + 1) ≡ seated (at seat) (i + 1) bytes
+  unfolding seated
+  seated-more e z =
+      ap (λ (l : List ℕ). set l (at seat i - 1) (i + 1)) e ∙ sym (ap (λ (k : ℕ). seated (at seat) k bytes) (add-one i) ∙ rw (ne-eqb (at seat i) 0 z))
+
+  pub seated-stop : (n : ℕ) → m ≡ seated (at seat) i bytes → i ≤ n → n ≤ i → m ≡ seated (at seat) n bytes
+  seated-stop n e a b = let q : i ≡ n = omega arith in e ∙ ap (λ (k : ℕ). seated (at seat) k bytes) q
+
+-- every seat is one of the cards, of which there are no more than n
+pub seats-room : (s : State) → Ready s → (seats : List ℕ) (n : ℕ) → seats ≡ seatsOf s → s .plan .cards ≤ n → (k : ℕ) → at seats k ≤ n
+unfolding seatsOf
+seats-room s r seats n e l k = rw e (stored-most (s .plan .kinds) 16 n (seatOf s) (λ i q. omega (arith, seat-most s r i q)) (r .order .counts .kinds-most) k)
+
+-- clearing the cards and seating the kinds writes the row
+pub row-written : (s : State) → Ready s → (seats bytes cleared after : List ℕ) → s .plan .cards ≤ length bytes → seats ≡ seatsOf s → cleared ≡ written (s .plan .cards) idle bytes → after ≡ seated (at seats) (s .plan .kinds) cleared → after ≡ rowOver s bytes
+row-written s r seats bytes cleared after room es ec ea =
+    ea ∙ ap (λ (l : List ℕ). seated (at seats) (s .plan .kinds) l) ec ∙ row-seated s r (at seats) (λ k l. ap (λ (m : List ℕ). at m k) es ∙ seats-at s r k l) bytes room

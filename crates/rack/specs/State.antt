@@ -1,0 +1,39 @@
+-- Document 01, "Running": the state and its places, and what a call that may be refused hands back.
+-- Assumes nothing.
+use Prim.Native.Nat.{ℕ}
+use mathlib.Core.Bool.{false}
+use lib.ListN.{getD, replicate}
+use Rattle.plan.specs.declared.Plan.{Plan}
+use Rattle.plan.specs.declared.Kind.{Kind}
+use Rattle.plan.specs.declared.answer.Answer.{Answer}
+use Rattle.plan.specs.Record.{noPlan}
+use Rattle.plan.specs.Order.{kindOf}
+use Rattle.plan.specs.Answer.{ifGood}
+use Rattle.rack.specs.declared.Unit.{Unit}
+use Rattle.rack.specs.declared.State.{State}
+use Rattle.rack.specs.declared.Next.{Next}
+pub mod Properties
+
+-- "a kind never released has release clock 0 and left 0"
+abbrev pub noUnit : Unit
+noUnit = record { released = false; at = 0; left = 0 }
+
+-- the plan at clock 0, with no kind ever released
+abbrev pub freshOf : Plan → State
+freshOf p = record { plan = p; clock = 0; unit = replicate 16 noUnit }
+
+-- "an all-zero state"
+abbrev pub noState : State
+noState = freshOf noPlan
+
+-- "for each kind: whether ever released, the clock at its last accepted release, and slices left"
+abbrev pub unitOf : State → ℕ → Unit
+unitOf s i = getD (s .unit) i noUnit
+
+-- kind i of the state's plan
+abbrev pub kindAt : State → ℕ → Kind
+kindAt s i = kindOf (s .plan) i
+
+-- "a refused slice or release gives back the state handed in"
+abbrev pub nextOf : Answer → State → State → Next
+nextOf a new old = record { answer = a; state = ifGood a new old }

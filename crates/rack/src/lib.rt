@@ -1,0 +1,89 @@
+// The dispatcher: a state that is started on a plan, takes releases, and runs slice by slice.
+//
+// Document 01, "Running", and the refusals 8 to 15 of "Numbers given back when we say no". A state
+// goes in by value and the next one is handed back. Every record is answered, whatever its fields
+// hold.
+mod form;
+mod release;
+mod slice;
+
+ghost use mathlib.Core.Path.{_≡_};
+ghost use Rattle.rack.specs.State.{noUnit, freshOf, noState};
+ghost use Rattle.rack.specs.Start.{startOf};
+use plan::Answer;
+use plan::Plan;
+use verdict::judge;
+
+// A kind's last unit: whether there ever was one, the clock at its release, and the slices left.
+pub struct Unit {
+    pub released: bool,
+    pub at: u32,
+    pub left: u16,
+}
+
+// The plan that runs, the clock, and a place for each kind's unit. Places beyond the plan's kinds
+// hold zeros.
+pub struct State {
+    pub plan: Plan,
+    pub clock: u32,
+    pub unit: [Unit; 16],
+}
+
+// What a call answers, and the state that it hands back.
+pub struct Next {
+    pub answer: Answer,
+    pub state: State,
+}
+
+impl Unit {
+    fn empty() -> Self
+        ensures { λ r. ⌜ r ≡ noUnit ⌝ }
+    {
+        Unit {
+            released: false,
+            at: 0,
+            left: 0,
+        }
+    }
+}
+
+impl State {
+    // Where the clock ends.
+    pub const LAST: u32 = 1000000000;
+
+    // The plan at clock 0, with no kind ever released.
+    pub fn fresh(plan: Plan) -> Self
+        ensures { λ r. ⌜ r ≡ freshOf plan ⌝ }
+    {
+        State {
+            plan,
+            clock: 0,
+            unit: [Unit::empty(); 16],
+        }
+    }
+
+    // The all-zero state.
+    pub fn empty() -> Self
+        ensures { λ r. ⌜ r ≡ noState ⌝ }
+    {
+        State::fresh(Plan::empty())
+    }
+
+    // The fresh state of a plan that is admitted.
+    pub fn start(plan: Plan) -> Next
+        ensures { λ r. ⌜ r ≡ startOf plan ⌝ }
+    {
+        let verdict = judge(plan);
+        let answer = verdict.answer;
+        let Answer::Good = answer else {
+            return Next {
+                answer,
+                state: State::empty(),
+            };
+        };
+        Next {
+            answer,
+            state: State::fresh(plan),
+        }
+    }
+}

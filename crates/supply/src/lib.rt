@@ -1,0 +1,138 @@
+// The supply of a project, what its other kinds add to the workload, and the least k at which a
+// unit fits. Document 01, "Supply and verdict". Every argument is answered.
+ghost use mathlib.Core.Path.{_≡_};
+ghost use Prim.Native.Nat.{_+_, _*_, _≤_, _<_, min};
+ghost use lib.ListN.{replicate};
+ghost use Rattle.laws.specs.Written.{written};
+ghost use Rattle.supply.specs.Workload.{workloadPart};
+ghost use Rattle.supply.specs.Fit.{heldAt, leastWith, fitOf};
+
+// The least k at which a unit fits, or 0 where there is none, and then the excess. Document 01's
+// k is a width here: the most cards that count at one slice.
+pub struct Fit {
+    pub width: u8,
+    pub excess: u64,
+}
+
+fn lesser(a: usize, b: usize) -> usize
+    ensures { λ r. ⌜ r ≡ min a b ⌝ }
+{
+    if a < b {
+        return a;
+    }
+    b
+}
+
+fn product(a: usize, b: usize) -> usize
+    requires { ⌜ (a ≤ 65535) × (b ≤ 65535) ⌝ }
+    ensures { λ r. ⌜ (r ≡ a * b) × (r ≤ 4294836225) ⌝ }
+{
+    a * b
+}
+
+// What another kind of the same project adds to the workload.
+pub fn workload_part(separation: u16, length: u16, deadline: u16) -> u32
+    ensures { λ r. ⌜ r ≡ workloadPart separation length deadline ⌝ }
+{
+    let length = length as usize;
+    let deadline = deadline as usize;
+    if separation == 0 {
+        return lesser(length, deadline) as u32;
+    }
+    let separation = separation as usize;
+    let whole = product(deadline / separation, length);
+    let cut_off = lesser(length, deadline % separation);
+    (whole + cut_off) as u32
+}
+
+// The cards of one slice that count at this width.
+fn counted(width: u8, cards: u8) -> u16
+    ensures { λ r. ⌜ (r ≡ min width cards) × (r ≤ 255) ⌝ }
+{
+    lesser(width as usize, cards as usize) as u16
+}
+
+fn least_with(place: usize, least: usize, value: usize) -> usize
+    ensures { λ r. ⌜ (r ≡ leastWith place least value) × (r ≤ value) ⌝ }
+{
+    if place == 0 {
+        return value;
+    }
+    lesser(least, value)
+}
+
+fn asked(width: u8, length: u16, workload: u32) -> usize
+    ensures { λ r. ⌜ (r ≡ width * length + workload) × (r ≤ 8589934592) ⌝ }
+{
+    product(width as usize, length as usize) + workload as usize
+}
+
+// The cards held at each slice of two frames in a row: a window that starts in the first needs no
+// remainder.
+fn two_frames(held: [u8; 64], frame: usize) -> [u8; 128]
+    requires { ⌜ (0 < frame) × (frame ≤ 64) ⌝ }
+    ensures { λ r. ⌜ r ≡ written (2 * frame) (heldAt frame held) (replicate 128 0) ⌝ }
+{
+    let mut cards = [0u8; 128];
+    for s in 0..2 * frame {
+        cards[s] = held[s % frame];
+    }
+    cards
+}
+
+// The least width, of 1 to the ceiling, at which the unit fits. Only the slices that no whole
+// frame takes up are gone through, from each start.
+pub fn least_fit(
+    held: [u8; 64],
+    frame: u8,
+    ceiling: u8,
+    length: u16,
+    workload: u32,
+    deadline: u16,
+) -> Fit
+    ensures { λ r. ⌜ r ≡ fitOf frame held ceiling length workload deadline ⌝ }
+{
+    if frame == 0 {
+        return Fit {
+            width: 0,
+            excess: 0,
+        };
+    }
+    if 64 < frame {
+        return Fit {
+            width: 0,
+            excess: 0,
+        };
+    }
+    let slices = frame as usize;
+    let frames = (deadline as usize) / slices;
+    let rest = (deadline as usize) % slices;
+    let cards = two_frames(held, slices);
+    let mut found: u8 = 0;
+    let mut excess: usize = 0;
+    'widths: for below in 0..ceiling {
+        let width = below + 1;
+        let mut one_frame: u16 = 0;
+        let mut least: usize = 0;
+        for start in 0..slices {
+            let mut sum: u16 = 0;
+            for x in 0..rest {
+                sum += counted(width, cards[start + x]);
+            }
+            least = least_with(start, least, sum as usize);
+            one_frame += counted(width, cards[start]);
+        }
+        let supply = product(frames, one_frame as usize) + least;
+        let asked = asked(width, length, workload);
+        if asked <= supply {
+            found = width;
+            excess = 0;
+            break 'widths;
+        }
+        excess = least_with(below as usize, excess, asked - supply);
+    }
+    Fit {
+        width: found,
+        excess: excess as u64,
+    }
+}

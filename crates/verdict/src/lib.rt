@@ -1,0 +1,140 @@
+// The admission verdict: document 01, "Supply and verdict". Any record is answered: the record
+// order first, then 8 with the first kind that has no k.
+ghost use mathlib.Core.Path.{_≡_};
+ghost use Prim.Native.Nat.{_+_, _*_, _≤_, _<_};
+ghost use lib.Dec.{eqb};
+ghost use Rattle.plan.specs.declared.answer.Refusal.the-variants.{ByKind};
+ghost use Rattle.plan.specs.Answer.{refuse};
+ghost use Rattle.plan.specs.Order.{kindOf};
+ghost use Rattle.plan.specs.Order.Properties.{InOrder};
+ghost use Rattle.verdict.specs.Workload.{workload};
+ghost use Rattle.verdict.specs.Verdict.{admitted, verdictOf, judged};
+ghost use Rattle.verdict.specs.Steps.{runCards, projectCards, allCards, fitOn};
+use plan::Answer;
+use plan::Plan;
+use plan::Refusal;
+use supply::Fit;
+
+// The answer, and beside it document 01's k for each kind: the most cards that count at one
+// slice, hence a width. Places beyond the kinds hold 0, and on a refusal every place does.
+pub struct Verdict {
+    pub answer: Answer,
+    pub width: [u8; 16],
+}
+
+// The cards that a run of cells holds at each slice of the frame.
+fn run_cards(first: u16, budget: u16, frame: u8) -> [u8; 64]
+    requires { ⌜ (0 < frame) × (frame ≤ 64) × (first ≤ 512) × (budget ≤ 8 * frame) ⌝ }
+    ensures { λ r. ⌜ r ≡ runCards first budget frame ⌝ }
+{
+    let end = first + budget;
+    let mut cards = [0u8; 64];
+    for s in 0..frame {
+        let below = layout::cards_below(first, frame, s);
+        cards[s as usize] = (layout::cards_below(end, frame, s) - below) as u8;
+    }
+    cards
+}
+
+// The cards that each project holds at each slice of the frame.
+fn all_cards(plan: Plan) -> [[u8; 64]; 8]
+    requires { ⌜ InOrder plan ⌝ }
+    ensures { λ r. ⌜ r ≡ allCards plan ⌝ }
+{
+    let mut cards = [[0u8; 64]; 8];
+    let mut first: u16 = 0;
+    for j in 0..plan.projects {
+        let budget = plan.project[j as usize].budget;
+        cards[j as usize] = run_cards(first, budget, plan.frame);
+        first += budget;
+    }
+    cards
+}
+
+// What every other kind of the same project adds up to, against this kind's deadline.
+fn workload(plan: Plan, i: u8) -> u32
+    requires { ⌜ (InOrder plan) × (i < plan .kinds) ⌝ }
+    ensures { λ r. ⌜ (r ≡ workload plan i) × (r ≤ 65520) ⌝ }
+{
+    let kind = plan.kind[i as usize];
+    let mut sum: u32 = 0;
+    for j in 0..plan.kinds {
+        if j == i {
+            continue;
+        }
+        let other = plan.kind[j as usize];
+        if other.project != kind.project {
+            continue;
+        }
+        sum += supply::workload_part(other.separation, other.length, kind.deadline);
+    }
+    sum
+}
+
+// The k and the excess of a kind, from the cards that its project holds.
+fn fit_on(plan: Plan, cards: [u8; 64], i: u8) -> Fit
+    requires { ⌜ (InOrder plan) × (i < plan .kinds) × (cards ≡ projectCards plan (kindOf plan i .project)) ⌝ }
+    ensures { λ r. ⌜ r ≡ fitOn plan i ⌝ }
+{
+    let kind = plan.kind[i as usize];
+    let ceiling = plan.project[kind.project as usize].ceiling;
+    let workload = workload(plan, i);
+    supply::least_fit(
+        cards,
+        plan.frame,
+        ceiling,
+        kind.length,
+        workload,
+        kind.deadline,
+    )
+}
+
+// 8 for a kind with no k.
+fn told(fit: Fit, place: u8) -> Answer
+    requires { ⌜ fit .excess ≤ 4294967295 ⌝ }
+    ensures { λ r. ⌜ r ≡ refuse (eqb (fit .width) 0) (ByKind 8 place (fit .excess)) ⌝ }
+{
+    if fit.width == 0 {
+        return Answer::No(Refusal::ByKind(8, place, fit.excess as u32));
+    }
+    Answer::Good
+}
+
+// The verdict on a plan in order.
+fn fits(plan: Plan) -> Verdict
+    requires { ⌜ InOrder plan ⌝ }
+    ensures { λ r. ⌜ r ≡ verdictOf plan (admitted plan) ⌝ }
+{
+    let cards = all_cards(plan);
+    let mut width = [0u8; 16];
+    for i in 0..plan.kinds {
+        let project = plan.kind[i as usize].project as usize;
+        let fit = fit_on(plan, cards[project], i);
+        let answer = told(fit, i);
+        let Answer::Good = answer else {
+            return Verdict {
+                answer,
+                width: [0u8; 16],
+            };
+        };
+        width[i as usize] = fit.width;
+    }
+    Verdict {
+        answer: Answer::Good,
+        width,
+    }
+}
+
+// Whether a plan is admitted, and with which k for each kind.
+pub fn judge(plan: Plan) -> Verdict
+    ensures { λ r. ⌜ r ≡ judged plan ⌝ }
+{
+    let order = plan.check();
+    let Answer::Good = order else {
+        return Verdict {
+            answer: order,
+            width: [0u8; 16],
+        };
+    };
+    fits(plan)
+}

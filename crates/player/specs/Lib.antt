@@ -4,3 +4,5 @@ pub mod Ascii
 pub mod Text
 pub mod Line
 pub mod Command
+pub mod Turn
+pub mod Played

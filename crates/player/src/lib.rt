@@ -2,5 +2,6 @@
 mod command;
 mod line;
 mod text;
+mod turn;
 
 pub use command::Command;

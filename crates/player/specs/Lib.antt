@@ -6,3 +6,4 @@ pub mod Line
 pub mod Command
 pub mod Turn
 pub mod Played
+pub mod Session

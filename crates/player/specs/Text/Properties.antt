@@ -20,6 +20,10 @@ sets-append l at (x ∷ xs) ys =
     let e : suc at + length xs ≡ at + suc (length xs) = omega arith in
     sets-append (set l at x) (suc at) xs ys ∙ ap (λ (k : ℕ). sets (sets (set l at x) (suc at) xs) k ys) e
 
+pub sets-nothing : (l : List ℕ) (at : ℕ) (xs : List ℕ) → length xs ≡ 0 → sets l at xs ≡ l
+sets-nothing l at [] e = refl
+sets-nothing l at (x ∷ xs) e = absurd (omega arith)
+
 pub puts-none : (l : List ℕ) (at : ℕ) → Puts l at [] at l
 puts-none l at = record { end = sym (add-zero at); buffer = refl }
 

@@ -7,3 +7,4 @@ pub mod Command
 pub mod Turn
 pub mod Played
 pub mod Session
+pub mod Kept

@@ -7,4 +7,5 @@ pub mod Command
 pub mod Turn
 pub mod Played
 pub mod Session
+pub mod Stream
 pub mod Kept

@@ -14,6 +14,7 @@ use Rattle.player.specs.Line.{planLine, badLine, endLine}
 use Rattle.player.specs.Command.{commandOf}
 use Rattle.player.specs.Turn.{lineOf, after}
 pub mod Properties
+pub mod Front
 
 -- "print `bad command`; no more is read": what follows a command's line, where it goes on and where it does not
 abbrev pub onward : Command → List ℕ → List ℕ → List ℕ

@@ -129,3 +129,4 @@ progressOf m = record { session = m .session; taken = m .taken; count = length (
 pub record Plays (x : Session) (last : Bool) (bytes out : List ℕ) (r : Progress) (held : List ℕ) : Type 0 where
   pub result : r ≡ progressOf (playOf x last bytes (length out))
   pub buffer : held ≡ playOf x last bytes (length out) .text ++ drop (length (playOf x last bytes (length out) .text)) out
+  pub room : r .count ≤ length out

@@ -1,7 +1,7 @@
 -- Laws of a play line by line: each way out, over what the code has in hand there, and the steps of the loop.
 -- Assumes nothing.
 use mathlib.Core.Path.{_≡_, refl, sym, ap, ap₂, _∙_}
-use mathlib.Core.Bool.{Bool, true, false, cond, not, _&&_, _||_}
+use mathlib.Core.Bool.{Bool, true, false, true≢false, cond, not, _&&_, _||_}
 use mathlib.Core.List.{List, [], _∷_, _++_, append-assoc, append-nil}
 use Prim.Native.Nat.{ℕ, zero, suc, _+_, _-_, _≤_, _<_}
 use native.Mathlib.Decide.{decLt}
@@ -9,7 +9,7 @@ use native.Mathlib.Omega.{arith}
 use lib.Dec.{ltb, eqb}
 use lib.ListN.{length, take, drop, length-append, length-drop, take-append-drop}
 use lib.Seq.{sets, sets-eq, take-at, drop-at, drop-drop, length-take-le, length-sets}
-use borrow.Author.Tests.{lt-ltb, le-ltb, eq-eqb, ne-eqb}
+use borrow.Author.Tests.{lt-ltb, le-ltb, eq-eqb, ne-eqb, eqb-true}
 use Rattle.plan.specs.declared.Plan.{Plan}
 use Rattle.plan.specs.declared.answer.Answer.{Answer}
 use Rattle.plan.specs.declared.answer.Answer.the-variants.{Good, No}
@@ -24,6 +24,8 @@ use Rattle.rack.specs.declared.State.{State}
 use Rattle.rack.specs.declared.Next.{Next}
 use Rattle.rack.specs.State.{noState}
 use Rattle.rack.specs.Start.{startOf}
+use Rattle.rack.specs.Slice.{sliceOf}
+use Rattle.rack.specs.Row.{rowByte}
 use Rattle.player.specs.declared.command.Command.{Command}
 use Rattle.player.specs.declared.command.Command.the-variants.{Slice, Release, Bad}
 use Rattle.player.specs.declared.turn.Turn.{Turn}
@@ -34,11 +36,12 @@ use Rattle.player.specs.declared.session.Step.{Step}
 use Rattle.player.specs.declared.session.Progress.{Progress}
 use Rattle.player.specs.Text.{Puts}
 use Rattle.player.specs.Text.Properties.{puts-none, sets-nothing}
-use Rattle.player.specs.Line.{planLine, badLine, endLine}
+use Rattle.player.specs.Line.{planLine, releaseLine, sliceLine, badLine, endLine}
 use Rattle.player.specs.Command.{commandOf}
 use Rattle.player.specs.Command.Properties.{command-short}
-use Rattle.player.specs.Turn.{Turns}
+use Rattle.player.specs.Turn.{rowRoom, lineOf, Turns}
 use Rattle.player.specs.Played.{opening}
+use Rattle.player.specs.Played.Front.{one-short}
 use Rattle.player.specs.Session.{unopened, running, over, atStage, Move, stay, firstLine, openOf, commandMove, lastLine, runOf, stepOf, Steps, lineRoom, onto, linesOf, playOf, progressOf, Plays}
 
 -- ---- where a play stands
@@ -147,7 +150,7 @@ module _ (out held : List ℕ) (at next : ℕ) where
 
 -- ---- a line takes no more than is there
 
-read-whole : (s : List ℕ) → readOf s .answer ≡ Good → readOf s .taken ≤ length s
+pub read-whole : (s : List ℕ) → readOf s .answer ≡ Good → readOf s .taken ≤ length s
 unfolding readOf
 read-whole s e = rw e (read-good s e .long)
 
@@ -267,6 +270,7 @@ module _ (x : Session) (last : Bool) (bytes start : List ℕ) (session : Session
       record {
         result = λ i. record { session = sym (ap (λ (k : Move). k .session) m) i; taken = (z ∙ sym (ap (λ (k : Move). k .taken) m)) i; count = sym k i };
         buffer = sym (take-append-drop count out) ∙ ap₂ _++_ (sym t) (p .kept ∙ ap (λ (j : ℕ). drop j start) (sym k));
+        room = p .count-most;
       }
 
   pub playing-done : lines ≤ 0 → Plays x last bytes start (record { session = session; taken = taken; count = count }) out
@@ -320,3 +324,128 @@ module _ (x : Session) (last : Bool) (bytes start : List ℕ) (session : Session
             ap (drop (step .next)) stored ∙ drop-at (take count out ++ m .text) (drop (count + length (m .text)) out) (step .next) front ∙ ap (λ (j : ℕ). drop j out) (sym ended)
             ∙ ap (λ (j : ℕ). drop j out) ended ∙ sym (drop-drop (length (m .text)) count out) ∙ ap (drop (length (m .text))) (p .kept) ∙ drop-drop (length (m .text)) count start ∙ ap (λ (j : ℕ). drop j start) (sym ended);
         }
+
+-- ---- playing takes no more than is there
+
+lines-most : (n : ℕ) (x : Session) (last : Bool) (bytes : List ℕ) (room : ℕ) → linesOf n x last bytes room .taken ≤ length bytes
+unfolding linesOf
+lines-most zero x last bytes room = omega arith
+lines-most (suc n) x last bytes room = go (ltb room lineRoom || eqb (length (stepOf x last bytes .text)) 0) (lines-most n (stepOf x last bytes .session) last (drop (stepOf x last bytes .taken) bytes) (room - length (stepOf x last bytes .text)))
+  where
+    go : (b : Bool) → linesOf n (stepOf x last bytes .session) last (drop (stepOf x last bytes .taken) bytes) (room - length (stepOf x last bytes .text)) .taken ≤ length (drop (stepOf x last bytes .taken) bytes)
+        → cond b (stay x) (onto (stepOf x last bytes .taken) (stepOf x last bytes .text) (linesOf n (stepOf x last bytes .session) last (drop (stepOf x last bytes .taken) bytes) (room - length (stepOf x last bytes .text)))) .taken ≤ length bytes
+    go true h = omega arith
+    go false h = omega (arith, step-most x last bytes, length-drop (stepOf x last bytes .taken) bytes)
+
+pub play-most : (x : Session) (last : Bool) (bytes : List ℕ) (room : ℕ) → playOf x last bytes room .taken ≤ length bytes
+unfolding playOf
+play-most x last bytes room = lines-most room x last bytes room
+
+-- ---- no line is empty
+
+plan-some : (a : Answer) → 0 < length (planLine a)
+unfolding planLine
+plan-some Good = omega arith
+plan-some (No w) = omega arith
+
+line-some : (s : State) (k : Command) → 0 < length (commandMove s k .text)
+unfolding commandMove lineOf releaseLine sliceLine
+line-some s Slice = go (sliceOf s rowRoom .answer)
+  where
+    go : (a : Answer) → 0 < length (sliceLine a (s .clock) (s .plan .cards) (rowByte s))
+    go Good = omega arith
+    go (No w) = omega arith
+line-some s (Release kind e) = omega arith
+line-some s Bad = omega arith
+
+end-some : (clock : ℕ) → 0 < length (endLine clock)
+unfolding endLine
+end-some clock = omega arith
+
+-- ---- where a play with room prints nothing
+
+-- it prints the next line, if there is one
+pub play-idle : (x : Session) (last : Bool) (bytes : List ℕ) (room : ℕ) → 128 ≤ room → length (playOf x last bytes room .text) ≡ 0 → length (stepOf x last bytes .text) ≡ 0
+unfolding playOf
+play-idle x last bytes room r e =
+    elim (decLt 0 (length (stepOf x last bytes .text))) [
+      | yes t ↦
+        let m = stepOf x last bytes in
+        let q = ap (λ (k : Move). length (k .text)) (lines-on room x last bytes room (omega arith) r t) in
+        absurd (omega (arith, length-append (m .text) (linesOf (room - 1) (m .session) last (drop (m .taken) bytes) (room - length (m .text)) .text)))
+      | no t ↦ omega arith
+    ]
+
+open-idle : (x : Session) (bytes : List ℕ) → length (openOf x false bytes .text) ≡ 0 → length bytes < 99
+unfolding openOf
+open-idle x bytes e = go (eqb (number (readOf bytes .answer)) 1) refl e
+  where
+    go : (b : Bool) → eqb (number (readOf bytes .answer)) 1 ≡ b → length (cond b (stay x) (firstLine (opening bytes) (startOf (readOf bytes .plan) .state) (readOf bytes .taken)) .text) ≡ 0 → length bytes < 99
+    go true q z = one-short bytes (eqb-true (number (readOf bytes .answer)) 1 q)
+    go false q z = absurd (omega (arith, plan-some (opening bytes)))
+
+run-idle : (x : Session) (bytes : List ℕ) → length (runOf x false bytes .text) ≡ 0 → length bytes < 99
+unfolding runOf
+run-idle x bytes e = elim (decLt (length bytes) 3) [ yes l ↦ omega arith | no l ↦ absurd (none (omega arith)) ]
+  where
+    none : 3 ≤ length bytes → ⊥
+    none l = let z : length (commandMove (x .state) (commandOf bytes) .text) ≡ 0 = rw (le-ltb (length bytes) 3 l) at e in omega (arith, line-some (x .state) (commandOf bytes))
+
+step-idle : (x : Session) (bytes : List ℕ) → atStage (x .stage) false false true ≡ false → length (stepOf x false bytes .text) ≡ 0 → length bytes < 99
+unfolding stepOf
+step-idle x bytes = go (x .stage)
+  where
+    go : (g : Stage) → atStage g false false true ≡ false → length (atStage g (openOf x false bytes) (runOf x false bytes) (stay x) .text) ≡ 0 → length bytes < 99
+    go Opening o e = open-idle x bytes e
+    go Running o e = run-idle x bytes e
+    go Over o e = absurd (true≢false o)
+
+-- before the end of the input and of the play, it waits for more: few bytes are left
+pub idle-short : (x : Session) (last b : Bool) (bytes out held : List ℕ) (r : Progress) → Plays x last bytes out r held → r .count ≡ 0 → last ≡ false → b ≡ atStage (x .stage) false false true → b ≡ false → 128 ≤ length out
+    → length bytes < 99
+idle-short x last b bytes out held r p e f g h l =
+    let z : length (playOf x last bytes (length out) .text) ≡ 0 = sym (ap (λ (q : Progress). q .count) (p .result)) ∙ e in
+    step-idle x bytes (sym g ∙ h) (play-idle x false bytes (length out) l (rw f at z))
+
+-- after the end of the input, the play is over
+run-some : (x : Session) (bytes : List ℕ) → 0 < length (runOf x true bytes .text)
+unfolding runOf
+run-some x bytes = go (eqb (length bytes) 0)
+  where
+    go : (b : Bool) → 0 < length (cond b (lastLine (x .state)) (commandMove (x .state) (commandOf bytes)) .text)
+    go true = end-some (x .state .clock)
+    go false = line-some (x .state) (commandOf bytes)
+
+pub idle-over : (x : Session) (bytes : List ℕ) → length (stepOf x true bytes .text) ≡ 0 → x .stage ≡ Over
+unfolding stepOf openOf
+idle-over x bytes = go (x .stage)
+  where
+    go : (g : Stage) → length (atStage g (openOf x true bytes) (runOf x true bytes) (stay x) .text) ≡ 0 → g ≡ Over
+    go Opening e = absurd (omega (arith, plan-some (opening bytes)))
+    go Running e = absurd (omega (arith, run-some x bytes))
+    go Over e = refl
+
+-- ---- of a part of a buffer
+
+pub part-taken : (x : Session) (last : Bool) (input out held : List ℕ) (from to : ℕ) (r : Progress) → Plays x last (take (to - from) (drop from input)) out r held → from ≤ to → to ≤ length input → from + r .taken ≤ to
+part-taken x last input out held from to r p a b =
+    let n : length (take (to - from) (drop from input)) ≡ to - from = length-take-le (to - from) (drop from input) (omega (arith, length-drop from input)) in
+    let e : r .taken ≡ playOf x last (take (to - from) (drop from input)) (length out) .taken = ap (λ (q : Progress). q .taken) (p .result) in
+    omega (arith, play-most x last (take (to - from) (drop from input)) (length out))
+
+pub part-short : (x : Session) (last b : Bool) (input out held : List ℕ) (from to : ℕ) (r : Progress) → Plays x last (take (to - from) (drop from input)) out r held → from ≤ to → to ≤ length input → r .count ≡ 0 → last ≡ false
+    → b ≡ atStage (x .stage) false false true → b ≡ false → 128 ≤ length out → 128 ≤ length input → to - from < length input
+part-short x last b input out held from to r p a c e f g h l k =
+    let n : length (take (to - from) (drop from input)) ≡ to - from = length-take-le (to - from) (drop from input) (omega (arith, length-drop from input)) in
+    omega (arith, idle-short x last b (take (to - from) (drop from input)) out held r p e f g h l)
+
+-- ---- each operation admits one outcome
+
+pub new-one-outcome : (a b : Session) → a ≡ unopened → b ≡ unopened → a ≡ b
+new-one-outcome a b e f = e ∙ sym f
+
+pub over-one-outcome : (x : Session) (a b : Bool) → a ≡ atStage (x .stage) false false true → b ≡ atStage (x .stage) false false true → a ≡ b
+over-one-outcome x a b e f = e ∙ sym f
+
+pub play-one-outcome : (x : Session) (last : Bool) (bytes out : List ℕ) (r s : Progress) (held later : List ℕ) → Plays x last bytes out r held → Plays x last bytes out s later → (r ≡ s) × (held ≡ later)
+play-one-outcome x last bytes out r s held later a b = (a .result ∙ sym (b .result), a .buffer ∙ sym (b .buffer))

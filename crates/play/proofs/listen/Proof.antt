@@ -1,3 +1,8 @@
+use mathlib.Core.Path.{ap}
+use native.Mathlib.Omega.{arith}
+use lib.ListN.{length, length-drop}
+use Rattle.plan_bytes.specs.Parts.Properties.{handed-on}
+use Rattle.player.specs.Kept.Properties.{keeps-within}
 use borrow.Author.Needs.{needs}
 use Rattle.play.proofs.listen.Statement.{statement}
 use Rattle.play.proofs.listen.Tie as tie
@@ -14,7 +19,7 @@ keep-requires c κs = search needs
 
 -- src/main.rt:50:9
 read-more-requires : tie.Need-read-more-requires
-read-more-requires c κs = ?
+read-more-requires c κs = omega (arith, keeps-within _ _ _ _ _ (c .before .before .before .keep .ensures) (omega arith) (omega arith), c .before .before .before .keep .kept .0)
 
 -- src/main.rt:52:9
 close-requires : tie.Need-close-requires
@@ -30,11 +35,11 @@ returns c = search needs
 
 -- src/main.rt:54:31
 sub-count : tie.Need-sub-count
-sub-count c = ?
+sub-count c = omega (arith, keeps-within _ _ _ _ _ (c .before .before .before .before .before .before .before .keep .ensures) (omega arith) (omega arith), c .before .before .before .before .before .before .before .keep .kept .0, c .before .before .before .read-more .kept .0)
 
 -- src/main.rt:54:31
 part-count-start : tie.Need-part-count-start
-part-count-start c = ?
+part-count-start c = omega (arith, keeps-within _ _ _ _ _ (c .before .before .before .before .before .before .before .before .keep .ensures) (omega arith) (omega arith), c .before .before .before .before .before .before .before .before .keep .kept .0, c .before .before .before .before .read-more .kept .0)
 
 -- src/main.rt:54:31
 part-count-end : tie.Need-part-count-end
@@ -54,7 +59,7 @@ same-length-2 c = search needs
 
 -- src/main.rt:45:1
 returns-2 : tie.Need-returns-2
-returns-2 c = ?
+returns-2 c = (omega arith, omega (arith, keeps-within _ _ _ _ _ (c .before .before .before .before .before .before .before .before .before .before .keep .ensures) (omega arith) (omega arith), c .before .before .before .before .before .before .before .before .before .before .keep .kept .0, c .before .before .before .before .before .before .read-more .kept .0, ap length (handed-on (c .before .before .before .before .before .before .read-more .last .0) (c .before .before .before .before .before .before .before .before .before .before .keep .result)), length-drop (c .before .before .before .before .before .before .before .before .before .before .keep .result) (c .before .before .before .before .before .before .read-more .last .0)))
 
 pub listen-spec : {M : Type 1} → statement M
 listen-spec =

@@ -1,3 +1,7 @@
+use mathlib.Core.Path.{sym}
+use native.Mathlib.Omega.{arith}
+use lib.Seq.{length-take-le}
+use Rattle.player.specs.Session.Properties.{part-taken, part-short}
 use borrow.Author.Needs.{needs}
 use Rattle.play.proofs.round.Statement.{statement}
 use Rattle.play.proofs.round.Tie as tie
@@ -63,7 +67,7 @@ returns-2 c = search needs
 
 -- src/main.rt:82:9
 listen-requires : tie.Need-listen-requires
-listen-requires c κs = ?
+listen-requires c κs = (omega arith, omega arith, search part-short)
 
 -- src/main.rt:82:9
 same-length-5 : tie.Need-same-length-5
@@ -79,11 +83,11 @@ returns-3 c = search needs
 
 -- src/main.rt:84:45
 slice-reshare-prefix-write-all : tie.Need-slice-reshare-prefix-write-all
-slice-reshare-prefix-write-all c = ?
+slice-reshare-prefix-write-all c = omega (arith, c .before .before .before .play .ensures .room, c .before .before .before .play .kept .1 .1 .1 .0)
 
 -- src/main.rt:84:45
 slice-aggregate-write-all : tie.Need-slice-aggregate-write-all
-slice-aggregate-write-all c = ?
+slice-aggregate-write-all c = sym (length-take-le _ _ (omega (arith, c .before .before .before .before .play .ensures .room, c .before .before .before .before .play .kept .1 .1 .1 .0)))
 
 -- src/main.rt:84:9
 write-all-requires : tie.Need-write-all-requires
@@ -91,7 +95,7 @@ write-all-requires c κs = search needs
 
 -- src/main.rt:88:15
 add-t13 : tie.Need-add-t13
-add-t13 c = ?
+add-t13 c = omega (arith, part-taken _ _ _ _ _ (c .before .before .before .before .before .before .before .before .before .before .before .before .before .before .args .desk .from) (c .before .before .before .before .before .before .before .before .before .before .before .before .before .before .args .desk .to) _ (c .before .before .before .before .before .before .before .play .ensures) (omega arith) (omega arith), c .before .before .before .before .before .before .before .before .before .before .before .before .before .before .good .1 .0 .0)
 
 -- src/main.rt:65:1
 same-length-7 : tie.Need-same-length-7
@@ -103,7 +107,7 @@ same-length-8 c = search needs
 
 -- src/main.rt:65:1
 returns-4 : tie.Need-returns-4
-returns-4 c = ?
+returns-4 c = (part-taken _ _ _ _ _ (c .before .before .before .before .before .before .before .before .before .before .before .before .before .before .args .desk .from) (c .before .before .before .before .before .before .before .before .before .before .before .before .before .before .args .desk .to) _ (c .before .before .before .before .before .before .before .play .ensures) (omega arith) (omega arith), omega arith)
 
 pub round-spec : {M : Type 1} → statement M
 round-spec =

@@ -9,3 +9,4 @@ pub mod Played
 pub mod Session
 pub mod Stream
 pub mod Kept
+pub mod OneOutcome

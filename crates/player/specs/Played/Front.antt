@@ -94,14 +94,14 @@ module _ (s t : List ℕ) (three : 3 ≤ length s) where
     projects-more =
         ap (λ (p : Plan). projectsFrom (p .projects) (afterHeader (s ++ t))) headed-more
         ∙ written-same (headed s .projects) (λ j. projectFrom (projectAt (afterHeader (s ++ t)) j)) (λ j. projectFrom (projectAt (afterHeader s) j)) (replicate 8 noProject)
-            (λ j l. λ i. record { ceiling = getD (project-more j l i) 0 0; budget = getD (project-more j l i) 1 0 })
+        (λ j l. λ i. record { ceiling = getD (project-more j l i) 0 0; budget = getD (project-more j l i) 1 0 })
 
     kinds-more : kindsFrom (headed (s ++ t) .kinds) (afterProjects (s ++ t)) ≡ kindsFrom (headed s .kinds) (afterProjects s)
     unfolding kindsFrom kindFrom
     kinds-more =
         ap (λ (p : Plan). kindsFrom (p .kinds) (afterProjects (s ++ t))) headed-more
         ∙ written-same (headed s .kinds) (λ k. kindFrom (kindAt (afterProjects (s ++ t)) k)) (λ k. kindFrom (kindAt (afterProjects s) k)) (replicate 16 noKind)
-            (λ k l. λ i. record { project = getD (kind-more k l i) 0 0; separation = getD (kind-more k l i) 1 0; deadline = getD (kind-more k l i) 2 0; length = getD (kind-more k l i) 3 0 })
+        (λ k l. λ i. record { project = getD (kind-more k l i) 0 0; separation = getD (kind-more k l i) 1 0; deadline = getD (kind-more k l i) 2 0; length = getD (kind-more k l i) 3 0 })
 
     decoded-more : decoded (s ++ t) ≡ decoded s
     unfolding decoded
@@ -208,15 +208,15 @@ one-short s one =
     elim (decLt (length s) 3) [
       | yes l ↦ omega arith
       | no l ↦
-        elim (decLt (length s) (size (headed s))) [
-          | yes q ↦ by-counts (sizes (headed s)) refl q
-          | no q ↦
-            absurd
-            (then-other (sizes (headed s)) (bodyAnswer s) (sizes-other (headed s))
-            (then-other (refuse (ltb (length s) (size (headed s))) (Bare 1)) (refuse (not (spareZero s)) (Bare 3) andThen ranges (decoded s)) (λ e. no-one (omega arith) e)
-            (then-other (refuse (not (spareZero s)) (Bare 3)) (ranges (decoded s)) (refuse-other (not (spareZero s)) (Bare 3) (λ e. omega arith)) (ranges-other (decoded s))))
-            (rw (le-ltb (length s) 3 (omega arith)) at one))
-        ]
+          elim (decLt (length s) (size (headed s))) [
+            | yes q ↦ by-counts (sizes (headed s)) refl q
+            | no q ↦
+                absurd
+                (then-other (sizes (headed s)) (bodyAnswer s) (sizes-other (headed s))
+                (then-other (refuse (ltb (length s) (size (headed s))) (Bare 1)) (refuse (not (spareZero s)) (Bare 3) andThen ranges (decoded s)) (λ e. no-one (omega arith) e)
+                (then-other (refuse (not (spareZero s)) (Bare 3)) (ranges (decoded s)) (refuse-other (not (spareZero s)) (Bare 3) (λ e. omega arith)) (ranges-other (decoded s))))
+                (rw (le-ltb (length s) 3 (omega arith)) at one))
+          ]
     ]
   where
     no-one : size (headed s) ≤ length s → number (refuse (ltb (length s) (size (headed s))) (Bare 1)) ≡ 1 → ⊥

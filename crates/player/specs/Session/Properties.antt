@@ -314,15 +314,15 @@ module _ (x : Session) (last : Bool) (bytes start : List ℕ) (session : Session
         let left : length start - count - length (m .text) ≡ length start - step .next = omega arith in
         record {
           whole =
-            p .whole ∙ ap (onto taken (take count out)) (lines-on lines session last (drop taken bytes) (length start - count) l (omega arith) t)
-            ∙ onto-onto taken (m .taken) (take count out) (m .text) (linesOf (lines - 1) (m .session) last (drop (m .taken) (drop taken bytes)) (length start - count - length (m .text)))
-            ∙ rw (moved .session, moved .taken, printed, ← left, drop-drop (m .taken) taken bytes);
+              p .whole ∙ ap (onto taken (take count out)) (lines-on lines session last (drop taken bytes) (length start - count) l (omega arith) t)
+              ∙ onto-onto taken (m .taken) (take count out) (m .text) (linesOf (lines - 1) (m .session) last (drop (m .taken) (drop taken bytes)) (length start - count - length (m .text)))
+              ∙ rw (moved .session, moved .taken, printed, ← left, drop-drop (m .taken) taken bytes);
           long = ap length (moved .text .buffer) ∙ length-sets out count (m .text) ∙ long;
           count-most = omega arith;
           taken-most = taken-fits;
           kept =
-            ap (drop (step .next)) stored ∙ drop-at (take count out ++ m .text) (drop (count + length (m .text)) out) (step .next) front ∙ ap (λ (j : ℕ). drop j out) (sym ended)
-            ∙ ap (λ (j : ℕ). drop j out) ended ∙ sym (drop-drop (length (m .text)) count out) ∙ ap (drop (length (m .text))) (p .kept) ∙ drop-drop (length (m .text)) count start ∙ ap (λ (j : ℕ). drop j start) (sym ended);
+              ap (drop (step .next)) stored ∙ drop-at (take count out ++ m .text) (drop (count + length (m .text)) out) (step .next) front ∙ ap (λ (j : ℕ). drop j out) (sym ended)
+              ∙ ap (λ (j : ℕ). drop j out) ended ∙ sym (drop-drop (length (m .text)) count out) ∙ ap (drop (length (m .text))) (p .kept) ∙ drop-drop (length (m .text)) count start ∙ ap (λ (j : ℕ). drop j start) (sym ended);
         }
 
 -- ---- playing takes no more than is there
@@ -370,9 +370,9 @@ unfolding playOf
 play-idle x last bytes room r e =
     elim (decLt 0 (length (stepOf x last bytes .text))) [
       | yes t ↦
-        let m = stepOf x last bytes in
-        let q = ap (λ (k : Move). length (k .text)) (lines-on room x last bytes room (omega arith) r t) in
-        absurd (omega (arith, length-append (m .text) (linesOf (room - 1) (m .session) last (drop (m .taken) bytes) (room - length (m .text)) .text)))
+          let m = stepOf x last bytes in
+          let q = ap (λ (k : Move). length (k .text)) (lines-on room x last bytes room (omega arith) r t) in
+          absurd (omega (arith, length-append (m .text) (linesOf (room - 1) (m .session) last (drop (m .taken) bytes) (room - length (m .text)) .text)))
       | no t ↦ omega arith
     ]
 

@@ -105,8 +105,8 @@ decimal-most (suc k) n h =
     elim (decLt n 10) [
       | yes p ↦ omega (arith, decimal-one n p)
       | no p ↦
-        let q : n / 10 < 10 ^ suc k = div-lt-iff-lt-mul {k = 10} {x = n} {y = 10 ^ suc k} (omega arith) .1 (rw pow-suc at h) in
-        omega (arith, decimal-more n (omega arith), decimal-most k (n / 10) q)
+          let q : n / 10 < 10 ^ suc k = div-lt-iff-lt-mul {k = 10} {x = n} {y = 10 ^ suc k} (omega arith) .1 (rw pow-suc at h) in
+          omega (arith, decimal-more n (omega arith), decimal-most k (n / 10) q)
     ]
 
 -- a number of 32 bits has at most ten digits

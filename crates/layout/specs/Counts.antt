@@ -1,20 +1,15 @@
 -- Laws of `countTo` that the layout asks for.
 -- Assumes nothing.
-use mathlib.Core.Path.{_≡_, refl, sym, ap, ap₂, _∙_}
+use mathlib.Core.Path.{_≡_, refl, ap}
 use mathlib.Core.Bool.{Bool, true, false, cond, _&&_}
 use Prim.Native.Nat.{ℕ, zero, suc, _+_, _-_, _≤_, _<_, min}
-use native.Mathlib.Decide.{decLe, decLt}
+use native.Mathlib.Decide.{decLt}
 use native.Mathlib.Nat.{add-zero, add-suc}
 use native.Mathlib.Omega.{arith}
 use lib.Dec.{leb, ltb}
 use borrow.Author.Tests.{lt-ltb, le-ltb, le-leb, lt-leb}
 use Rattle.laws.specs.Sum.{sumTo}
 use Rattle.laws.specs.Count.{countTo}
-
-pub count-cong : (n : ℕ) (f g : ℕ → Bool) → ((x : ℕ) → x < n → f x ≡ g x) → countTo n f ≡ countTo n g
-unfolding countTo
-count-cong zero f g h = refl
-count-cong (suc n) f g h = ap₂ _+_ (count-cong n f g (λ x l. h x (omega arith))) (ap (λ (b : Bool). cond b 1 0) (h n (omega arith)))
 
 -- a count cut in two
 pub count-split : (m n : ℕ) (f : ℕ → Bool) → countTo (m + n) f ≡ countTo m f + countTo n (λ x. f (m + x))

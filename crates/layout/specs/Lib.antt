@@ -5,3 +5,4 @@ pub mod Cards
 pub mod Layout
 pub mod Table
 pub mod Walk
+pub mod OneOutcome

@@ -8,9 +8,8 @@ use lib.ListN.{length}
 use Rattle.laws.specs.Written.{written}
 use Rattle.plan.specs.declared.Plan.{Plan}
 use Rattle.plan.specs.declared.answer.Answer.{Answer}
-use Rattle.plan.specs.declared.answer.Answer.the-variants.{Good, No}
 use Rattle.plan.specs.declared.answer.Refusal.the-variants.{Bare}
-use Rattle.plan.specs.Answer.{refuse, _andThen_}
+use Rattle.plan.specs.Answer.{refuse, _andThen_, ifGood}
 use Rattle.plan.specs.Order.{checked}
 use Rattle.layout.specs.declared.table.TableWritten.{TableWritten}
 use Rattle.layout.specs.Layout.{slotOf}
@@ -27,11 +26,6 @@ tableOver p bytes = written (tableLength p) (slotOf p) bytes
 -- "Writing plan bytes or the slot table adds 9 and not 8"; "9: buffer shorter than needed"
 unfoldable pub tableAnswer : Plan → ℕ → Answer
 tableAnswer p room = checked p andThen refuse (ltb room (tableLength p)) (Bare 9)
-
--- one thing with a good answer, another with a refusal
-abbrev pub ifGood : {A : Type 0} → Answer → A → A → A
-ifGood Good a b = a
-ifGood (No r) a b = b
 
 -- "Writers answer with the count of bytes written, 0 on a refusal. Lent buffers keep every byte on a refusal."
 pub record Tabled (p : Plan) (entry exit : List ℕ) (r : TableWritten) : Type 0 where

@@ -21,3 +21,7 @@ slotAfter before end projects x = cond (eqb before 0) 0 (cond (ltb x end) before
 -- a card's slots, slice by slice
 unfoldable pub rowOf : Plan → ℕ → List ℕ
 rowOf p card = written (p .frame) (λ slice. slotOf p (cellAt (p .frame) card slice)) (replicate 64 0)
+
+-- the rows of the first n cards, and rows of zeros after them
+unfoldable pub rowsOf : Plan → ℕ → List (List ℕ)
+rowsOf p n = written n (rowOf p) (replicate 8 (replicate 64 0))

@@ -2,6 +2,7 @@
 mod table;
 
 pub use table::TableWritten;
+pub use table::slot_table;
 ghost use mathlib.Core.Path.{_≡_};
 ghost use Rattle.layout.specs.Cards.{cardsBelow};
 

@@ -1,13 +1,25 @@
--- The promises to one project, as theorems: `Promises` states them, over the modules that it names. `OnTrack` is the proof.
+-- Demands 1 and 3: `Outcomes` and `Demands` state them, over `Run`, `Since` and `Named`. The other modules are the proof, in layers.
 -- Assumes nothing.
+-- ---- the statements
+pub mod Run
+pub mod Since
+pub mod Named
+pub mod Outcomes
+pub mod Demands
+-- ---- what a row is
+pub mod Row
+-- ---- the arithmetic of workload and windows, the invariant of one project, and the steps that keep it
 pub mod Setup
-pub mod Supply
 pub mod Workload
 pub mod Admitted
 pub mod Moment
-pub mod Rank
 pub mod Step
-pub mod Reached
-pub mod Frame
 pub mod OnTrack
-pub mod Promises
+-- ---- the rack as a project sees it: the ranking, and the rack's calls as such steps
+pub mod View
+-- ---- runs
+pub mod Safe
+pub mod InTime
+pub mod Budget
+pub mod Refusals
+pub mod Kept

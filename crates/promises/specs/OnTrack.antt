@@ -5,8 +5,8 @@ use mathlib.Core.Bool.{cond}
 use Prim.Native.Nat.{ℕ, _+_, _*_, _≤_, _<_}
 use lib.Dec.{leb}
 use Rattle.laws.specs.Where.{sumWhere}
+use Rattle.supply.specs.Supply.{window}
 use Rattle.promises.specs.Setup.{Setup, Own, other}
-use Rattle.promises.specs.Supply.{supplyFrom}
 use Rattle.promises.specs.Workload.Properties.{coming}
 use Rattle.promises.specs.Moment.{Moment}
 pub mod Ahead
@@ -32,7 +32,7 @@ pub record Running (S : Setup) (m : Moment) (i : ℕ) : Type 0 where
 
 -- what it needs, width times, and all that can get ahead of it: the supply until it is due has room for both
 abbrev pub Enough : Setup → Moment → ℕ → Type 0
-Enough S m i = S .width i * m .left i + ahead S m i ≤ supplyFrom (S .held) (S .width i) (m .clock) (m .until i)
+Enough S m i = S .width i * m .left i + ahead S m i ≤ window (S .width i) (S .held) (m .clock) (m .until i)
 
 pub record OnTrack (S : Setup) (m : Moment) : Type 0 where
   pub running : (i : ℕ) → Own S i → 0 < m .left i → Running S m i

@@ -23,4 +23,4 @@ pub record Own (S : Setup) (i : ℕ) : Type 0 where
 
 -- "every other kind j of the same project"
 unfoldable pub other : Setup → ℕ → ℕ → Bool
-other S i j = S .mine j && not (eqb j i)
+other S i j = not (eqb j i) && S .mine j

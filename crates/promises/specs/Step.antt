@@ -2,17 +2,28 @@
 -- Assumes nothing.
 use mathlib.Core.Path.{_≡_}
 use mathlib.Core.Logic.{_≢_}
-use mathlib.Core.Bool.{cond}
+use mathlib.Core.Bool.{Bool, true, false, cond, _&&_}
 use Prim.Native.Nat.{ℕ, _+_, _-_, _≤_, _<_}
-use Rattle.promises.specs.Setup.{Setup, Own}
+use lib.Dec.{leb}
+use Rattle.laws.specs.Count.{countTo}
+use Rattle.promises.specs.Setup.{Setup, Own, other}
 use Rattle.promises.specs.Moment.{Moment}
-use Rattle.promises.specs.Rank.{served}
 pub mod Properties
 
+-- another kind of the project, due no later than kind i
+unfoldable pub noLater : Setup → Moment → ℕ → ℕ → Bool
+noLater S m i j = other S i j && leb (m .until j) (m .until i)
+
+-- whom a slice serves: kinds with slices left, and one that waits does so for as many others, due no later, as the project holds cards
+pub record Serves (S : Setup) (m : Moment) (served : ℕ → Bool) : Type 0 where
+  pub some-left : (i : ℕ) → Own S i → served i ≡ true → 0 < m .left i
+  pub waits : (i : ℕ) → Own S i → 0 < m .left i → served i ≡ false → S .held (m .clock) ≤ countTo (S .kinds) (λ j. served j && noLater S m i j)
+
 -- "Each chosen kind's left falls by one, the clock rises by one"
-pub record Slice (S : Setup) (before after : Moment) : Type 0 where
+pub record Slice (S : Setup) (served : ℕ → Bool) (before after : Moment) : Type 0 where
+  pub serves : Serves S before served
   pub clock : after .clock ≡ before .clock + 1
-  pub left : (i : ℕ) → Own S i → after .left i ≡ before .left i - cond (served S before i) 1 0
+  pub left : (i : ℕ) → Own S i → after .left i ≡ before .left i - cond (served i) 1 0
   pub until : (i : ℕ) → Own S i → 0 < after .left i → after .until i ≡ before .until i - 1
   pub wait : (i : ℕ) → Own S i → after .wait i ≡ before .wait i - 1
 

@@ -7,11 +7,15 @@ use Rattle.plan.specs.declared.Plan.{Plan}
 use Rattle.plan.specs.declared.answer.Answer.{Answer}
 use Rattle.rack.specs.declared.State.{State}
 use Rattle.rack.specs.declared.Next.{Next}
-use Rattle.rack.specs.State.{freshOf}
+use Rattle.rack.specs.State.{freshOf, noState}
 use Rattle.rack.specs.Form.{ready}
 use Rattle.rack.specs.Release.{releaseOf}
 use Rattle.rack.specs.Slice.{Sliced}
 use Rattle.rack.specs.Start.{startOf}
+
+-- `State::empty`
+pub empty-one-outcome : (a b : State) → a ≡ noState → b ≡ noState → a ≡ b
+empty-one-outcome a b p q = p ∙ sym q
 
 -- `State::fresh`
 pub fresh-one-outcome : (plan : Plan) (a b : State) → a ≡ freshOf plan → b ≡ freshOf plan → a ≡ b

@@ -63,7 +63,7 @@ impl State {
     }
 
     // The all-zero state.
-    fn empty() -> Self
+    pub fn empty() -> Self
         ensures { λ r. ⌜ r ≡ noState ⌝ }
     {
         State::fresh(Plan::empty())

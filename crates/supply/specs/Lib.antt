@@ -3,3 +3,4 @@
 pub mod Supply
 pub mod Workload
 pub mod Fit
+pub mod OneOutcome

@@ -52,6 +52,7 @@ fn counted(width: u8, cards: u8) -> u16
     lesser(width as usize, cards as usize) as u16
 }
 
+// The least so far, with the value at this place. At place 0 that value is it.
 fn least_with(place: usize, least: usize, value: usize) -> usize
     ensures { λ r. ⌜ (r ≡ leastWith place least value) × (r ≤ value) ⌝ }
 {
@@ -61,6 +62,7 @@ fn least_with(place: usize, least: usize, value: usize) -> usize
     lesser(least, value)
 }
 
+// "kCi + W"
 fn asked(width: u8, length: u16, workload: u32) -> usize
     ensures { λ r. ⌜ (r ≡ width * length + workload) × (r ≤ 8589934592) ⌝ }
 {
@@ -80,8 +82,9 @@ fn two_frames(held: [u8; 64], frame: usize) -> [u8; 128]
     cards
 }
 
-// The least width, of 1 to the ceiling, at which the unit fits. Only the slices that no whole
-// frame takes up are gone through, from each start.
+// The least width, of 1 to the ceiling, at which the unit fits. One frame's sum counts for each
+// whole frame of the deadline, so that only the slices left over are gone through, from each start.
+// A sum of less than a frame stays in 16 bits, which keeps the inner loop quick.
 pub fn least_fit(
     held: [u8; 64],
     frame: u8,

@@ -3,5 +3,5 @@
 pub mod Workload
 pub mod Verdict
 pub mod Admission
-pub mod Table
 pub mod Steps
+pub mod OneOutcome

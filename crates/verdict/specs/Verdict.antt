@@ -7,16 +7,14 @@ use lib.ListN.{replicate}
 use Rattle.laws.specs.Written.{written}
 use Rattle.plan.specs.declared.Plan.{Plan}
 use Rattle.plan.specs.declared.answer.Answer.{Answer}
-use Rattle.plan.specs.declared.answer.Answer.the-variants.{Good, No}
 use Rattle.plan.specs.declared.answer.Refusal.the-variants.{ByKind}
-use Rattle.plan.specs.Answer.{refuse, _andThen_, eachTo}
+use Rattle.plan.specs.Answer.{refuse, _andThen_, eachTo, ifGood}
 use Rattle.plan.specs.Order.{projectOf, kindOf, checked}
 use Rattle.layout.specs.Layout.{held}
 use Rattle.supply.specs.Supply.{supply}
 use Rattle.supply.specs.Fit.{leastWidth, leastExcess}
 use Rattle.verdict.specs.Workload.{workload}
 use Rattle.verdict.specs.declared.Verdict.{Verdict}
-pub mod Properties
 
 -- kind i's project
 abbrev pub projectOn : Plan → ℕ → ℕ
@@ -52,8 +50,7 @@ admitted p = eachTo (p .kinds) (fitted p)
 
 -- "A good answer has .. k 0 beyond n", "A refused verdict gives k 0 for every kind"
 abbrev pub widths : Plan → Answer → List ℕ
-widths p Good = written (p .kinds) (widthOf p) (replicate 16 0)
-widths p (No r) = replicate 16 0
+widths p a = ifGood a (written (p .kinds) (widthOf p) (replicate 16 0)) (replicate 16 0)
 
 -- an answer with the k of each kind beside it
 abbrev pub verdictOf : Plan → Answer → Verdict

@@ -1,6 +1,6 @@
-use Rattle.layout.specs.Cards.Properties.{below-none, below-computed, computed-most}
 use native.Mathlib.Omega.{arith}
 use borrow.Author.Needs.{needs}
+use Rattle.layout.specs.Cards.Properties.{below-none, below-computed, computed-most}
 use Rattle.layout.proofs.cards_below.Statement.{statement}
 use Rattle.layout.proofs.cards_below.Tie as tie
 use Rattle.layout.proofs.cards_below.Reads as reads

@@ -1,20 +1,31 @@
 -- Laws of the cells of a slice.
 -- Assumes nothing.
-use mathlib.Core.Path.{_≡_, refl, sym, ap, ap₂, _∙_}
+use mathlib.Core.Path.{_≡_, refl, sym, ap, _∙_}
 use mathlib.Core.Bool.{Bool, true, false, cond}
 use Prim.Native.Nat.{ℕ, zero, suc, _+_, _-_, _*_, _/_, _%_, _≤_, _<_}
 use native.Mathlib.Decide.{decLe, decLt}
-use native.Mathlib.Nat.{add-mul, one-mul, suc-mul, div-add-mod', mod-lt, mod-mod, add-mod-right, div-eq-of-lt-le, le-div-iff-mul-le, add-div-right, add-mul-div-right, div-mul-le-self, lt-div-mul-add}
+use native.Mathlib.Nat.{suc-mul, add-mul, one-mul, mul-le-mul-right, div-add-mod', mod-lt, mod-mod, add-mod-right, div-eq-of-lt-le, le-div-iff-mul-le, add-mul-div-right}
 use native.Mathlib.Omega.{arith}
-use lib.Dec.{ltb, eqb}
+use lib.Dec.{eqb}
 use borrow.Author.Tests.{lt-ltb, le-ltb, eq-eqb, ne-eqb, eqb-true, eqb-false}
 use Rattle.laws.specs.Sum.{sumTo}
 use Rattle.laws.specs.Sum.Properties.{sum-add, sum-cong, sum-zero}
 use Rattle.laws.specs.Count.{countTo}
 use Rattle.laws.specs.Count.Properties.{count-le}
-use Rattle.layout.specs.Counts.{count-split, count-sum, count-cong}
+use Rattle.layout.specs.Counts.{count-split, count-sum}
 use Rattle.layout.specs.Layout.{cellAt}
 use Rattle.layout.specs.Cards.{cardsBelow, heldFrom}
+
+-- ---- whole cards
+
+-- a card's cells are cells of the frame
+pub card-cells : (frame card cards : ℕ) → card < cards → card * frame + frame ≤ cards * frame
+card-cells frame card cards l = omega (arith, suc-mul card frame, mul-le-mul-right frame (let h : suc card ≤ cards = l in h))
+
+-- the cell after a card's last is the next card's first
+pub card-next : (frame card : ℕ) → cellAt frame card frame ≡ cellAt frame (card + 1) 0
+unfolding cellAt
+card-next frame card = omega (arith, add-mul card 1 frame, one-mul frame)
 
 -- ---- the cells of a slice below a cell
 

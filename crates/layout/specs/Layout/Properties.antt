@@ -1,11 +1,11 @@
 -- Laws of the layout.
 -- Assumes nothing.
-use mathlib.Core.Path.{_≡_, refl, sym, ap, ap₂, _∙_}
+use mathlib.Core.Path.{_≡_, refl, sym, ap, _∙_}
 use mathlib.Core.Bool.{true, _&&_}
 use mathlib.Core.Logic.{_⊎_, inl, inr}
 use Prim.Native.Nat.{ℕ, zero, suc, _+_, _-_, _*_, _/_, _%_, _≤_, _<_, pred}
 use native.Mathlib.Decide.{decLe, decLt}
-use native.Mathlib.Nat.{mod-lt, mod-mod, add-mod-right}
+use native.Mathlib.Nat.{mul-le-mul, mod-lt, mod-mod, add-mod-right}
 use native.Mathlib.Numerals.{add-one}
 use native.Mathlib.Omega.{arith}
 use lib.Dec.{leb, ltb}
@@ -15,11 +15,11 @@ use Rattle.laws.specs.Sum.{sumTo}
 use Rattle.laws.specs.Sum.Properties.{sum-none, sum-suc, sum-cong}
 use Rattle.laws.specs.First.Properties.{first-le, first-holds, first-some}
 use Rattle.laws.specs.Count.{countTo}
-use Rattle.laws.specs.Count.Properties.{count-le}
+use Rattle.laws.specs.Count.Properties.{count-le, count-cong}
 use Rattle.plan.specs.declared.Plan.{Plan}
 use Rattle.plan.specs.Order.{budgetOf, budgets, projectOf}
 use Rattle.plan.specs.Order.Properties.{InOrder}
-use Rattle.layout.specs.Counts.{count-cong, count-between, between-yes, between-low, between-high}
+use Rattle.layout.specs.Counts.{count-between, between-yes, between-low, between-high}
 use Rattle.layout.specs.Cards.{cardsBelow, heldFrom}
 use Rattle.layout.specs.Cards.Properties.{below-start, below-grows, below-frame, below-cell, past-cell, run-closed, run-least, run-most, run-ceiling, run-frame}
 use Rattle.layout.specs.Layout.{cellAt, firstCell, owns, slotOf, held}
@@ -133,6 +133,10 @@ module _ (p : Plan) (j slice : ℕ) (l : slice < p .frame) where
   owned-to card e = below-cell (p .frame) slice l (firstCell p (j + 1)) card (omega (arith, first-next p j, owns-to p j (cellAt (p .frame) card slice) e))
 
 -- ---- a plan in order
+
+-- "cards m 1..8; .. frame length F 1..64": a frame has at most 512 cells
+pub cells-most : (p : Plan) → InOrder p → p .cards * p .frame ≤ 512
+cells-most p o = mul-le-mul (o .counts .cards-most) (o .counts .frame-most)
 
 -- every project's cells are cells of the frame
 pub first-most : (p : Plan) → InOrder p → (j : ℕ) → j ≤ p .projects → firstCell p j ≤ p .cards * p .frame

@@ -1,26 +1,25 @@
 -- What a slice, a release and the unit's own release do to `ahead`: kind by kind, then all together.
 -- Assumes nothing.
-use mathlib.Core.Path.{_≡_, refl, sym, _∙_}
+use mathlib.Core.Path.{_≡_, refl}
 use mathlib.Core.Logic.{_≢_}
-use mathlib.Core.Bool.{Bool, true, false, cond, _&&_, false≢true}
+use mathlib.Core.Bool.{Bool, true, false, cond, _&&_}
 use Prim.Native.Nat.{ℕ, _+_, _-_, _*_, _≤_, _<_}
 use native.Mathlib.Decide.{decLe, decLt, ℕ-discrete}
 use native.Mathlib.Nat.{mul-le-mul-left, le-of-eq}
 use native.Mathlib.Omega.{arith}
 use borrow.Author.Tests.{le-leb, lt-leb}
 use Rattle.laws.specs.Count.{countTo}
-use Rattle.laws.specs.Tests.{and-left, and-right}
+use Rattle.laws.specs.Tests.{and-right}
 use Rattle.laws.specs.Where.Properties.{where-le, where-falls}
 use Rattle.promises.specs.Setup.{Setup, Own, other}
-use Rattle.promises.specs.Setup.Properties.{other-of, other-own, other-differs}
-use Rattle.promises.specs.Workload.{part, workload}
+use Rattle.promises.specs.Setup.Properties.{other-own, other-differs}
+use Rattle.supply.specs.Workload.{workloadPart}
+use Rattle.promises.specs.Workload.{workload}
 use Rattle.promises.specs.Workload.Properties.{coming, coming-slice, coming-release, coming-late, part-coming, part-left}
 use Rattle.promises.specs.Admitted.{Admitted}
 use Rattle.promises.specs.Moment.{Moment}
-use Rattle.promises.specs.Rank.{outranks, served}
-use Rattle.promises.specs.Rank.Properties.{active-own, served-active, outranks-until, ranked}
-use Rattle.promises.specs.Step.{Slice, Started, Kept, Release}
-use Rattle.promises.specs.Step.Properties.{left-served, left-no-more}
+use Rattle.promises.specs.Step.{noLater, Slice, Started, Kept, Release}
+use Rattle.promises.specs.Step.Properties.{later-other, later-until, left-served, left-no-more}
 use Rattle.promises.specs.OnTrack.{due, aheadOf, ahead, Running}
 
 pub due-in : (l u t : ℕ) → u ≤ t → due l u t ≡ l
@@ -43,20 +42,20 @@ due-slice l u l' u' t a b h = elim (decLt 0 l') [ yes p ↦ some (h p) | no p �
 
 -- ---- a slice: one less of each kind that it serves before i, and no more of any
 
-module _ (S : Setup) (before after : Moment) (s : Slice S before after) (i j : ℕ) (oi : Own S i) (oj : Own S j) where
-  pair-slice : 0 < S .separation j → 0 < after .left i → 0 < before .until i → aheadOf S after i j + cond (served S before j && outranks S before j i) 1 0 ≤ aheadOf S before i j
+module _ (S : Setup) (served : ℕ → Bool) (before after : Moment) (s : Slice S served before after) (i j : ℕ) (oi : Own S i) (oj : Own S j) where
+  pair-slice : 0 < S .separation j → 0 < after .left i → 0 < before .until i → aheadOf S after i j + cond (served j && noLater S before i j) 1 0 ≤ aheadOf S before i j
   unfolding aheadOf
-  pair-slice p q r = rw (s .until i oi q, s .wait j oj) (omega (arith, go (served S before j) (outranks S before j i) refl refl, to-come))
+  pair-slice p q r = rw (s .until i oi q, s .wait j oj) (omega (arith, go (served j) (noLater S before i j) refl refl, to-come))
     where
       to-come : S .length j * coming (S .separation j) (S .deadline j) (before .until i - 1) (before .wait j - 1) ≤ S .length j * coming (S .separation j) (S .deadline j) (before .until i) (before .wait j)
       to-come = mul-le-mul-left (S .length j) (coming-slice (S .separation j) (S .deadline j) (before .until i) (before .wait j) p r)
 
       kept : due (after .left j) (after .until j) (before .until i - 1) ≤ due (before .left j) (before .until j) (before .until i)
-      kept = due-slice (before .left j) (before .until j) (after .left j) (after .until j) (before .until i) r (left-no-more S before after s j oj) (s .until j oj)
+      kept = due-slice (before .left j) (before .until j) (after .left j) (after .until j) (before .until i) r (left-no-more S served before after s j oj) (s .until j oj)
 
-      go : (a b : Bool) → served S before j ≡ a → outranks S before j i ≡ b → due (after .left j) (after .until j) (before .until i - 1) + cond (a && b) 1 0 ≤ due (before .left j) (before .until j) (before .until i)
+      go : (a b : Bool) → served j ≡ a → noLater S before i j ≡ b → due (after .left j) (after .until j) (before .until i - 1) + cond (a && b) 1 0 ≤ due (before .left j) (before .until j) (before .until i)
       go true true x y =
-          omega (arith, left-served S before after s j oj x, due-le (after .left j) (after .until j) (before .until i - 1), due-in (before .left j) (before .until j) (before .until i) (outranks-until S before j i y))
+          omega (arith, left-served S served before after s j oj x, due-le (after .left j) (after .until j) (before .until i - 1), due-in (before .left j) (before .until j) (before .until i) (later-until S before i j y))
       go true false x y = omega (arith, kept)
       go false b x y = omega (arith, kept)
 
@@ -76,17 +75,17 @@ pair-kept S before after i j p q = rw (p .until, q .left, q .until, q .wait)
 
 -- ---- where i has just been released: no more than its part of the workload
 
-pair-window : (S : Setup) → Admitted S → (m : Moment) (i j : ℕ) → Own S j → (0 < m .left j → Running S m j) → m .left j ≤ m .until j → aheadOf S m i j ≤ part (S .separation j) (S .length j) (m .until i)
+pair-window : (S : Setup) → Admitted S → (m : Moment) (i j : ℕ) → Own S j → (0 < m .left j → Running S m j) → m .left j ≤ m .until j → aheadOf S m i j ≤ workloadPart (S .separation j) (S .length j) (m .until i)
 unfolding aheadOf
 pair-window S a m i j o h t = elim (decLt 0 (m .left j)) [ yes p ↦ some p (h p) | no p ↦ omega (arith, none, due-le (m .left j) (m .until j) (m .until i)) ]
   where
-    none : S .length j * coming (S .separation j) (S .deadline j) (m .until i) (m .wait j) ≤ part (S .separation j) (S .length j) (m .until i)
+    none : S .length j * coming (S .separation j) (S .deadline j) (m .until i) (m .wait j) ≤ workloadPart (S .separation j) (S .length j) (m .until i)
     none = part-coming (S .separation j) (S .deadline j) (S .length j) (m .until i) (m .wait j) (a .some-length j o) (a .length-fits j o) (a .deadline-fits j o)
 
-    in-window : 0 < m .left j → Running S m j → m .until j ≤ m .until i → m .left j + S .length j * coming (S .separation j) (S .deadline j) (m .until i) (m .wait j) ≤ part (S .separation j) (S .length j) (m .until i)
+    in-window : 0 < m .left j → Running S m j → m .until j ≤ m .until i → m .left j + S .length j * coming (S .separation j) (S .deadline j) (m .until i) (m .wait j) ≤ workloadPart (S .separation j) (S .length j) (m .until i)
     in-window p r = part-left (S .separation j) (S .deadline j) (S .length j) (m .until i) (m .wait j) (m .left j) (m .until j) p (r .left) t (r .until) (a .deadline-fits j o) (r .wait)
 
-    some : 0 < m .left j → Running S m j → due (m .left j) (m .until j) (m .until i) + S .length j * coming (S .separation j) (S .deadline j) (m .until i) (m .wait j) ≤ part (S .separation j) (S .length j) (m .until i)
+    some : 0 < m .left j → Running S m j → due (m .left j) (m .until j) (m .until i) + S .length j * coming (S .separation j) (S .deadline j) (m .until i) (m .wait j) ≤ workloadPart (S .separation j) (S .length j) (m .until i)
     some p r = elim (decLe (m .until j) (m .until i)) [ yes q ↦ omega (arith, in-window p r q, due-le (m .left j) (m .until j) (m .until i)) | no q ↦ omega (arith, none, due-late (m .left j) (m .until j) (m .until i) (omega arith)) ]
 
 -- ---- all together
@@ -95,19 +94,13 @@ module _ (S : Setup) (a : Admitted S) where
   separated : (j : ℕ) → Own S j → 0 < S .separation j
   separated j o = omega (arith, a .some-length j o, a .length-fits j o, a .deadline-fits j o)
 
-  pub ahead-slice : (before after : Moment) → Slice S before after → (i : ℕ) → Own S i → 0 < after .left i → 0 < before .until i → ahead S after i + countTo (S .kinds) (λ j. served S before j && outranks S before j i) ≤ ahead S before i
+  pub ahead-slice : (served : ℕ → Bool) (before after : Moment) → Slice S served before after → (i : ℕ) → Own S i → 0 < after .left i → 0 < before .until i → ahead S after i + countTo (S .kinds) (λ j. served j && noLater S before i j) ≤ ahead S before i
   unfolding ahead
-  ahead-slice before after s i o p q =
-      where-falls (S .kinds) (other S i) (λ j. served S before j && outranks S before j i) (aheadOf S after i) (aheadOf S before i) over (λ j l e. go j (other-own S i j l e))
+  ahead-slice served before after s i o p q =
+      where-falls (S .kinds) (other S i) (λ j. served j && noLater S before i j) (aheadOf S after i) (aheadOf S before i) (λ j l e. later-other S before i j (and-right (served j) (noLater S before i j) e)) (λ j l e. go j (other-own S i j l e))
     where
-      go : (j : ℕ) → Own S j → aheadOf S after i j + cond (served S before j && outranks S before j i) 1 0 ≤ aheadOf S before i j
-      go j x = pair-slice S before after s i j o x (separated j x) p q
-
-      over : (j : ℕ) → j < S .kinds → (served S before j && outranks S before j i) ≡ true → other S i j ≡ true
-      over j l e =
-          let s = and-left (served S before j) (outranks S before j i) e in
-          let b = and-right (served S before j) (outranks S before j i) e in
-          other-of S i j (active-own S before j l (served-active S before j s)) (λ x. false≢true (sym (ranked S before .never-itself i) ∙ (rw x at b)))
+      go : (j : ℕ) → Own S j → aheadOf S after i j + cond (served j && noLater S before i j) 1 0 ≤ aheadOf S before i j
+      go j x = pair-slice S served before after s i j o x (separated j x) p q
 
   pub ahead-release : (before after : Moment) (j e : ℕ) → Release S j e before after → (i : ℕ) → Own S i → i ≢ j → ahead S after i ≤ ahead S before i
   unfolding ahead
@@ -118,7 +111,7 @@ module _ (S : Setup) (a : Admitted S) where
 
   pub ahead-window : (m : Moment) (i : ℕ) → m .until i ≡ S .deadline i → ((j : ℕ) → Own S j → j ≢ i → 0 < m .left j → Running S m j) → ((j : ℕ) → Own S j → j ≢ i → m .left j ≤ m .until j) → ahead S m i ≤ workload S i
   unfolding ahead workload
-  ahead-window m i u h t = rw (← u) (where-le (S .kinds) (other S i) (aheadOf S m i) (λ j. part (S .separation j) (S .length j) (m .until i)) (λ j l e. go j (other-own S i j l e) (other-differs S i j e)))
+  ahead-window m i u h t = rw (← u) (where-le (S .kinds) (other S i) (aheadOf S m i) (λ j. workloadPart (S .separation j) (S .length j) (m .until i)) (λ j l e. go j (other-own S i j l e) (other-differs S i j e)))
     where
-      go : (j : ℕ) → Own S j → j ≢ i → aheadOf S m i j ≤ part (S .separation j) (S .length j) (m .until i)
+      go : (j : ℕ) → Own S j → j ≢ i → aheadOf S m i j ≤ workloadPart (S .separation j) (S .length j) (m .until i)
       go j o d = pair-window S a m i j o (h j o d) (t j o d)

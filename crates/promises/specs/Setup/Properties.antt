@@ -12,12 +12,12 @@ use Rattle.promises.specs.Setup.{Setup, Own, other}
 module _ (S : Setup) (i j : ℕ) where
   pub other-of : Own S j → j ≢ i → other S i j ≡ true
   unfolding other
-  other-of o d = and-both (S .mine j) (not (eqb j i)) (o .mine) (rw (ne-eqb j i d))
+  other-of o d = and-both (not (eqb j i)) (S .mine j) (rw (ne-eqb j i d)) (o .mine)
 
   pub other-own : j < S .kinds → other S i j ≡ true → Own S j
   unfolding other
-  other-own l e = record { below = l; mine = and-left (S .mine j) (not (eqb j i)) e }
+  other-own l e = record { below = l; mine = and-right (not (eqb j i)) (S .mine j) e }
 
   pub other-differs : other S i j ≡ true → j ≢ i
   unfolding other
-  other-differs e = eqb-false j i (not-true (eqb j i) (and-right (S .mine j) (not (eqb j i)) e))
+  other-differs e = eqb-false j i (not-true (eqb j i) (and-left (not (eqb j i)) (S .mine j) e))

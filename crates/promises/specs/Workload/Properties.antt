@@ -1,12 +1,13 @@
--- Laws of a kind's part of the workload: it is at least what is left of a unit, with all the units that are still to come and be due in time.
+-- Laws of the units still to come: a kind's part of the workload has room for what is left of a unit and for all of them that can be due in time.
 -- Every division of the proof stands here.
 -- Assumes nothing.
 use mathlib.Core.Path.{_≡_}
-use Prim.Native.Nat.{ℕ, zero, suc, _+_, _-_, _*_, _/_, _%_, _≤_, _<_, min}
+use Prim.Native.Nat.{ℕ, _+_, _-_, _*_, _/_, _≤_, _<_}
 use native.Mathlib.Decide.{decLe}
-use native.Mathlib.Nat.{div-add-mod', mod-lt, div-mul-le-self, le-div-iff-mul-le, div-lt-iff-lt-mul, add-div-right, zero-div, mul-le-mul-left}
+use native.Mathlib.Nat.{div-mul-le-self, le-div-iff-mul-le, add-div-right, div-eq-of-lt, zero-div, mul-le-mul-left, mul-comm}
 use native.Mathlib.Omega.{arith}
-use Rattle.promises.specs.Workload.{part}
+use Rattle.supply.specs.Workload.{workloadPart}
+use Rattle.supply.specs.Workload.Properties.{part-covers}
 
 -- how many units of a kind, the first released in w slices or later, can be due within t slices
 unfoldable pub coming : (separation deadline t w : ℕ) → ℕ
@@ -34,22 +35,26 @@ coming-late T D t l = let a : t + T - (T + D) ≡ 0 = omega arith in rw a (zero-
 
 -- ---- what a window of t slices can bring
 
-units-le : (T n q : ℕ) → 0 < T → n < (q + 1) * T → n / T ≤ q
-units-le T n q p l = let h : n / T < q + 1 = div-lt-iff-lt-mul {x = n} {y = q + 1} p .1 l in omega arith
+-- where l is left, due in y of them, and the next release is a separation after the last
+pub part-left : (T D C t w l y : ℕ) → 1 ≤ l → l ≤ C → l ≤ y → y ≤ D → D ≤ T → w + D ≡ y + T → y ≤ t → l + C * coming T D t w ≤ workloadPart T C t
+unfolding coming
+part-left T D C t w l y a b c d e f p =
+    let h : t + T - (w + D) ≡ t - y = omega arith in
+    rw h (omega (arith, part-covers T C t y (omega arith) p, mul-comm C ((t - y) / T)))
 
 -- where nothing is left
-pub part-coming : (T D C t w : ℕ) → 1 ≤ C → C ≤ D → D ≤ T → C * coming T D t w ≤ part T C t
-unfolding coming part
-part-coming T D C t w a b c =
-    let e = div-add-mod' t T in
-    let l = mod-lt t (let p : 0 < T = omega arith in p) in
-    elim (decLe D (t % T)) [ yes p ↦ omega (arith, mul-le-mul-left C (units-le T (t + T - (w + D)) (t / T + 1) (omega arith) (omega arith))) | no p ↦ omega (arith, mul-le-mul-left C (units-le T (t + T - (w + D)) (t / T) (omega arith) (omega arith))) ]
-
--- where l is left, due in y of them, and the next release is a separation after the last
-pub part-left : (T D C t w l y : ℕ) → 1 ≤ l → l ≤ C → l ≤ y → y ≤ D → D ≤ T → w + D ≡ y + T → y ≤ t → l + C * coming T D t w ≤ part T C t
-unfolding coming part
-part-left T D C t w l y a b c d e f p = let h : t + T - (w + D) ≡ t - y = omega arith in rw h (go (t / T) (t % T) (div-add-mod' t T) (mod-lt t (omega arith)))
+pub part-coming : (T D C t w : ℕ) → 1 ≤ C → C ≤ D → D ≤ T → C * coming T D t w ≤ workloadPart T C t
+unfolding coming
+part-coming T D C t w a b c = elim (decLe D t) [ yes p ↦ omega (arith, sooner, some p) | no p ↦ omega (arith, sooner, none (omega arith)) ]
   where
-    go : (q r : ℕ) → q * T + r ≡ t → r < T → l + C * ((t - y) / T) ≤ q * C + min C r
-    go zero r g h = omega (arith, mul-le-mul-left C (units-le T (t - y) 0 (omega arith) (omega arith)))
-    go (suc q) r g h = elim (decLe y r) [ yes s ↦ omega (arith, mul-le-mul-left C (units-le T (t - y) (suc q) (omega arith) (omega arith))) | no s ↦ omega (arith, mul-le-mul-left C (units-le T (t - y) q (omega arith) (omega arith))) ]
+    positive : 0 < T
+    positive = omega arith
+
+    sooner : C * ((t + T - (w + D)) / T) ≤ C * ((t + T - D) / T)
+    sooner = mul-le-mul-left C (div-mono T (t + T - (w + D)) (t + T - D) positive (omega arith))
+
+    some : D ≤ t → C * ((t + T - D) / T) ≤ workloadPart T C t
+    some p = let e : t + T - D ≡ t - D + T = omega arith in rw (e, add-div-right (t - D) positive) (omega (arith, part-covers T C t D positive p, mul-comm C ((t - D) / T)))
+
+    none : t < D → C * ((t + T - D) / T) ≤ 0
+    none p = let e : (t + T - D) / T ≡ 0 = div-eq-of-lt (omega arith) in rw e (omega arith)

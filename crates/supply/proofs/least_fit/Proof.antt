@@ -3,18 +3,11 @@ use Rattle.supply.specs.Supply.{window, supply}
 use Rattle.supply.specs.Fit.{heldAt, leastWidth, leastExcess}
 use Rattle.supply.specs.Fit.Properties.{rest-below, window-start, supply-start, width-start, excess-start, window-again, frame-again, supply-again, supplied, width-again, excess-again, no-frame, long-frame, fit-here, fit-none}
 use mathlib.Core.Path.{_≡_, refl}
-use Prim.Native.Nat.{_+_, _≤_, _<_, _-_, _*_, _/_, _%_}
+use Prim.Native.Nat.{_≤_, _<_, _-_, _*_}
 use native.Mathlib.Omega.{arith}
 use borrow.Author.Needs.{needs}
 use Rattle.supply.proofs.least_fit.Statement.{statement}
 use Rattle.supply.proofs.least_fit.Tie as tie
-use Rattle.supply.proofs.least_fit.Reads as reads
-use Rattle.supply.proofs.least_fit.Lts as lts
-use Rattle.supply.proofs.asked.Reads as asked-reads
-use Rattle.supply.proofs.counted.Reads as counted-reads
-use Rattle.supply.proofs.least_with.Reads as least-with-reads
-use Rattle.supply.proofs.product.Reads as product-reads
-use Rattle.supply.proofs.two_frames.Reads as two-frames-reads
 
 abbrev Inv-loop2 : tie.InvT-loop2
 Inv-loop2 frame ceiling length workload deadline slices frames rest cards found excess below width one-frame least start sum₀ x₀ sum x = (x ≤ rest) × (sum ≡ window width (heldAt slices cards) start x) × (sum ≤ 255 * x)
@@ -34,154 +27,118 @@ Inv-widths frame ceiling length workload deadline slices frames rest cards found
 abbrev μ-widths : tie.MeasureT-widths
 μ-widths frame ceiling length workload deadline slices frames rest cards found₀ excess₀ below₀ found excess below = ceiling - below
 
--- src/lib.rt:96:9
 returns : tie.Need-returns Inv-loop2 μ-loop2 Inv-loop μ-loop Inv-widths μ-widths
 returns c = search no-frame
 
--- src/lib.rt:102:9
 returns-2 : tie.Need-returns-2 Inv-loop2 μ-loop2 Inv-loop μ-loop Inv-widths μ-widths
 returns-2 c = search long-frame
 
--- src/lib.rt:108:18
 div-frames : tie.Need-div-frames Inv-loop2 μ-loop2 Inv-loop μ-loop Inv-widths μ-widths
 div-frames c = search needs
 
--- src/lib.rt:109:16
 rem-rest : tie.Need-rem-rest Inv-loop2 μ-loop2 Inv-loop μ-loop Inv-widths μ-widths
 rem-rest c = search needs
 
--- src/lib.rt:110:17
 two-frames-requires :
     tie.Need-two-frames-requires Inv-loop2 μ-loop2 Inv-loop μ-loop Inv-widths μ-widths
 two-frames-requires c κs = search needs
 
--- src/lib.rt:113:5
 widths-holds : tie.Need-widths-holds Inv-loop2 μ-loop2 Inv-loop μ-loop Inv-widths μ-widths
 widths-holds c = (search rest-below, omega arith, refl, width-start _ _ _ _ _, excess-start _ _ _ _ _, omega arith)
 
--- src/lib.rt:114:21
 add-width : tie.Need-add-width Inv-loop2 μ-loop2 Inv-loop μ-loop Inv-widths μ-widths
 add-width c = search needs
 
--- src/lib.rt:117:9
 loop-holds : tie.Need-loop-holds Inv-loop2 μ-loop2 Inv-loop μ-loop Inv-widths μ-widths
 loop-holds c = (omega arith, window-start _ _ _, supply-start _ _ _, omega arith, omega arith)
 
--- src/lib.rt:119:13
 loop2-holds : tie.Need-loop2-holds Inv-loop2 μ-loop2 Inv-loop μ-loop Inv-widths μ-widths
 loop2-holds c = (omega arith, window-start _ _ _, omega arith)
 
--- src/lib.rt:120:45
 add-counted : tie.Need-add-counted Inv-loop2 μ-loop2 Inv-loop μ-loop Inv-widths μ-widths
 add-counted c = search needs
 
--- src/lib.rt:120:39
 array-read-counted :
     tie.Need-array-read-counted Inv-loop2 μ-loop2 Inv-loop μ-loop Inv-widths μ-widths
 array-read-counted c = search needs
 
--- src/lib.rt:120:24
 counted-requires : tie.Need-counted-requires Inv-loop2 μ-loop2 Inv-loop μ-loop Inv-widths μ-widths
 counted-requires c κs = search needs
 
--- src/lib.rt:120:17
 add-sum : tie.Need-add-sum Inv-loop2 μ-loop2 Inv-loop μ-loop Inv-widths μ-widths
 add-sum c = search needs
 
--- src/lib.rt:119:17
 add-x : tie.Need-add-x Inv-loop2 μ-loop2 Inv-loop μ-loop Inv-widths μ-widths
 add-x c = search needs
 
--- src/lib.rt:119:13
 loop2-less : tie.Need-loop2-less Inv-loop2 μ-loop2 Inv-loop μ-loop Inv-widths μ-widths
 loop2-less c = search needs
 
--- src/lib.rt:119:13
 loop2-again : tie.Need-loop2-again Inv-loop2 μ-loop2 Inv-loop μ-loop Inv-widths μ-widths
 loop2-again c = (omega arith, window-again _ _ _ (c .before .before .before .before .before .before .before .before .before .if1 .left) (c .before .before .before .before .before .before .before .before .if2 .left) (c .before .before .before .before .before .before .before .two-frames .ensures) _ _ _ _ _ _ (c .before .before .loop2 .inv .1) (c .before .before .before .loop-test .taken) (c .before .loop2-test .taken) (c .before .before .before .before .before .before .widths .inv .0) (c .counted .ensures .0), omega arith)
 
--- src/lib.rt:122:46
 cast-least-with : tie.Need-cast-least-with Inv-loop2 μ-loop2 Inv-loop μ-loop Inv-widths μ-widths
 cast-least-with c = search needs
 
--- src/lib.rt:122:13
 least-with-requires :
     tie.Need-least-with-requires Inv-loop2 μ-loop2 Inv-loop μ-loop Inv-widths μ-widths
 least-with-requires c κs = search needs
 
--- src/lib.rt:123:41
 array-read-counted-2 :
     tie.Need-array-read-counted-2 Inv-loop2 μ-loop2 Inv-loop μ-loop Inv-widths μ-widths
 array-read-counted-2 c = search needs
 
--- src/lib.rt:123:26
 counted-requires-2 :
     tie.Need-counted-requires-2 Inv-loop2 μ-loop2 Inv-loop μ-loop Inv-widths μ-widths
 counted-requires-2 c κs = search needs
 
--- src/lib.rt:123:13
 add-one-frame : tie.Need-add-one-frame Inv-loop2 μ-loop2 Inv-loop μ-loop Inv-widths μ-widths
 add-one-frame c = search needs
 
--- src/lib.rt:117:13
 add-start : tie.Need-add-start Inv-loop2 μ-loop2 Inv-loop μ-loop Inv-widths μ-widths
 add-start c = search needs
 
--- src/lib.rt:117:9
 loop-less : tie.Need-loop-less Inv-loop2 μ-loop2 Inv-loop μ-loop Inv-widths μ-widths
 loop-less c = search needs
 
--- src/lib.rt:117:9
 loop-again : tie.Need-loop-again Inv-loop2 μ-loop2 Inv-loop μ-loop Inv-widths μ-widths
 loop-again c = (omega arith, search frame-again, search supply-again, omega arith, omega arith)
 
--- src/lib.rt:125:38
 cast-product : tie.Need-cast-product Inv-loop2 μ-loop2 Inv-loop μ-loop Inv-widths μ-widths
 cast-product c = search needs
 
--- src/lib.rt:125:22
 product-requires : tie.Need-product-requires Inv-loop2 μ-loop2 Inv-loop μ-loop Inv-widths μ-widths
 product-requires c κs = (omega (arith, div-le-self (c .before .before .before .before .before .before .before .args .deadline) (c .before .before .before .before .before .before .before .args .frame)), omega arith)
 
--- src/lib.rt:125:22
 add-supply : tie.Need-add-supply Inv-loop2 μ-loop2 Inv-loop μ-loop Inv-widths μ-widths
 add-supply c = search needs
 
--- src/lib.rt:126:13
 asked-requires : tie.Need-asked-requires Inv-loop2 μ-loop2 Inv-loop μ-loop Inv-widths μ-widths
 asked-requires c κs = search needs
 
--- src/lib.rt:132:29
 cast-least-with-2 :
     tie.Need-cast-least-with-2 Inv-loop2 μ-loop2 Inv-loop μ-loop Inv-widths μ-widths
 cast-least-with-2 c = search needs
 
--- src/lib.rt:132:53
 sub-least-with : tie.Need-sub-least-with Inv-loop2 μ-loop2 Inv-loop μ-loop Inv-widths μ-widths
 sub-least-with c = search needs
 
--- src/lib.rt:132:9
 least-with-requires-2 :
     tie.Need-least-with-requires-2 Inv-loop2 μ-loop2 Inv-loop μ-loop Inv-widths μ-widths
 least-with-requires-2 c κs = search needs
 
--- src/lib.rt:113:18
 add-below : tie.Need-add-below Inv-loop2 μ-loop2 Inv-loop μ-loop Inv-widths μ-widths
 add-below c = search needs
 
--- src/lib.rt:113:5
 widths-less : tie.Need-widths-less Inv-loop2 μ-loop2 Inv-loop μ-loop Inv-widths μ-widths
 widths-less c = search needs
 
--- src/lib.rt:113:5
 widths-again : tie.Need-widths-again Inv-loop2 μ-loop2 Inv-loop μ-loop Inv-widths μ-widths
 widths-again c = let s = supplied _ _ _ (c .before .before .before .before .before .before .before .before .before .before .if1 .left) (c .before .before .before .before .before .before .before .before .before .if2 .left) (c .before .before .before .before .before .before .before .before .two-frames .ensures) _ _ _ _ _ _ (c .before .before .before .product .ensures .0) (c .before .before .before .before .before .loop .inv .1) (c .before .before .before .before .before .loop .inv .2) (c .before .before .before .before .before .loop .inv .0) (c .before .before .before .before .loop-test .left) in (search, omega arith, search, width-again _ _ _ _ _ _ _ _ (c .before .before .before .before .before .before .before .widths .inv .3) s (c .before .before .asked .ensures .0) (c .before .if3 .left), excess-again _ _ _ _ _ _ _ _ _ _ (c .before .before .before .before .before .before .before .widths .inv .4) s (c .before .before .asked .ensures .0) (c .least-with2 .ensures .0), omega arith)
 
--- src/lib.rt:85:1
 returns-3 : tie.Need-returns-3 Inv-loop2 μ-loop2 Inv-loop μ-loop Inv-widths μ-widths
 returns-3 c = search fit-none
 
--- src/lib.rt:85:1
 returns-4 : tie.Need-returns-4 Inv-loop2 μ-loop2 Inv-loop μ-loop Inv-widths μ-widths
 returns-4 c = search (fit-here, supplied)
 

@@ -3,19 +3,13 @@ use Rattle.supply.specs.Fit.Properties.{with-first, with-later}
 use borrow.Author.Needs.{needs}
 use Rattle.supply.proofs.least_with.Statement.{statement}
 use Rattle.supply.proofs.least_with.Tie as tie
-use Rattle.supply.proofs.least_with.Reads as reads
-use Rattle.supply.proofs.least_with.Lts as lts
-use Rattle.supply.proofs.lesser.Reads as lesser-reads
 
--- src/lib.rt:52:9
 returns : tie.Need-returns
 returns c = (search with-first, omega arith)
 
--- src/lib.rt:54:5
 lesser-requires : tie.Need-lesser-requires
 lesser-requires c κs = search needs
 
--- src/lib.rt:48:1
 returns-2 : tie.Need-returns-2
 returns-2 c = (search with-later, omega arith)
 

@@ -3,14 +3,10 @@ use native.Mathlib.Omega.{arith}
 use borrow.Author.Needs.{needs}
 use Rattle.supply.proofs.product.Statement.{statement}
 use Rattle.supply.proofs.product.Tie as tie
-use Rattle.supply.proofs.product.Reads as reads
-use Rattle.supply.proofs.product.Lts as lts
 
--- src/lib.rt:30:5
 mul-result : tie.Need-mul-result
 mul-result c = omega (arith, mul-le-mul (c .pre .0) (c .pre .1))
 
--- src/lib.rt:26:1
 returns : tie.Need-returns
 returns c = (search needs, omega (arith, mul-le-mul (c .pre .0) (c .pre .1)))
 

@@ -9,8 +9,6 @@ use Rattle.supply.specs.Fit.{heldAt}
 use Rattle.supply.specs.Fit.Properties.{slice-below, held-again}
 use Rattle.supply.proofs.two_frames.Statement.{statement}
 use Rattle.supply.proofs.two_frames.Tie as tie
-use Rattle.supply.proofs.two_frames.Reads as reads
-use Rattle.supply.proofs.two_frames.Lts as lts
 
 abbrev Inv-loop : tie.InvT-loop
 Inv-loop frame held cards₀ s₀ s-end cards s = (s ≤ s-end) × (s-end ≡ 2 * frame) × (cards ≡ written s (heldAt frame held) (replicate 128 0))
@@ -18,39 +16,30 @@ Inv-loop frame held cards₀ s₀ s-end cards s = (s ≤ s-end) × (s-end ≡ 2 
 abbrev μ-loop : tie.MeasureT-loop
 μ-loop frame held cards₀ s₀ s-end cards s = s-end - s
 
--- src/lib.rt:70:17
 mul-s-end : tie.Need-mul-s-end Inv-loop μ-loop
 mul-s-end c = search needs
 
--- src/lib.rt:70:5
 loop-holds : tie.Need-loop-holds Inv-loop μ-loop
 loop-holds c = (omega arith, refl, written-none _ _)
 
--- src/lib.rt:71:25
 rem-cards : tie.Need-rem-cards Inv-loop μ-loop
 rem-cards c = search needs
 
--- src/lib.rt:71:20
 array-read-cards : tie.Need-array-read-cards Inv-loop μ-loop
 array-read-cards c = search slice-below
 
--- src/lib.rt:71:9
 array-write-cards : tie.Need-array-write-cards Inv-loop μ-loop
 array-write-cards c = search needs
 
--- src/lib.rt:70:9
 add-s : tie.Need-add-s Inv-loop μ-loop
 add-s c = search needs
 
--- src/lib.rt:70:5
 loop-less : tie.Need-loop-less Inv-loop μ-loop
 loop-less c = search needs
 
--- src/lib.rt:70:5
 loop-again : tie.Need-loop-again Inv-loop μ-loop
 loop-again c = (omega arith, search, search held-again)
 
--- src/lib.rt:65:1
 returns : tie.Need-returns Inv-loop μ-loop
 returns c = search written-stop
 

@@ -1,25 +1,21 @@
 -- Laws of the least k and of the excess.
 -- Assumes nothing.
-use mathlib.Core.Path.{_≡_, refl, sym, ap, ap₂, _∙_, fun-ext}
-use mathlib.Core.Bool.{Bool, true, false, cond, _||_, true≢false}
+use mathlib.Core.Path.{_≡_, refl, sym, ap, _∙_, fun-ext}
 use mathlib.Core.List.{List}
 use Prim.Native.Nat.{ℕ, zero, suc, _+_, _-_, _*_, _/_, _%_, _≤_, _<_, min}
 use native.Mathlib.Nat.{mod-lt, mod-mod, add-mod-right, zero-add}
-use native.Mathlib.Decide.{decLt}
 use native.Mathlib.Numerals.{add-one}
 use native.Mathlib.Omega.{arith}
-use lib.Dec.{eqb, leb, ltb}
 use lib.ListN.{getD, set, replicate, length-replicate}
 use borrow.Author.Tests.{eq-eqb, ne-eqb, lt-ltb, le-ltb, le-leb, lt-leb, leb-true, leb-false}
 use Rattle.laws.specs.Least.{leastTo}
-use Rattle.laws.specs.Least.Properties.{least-one, least-again, least-le, least-at}
-use Rattle.laws.specs.First.{firstTo}
-use Rattle.laws.specs.First.Properties.{first-none, first-on, first-here, first-stop, first-le, first-holds, first-least, first-zero, first-some}
+use Rattle.laws.specs.Least.Properties.{least-again, least-le, least-at}
+use Rattle.laws.specs.First.Properties.{first-none, first-on, first-here, first-le, first-holds, first-least, first-zero, first-some}
 use Rattle.laws.specs.Written.{written}
 use Rattle.laws.specs.Written.Properties.{written-again, written-at}
 use Rattle.supply.specs.Supply.{Periodic, window, supply}
 use Rattle.supply.specs.Supply.Properties.{window-none, window-more, supply-whole}
-use Rattle.supply.specs.Fit.{fitsAt, leastWidth, excessAt, leastExcess, heldAt, noFrame, fitOf, leastWith}
+use Rattle.supply.specs.Fit.{fitsAt, leastWidth, excessAt, leastExcess, heldAt, fitOf, leastWith}
 use Rattle.supply.specs.declared.Fit.{Fit}
 
 -- ---- the least, place by place

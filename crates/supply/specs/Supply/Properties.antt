@@ -6,9 +6,9 @@ use native.Mathlib.Nat.{add-assoc, add-comm, add-zero, zero-add, mul-comm, suc-m
 use native.Mathlib.Numerals.{add-one, one-add}
 use native.Mathlib.Omega.{arith}
 use Rattle.laws.specs.Sum.{sumTo}
-use Rattle.laws.specs.Sum.Properties.{sum-none, sum-suc, sum-more, sum-cong, sum-bound, sum-split}
+use Rattle.laws.specs.Sum.Properties.{sum-none, sum-more, sum-cong, sum-bound, sum-split}
 use Rattle.laws.specs.Least.{leastTo}
-use Rattle.laws.specs.Least.Properties.{least-le, least-at, least-greatest, least-cong}
+use Rattle.laws.specs.Least.Properties.{least-le, least-at, least-cong}
 use Rattle.supply.specs.Supply.{Periodic, window, supply}
 
 -- ---- a window
@@ -83,20 +83,15 @@ least-shift n c f p =
     let t = least-at n f p in
     omega (arith, s .2, t .2, least-le n (λ a. c + f a) (t .0) (t .1), least-le n f (s .0) (s .1))
 
--- "S(k,0) is 0"
-pub supply-none : (frame : ℕ) (h : ℕ → ℕ) (k : ℕ) → supply frame h k 0 ≡ 0
-unfolding supply leastTo
-supply-none frame h k = go frame
-  where
-    go : (n : ℕ) → leastTo n (λ a. window k h a 0) ≡ 0
-    go zero = refl
-    go (suc n) = let t = least-at (suc n) (λ a. window k h a 0) (omega arith) in omega (arith, t .2, window-none k h (t .0))
-
 module _ (frame : ℕ) (h : ℕ → ℕ) (some : 0 < frame) where
   -- it is what one of the starts sees
   pub supply-attained : (k t : ℕ) → (a : ℕ) × (a < frame) × (supply frame h k t ≡ window k h a t)
   unfolding supply
   supply-attained k t = least-at frame (λ a. window k h a t) some
+
+  -- "S(k,0) is 0"
+  pub supply-none : (k : ℕ) → supply frame h k 0 ≡ 0
+  supply-none k = let s = supply-attained k 0 in omega (arith, s .2, window-none k h (s .0))
 
   -- at most k cards a slice
   pub supply-most : (k t : ℕ) → supply frame h k t ≤ k * t

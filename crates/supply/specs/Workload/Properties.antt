@@ -1,7 +1,7 @@
 -- Laws of a kind's part of the workload: it is no more than the deadline, and enough for every unit that can get in the way.
 -- Assumes nothing.
-use mathlib.Core.Path.{_≡_, sym, _∙_}
-use Prim.Native.Nat.{ℕ, suc, _+_, _-_, _*_, _/_, _%_, _≤_, _<_, min}
+use mathlib.Core.Path.{_≡_}
+use Prim.Native.Nat.{ℕ, _+_, _-_, _*_, _/_, _%_, _≤_, _<_, min}
 use native.Mathlib.Nat.{div-add-mod', div-mul-le-self, le-div-iff-mul-le, mul-le-mul-left, mul-le-mul-right, suc-mul, div-zero, mod-zero, zero-mul}
 use native.Mathlib.Decide.{decLt}
 use native.Mathlib.Omega.{arith}

@@ -1,5 +1,5 @@
 use mathlib.Core.Path.{_≡_, refl, sym}
-use Prim.Native.Nat.{_≤_, _-_, _+_}
+use Prim.Native.Nat.{_≤_, _-_}
 use native.Mathlib.Omega.{arith}
 use borrow.Author.Needs.{needs}
 use lib.ListN.{replicate}
@@ -11,9 +11,6 @@ use Rattle.verdict.specs.Steps.{projectCards, allCards}
 use Rattle.verdict.specs.Steps.Properties.{first-room, budget-room, first-fits, first-again, cards-again}
 use Rattle.verdict.proofs.all_cards.Statement.{statement}
 use Rattle.verdict.proofs.all_cards.Tie as tie
-use Rattle.verdict.proofs.all_cards.Reads as reads
-use Rattle.verdict.proofs.all_cards.Lts as lts
-use Rattle.verdict.proofs.run_cards.Reads as run-cards-reads
 
 abbrev Inv-loop : tie.InvT-loop
 Inv-loop plan cards₀ first₀ j₀ j-end cards first j = (j ≤ j-end) × (j-end ≡ plan .projects) × (first ≡ firstCell plan j) × (cards ≡ written j (projectCards plan) (replicate 8 (replicate 64 0)))
@@ -21,55 +18,42 @@ Inv-loop plan cards₀ first₀ j₀ j-end cards first j = (j ≤ j-end) × (j-e
 abbrev μ-loop : tie.MeasureT-loop
 μ-loop plan cards₀ first₀ j₀ j-end cards first j = j-end - j
 
--- src/lib.rt:46:5
 loop-holds : tie.Need-loop-holds Inv-loop μ-loop
 loop-holds c = (omega arith, refl, sym (first-start _), written-none _ _)
 
--- src/lib.rt:47:35
 cast-budget : tie.Need-cast-budget Inv-loop μ-loop
 cast-budget c = search needs
 
--- src/lib.rt:47:22
 mul-budget : tie.Need-mul-budget Inv-loop μ-loop
 mul-budget c = search needs
 
--- src/lib.rt:47:13
 element-copy-out-budget : tie.Need-element-copy-out-budget Inv-loop μ-loop
 element-copy-out-budget c = search needs
 
--- src/lib.rt:48:29
 run-cards-requires : tie.Need-run-cards-requires Inv-loop μ-loop
 run-cards-requires c κs = (search needs, search needs, search first-room, search budget-room)
 
--- src/lib.rt:48:15
 cast-cards : tie.Need-cast-cards Inv-loop μ-loop
 cast-cards c = search needs
 
--- src/lib.rt:48:9
 mul-cards : tie.Need-mul-cards Inv-loop μ-loop
 mul-cards c = search needs
 
--- src/lib.rt:48:9
 array-set-from-cards : tie.Need-array-set-from-cards Inv-loop μ-loop
 array-set-from-cards c = search needs
 
--- src/lib.rt:49:9
 add-first : tie.Need-add-first Inv-loop μ-loop
 add-first c = record { fits = search first-fits }
 
--- src/lib.rt:46:9
 add-j : tie.Need-add-j Inv-loop μ-loop
 add-j c = search needs
 
--- src/lib.rt:46:5
 loop-less : tie.Need-loop-less Inv-loop μ-loop
 loop-less c = search needs
 
--- src/lib.rt:46:5
 loop-again : tie.Need-loop-again Inv-loop μ-loop
 loop-again c = (omega arith, search, search first-again, search cards-again)
 
--- src/lib.rt:40:1
 returns : tie.Need-returns Inv-loop μ-loop
 unfolding allCards
 returns c = search written-stop

@@ -1,5 +1,5 @@
 use mathlib.Core.Path.{_≡_, refl}
-use Prim.Native.Nat.{_≤_, _-_, _+_}
+use Prim.Native.Nat.{_≤_, _-_}
 use native.Mathlib.Omega.{arith}
 use borrow.Author.Needs.{needs}
 use lib.ListN.{replicate}
@@ -12,11 +12,6 @@ use Rattle.verdict.specs.Verdict.{widthOf, fitted}
 use Rattle.verdict.specs.Steps.Properties.{project-place, project-fits, project-scaled, row-at, excess-room, fits-no, fits-again, fits-all, width-again}
 use Rattle.verdict.proofs.fits.Statement.{statement}
 use Rattle.verdict.proofs.fits.Tie as tie
-use Rattle.verdict.proofs.fits.Reads as reads
-use Rattle.verdict.proofs.fits.Lts as lts
-use Rattle.verdict.proofs.all_cards.Reads as all-cards-reads
-use Rattle.verdict.proofs.fit_on.Reads as fit-on-reads
-use Rattle.verdict.proofs.told.Reads as told-reads
 
 abbrev Inv-loop : tie.InvT-loop
 Inv-loop plan cards width₀ i₀ i-end width i = (i ≤ i-end) × (i-end ≡ plan .kinds) × (Good ≡ eachTo i (fitted plan)) × (width ≡ written i (widthOf plan) (replicate 16 0))
@@ -24,78 +19,60 @@ Inv-loop plan cards width₀ i₀ i-end width i = (i ≤ i-end) × (i-end ≡ pl
 abbrev μ-loop : tie.MeasureT-loop
 μ-loop plan cards width₀ i₀ i-end width i = i-end - i
 
--- src/lib.rt:108:17
 all-cards-requires : tie.Need-all-cards-requires Inv-loop μ-loop
 all-cards-requires c κs = search needs
 
--- src/lib.rt:110:5
 loop-holds : tie.Need-loop-holds Inv-loop μ-loop
 loop-holds c = (omega arith, refl, each-none _, written-none _ _)
 
--- src/lib.rt:111:33
 cast-project : tie.Need-cast-project Inv-loop μ-loop
 cast-project c = search needs
 
--- src/lib.rt:111:23
 mul-project : tie.Need-mul-project Inv-loop μ-loop
 mul-project c = search needs
 
--- src/lib.rt:111:23
 element-copy-out-project : tie.Need-element-copy-out-project Inv-loop μ-loop
 element-copy-out-project c = search needs
 
--- src/lib.rt:111:23
 cast-project-2 : tie.Need-cast-project-2 Inv-loop μ-loop
 cast-project-2 c = record { fits = search project-fits }
 
--- src/lib.rt:112:32
 mul-fit-on : tie.Need-mul-fit-on Inv-loop μ-loop
 mul-fit-on c = record { fits = search project-scaled }
 
--- src/lib.rt:112:32
 array-copy-out-fit-on : tie.Need-array-copy-out-fit-on Inv-loop μ-loop
 array-copy-out-fit-on c = search project-place
 
--- src/lib.rt:112:13
 fit-on-requires : tie.Need-fit-on-requires Inv-loop μ-loop
 fit-on-requires c κs = (search needs, search needs, search row-at)
 
--- src/lib.rt:113:13
 told-requires : tie.Need-told-requires Inv-loop μ-loop
 told-requires c κs = search excess-room
 
 enum-told : tie.Need-enum-told Inv-loop μ-loop
 enum-told c = search needs
 
--- src/lib.rt:117:24
 enum-told-2 : tie.Need-enum-told-2 Inv-loop μ-loop
 enum-told-2 c = search needs
 
--- src/lib.rt:115:13
 returns : tie.Need-returns Inv-loop μ-loop
 returns c = search fits-no
 
--- src/lib.rt:120:15
 cast-width : tie.Need-cast-width Inv-loop μ-loop
 cast-width c = search needs
 
--- src/lib.rt:120:9
 array-write-width : tie.Need-array-write-width Inv-loop μ-loop
 array-write-width c = search needs
 
--- src/lib.rt:110:9
 add-i : tie.Need-add-i Inv-loop μ-loop
 add-i c = search needs
 
--- src/lib.rt:110:5
 loop-less : tie.Need-loop-less Inv-loop μ-loop
 loop-less c = search needs
 
--- src/lib.rt:110:5
 loop-again : tie.Need-loop-again Inv-loop μ-loop
 loop-again c = (omega arith, search, search fits-again, search width-again)
 
--- src/lib.rt:104:1
 returns-2 : tie.Need-returns-2 Inv-loop μ-loop
 returns-2 c = search fits-all
 

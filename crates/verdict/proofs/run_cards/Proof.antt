@@ -1,5 +1,5 @@
-use mathlib.Core.Path.{_≡_, refl}
-use Prim.Native.Nat.{_≤_, _-_, _+_}
+use mathlib.Core.Path.{_≡_}
+use Prim.Native.Nat.{_≤_, _-_}
 use native.Mathlib.Omega.{arith}
 use borrow.Author.Needs.{needs}
 use lib.ListN.{replicate}
@@ -10,9 +10,6 @@ use Rattle.verdict.specs.Steps.{runCards}
 use Rattle.verdict.specs.Steps.Properties.{run-ordered, run-small, run-again}
 use Rattle.verdict.proofs.run_cards.Statement.{statement}
 use Rattle.verdict.proofs.run_cards.Tie as tie
-use Rattle.verdict.proofs.run_cards.Reads as reads
-use Rattle.verdict.proofs.run_cards.Lts as lts
-use Rattle.layout.proofs.cards_below.Reads as cards-below-reads
 
 abbrev Inv-loop : tie.InvT-loop
 Inv-loop first budget frame end cards₀ s₀ cards s = (s ≤ frame) × (cards ≡ written s (heldFrom first budget frame) (replicate 64 0))
@@ -20,51 +17,39 @@ Inv-loop first budget frame end cards₀ s₀ cards s = (s ≤ frame) × (cards 
 abbrev μ-loop : tie.MeasureT-loop
 μ-loop first budget frame end cards₀ s₀ cards s = frame - s
 
--- src/lib.rt:30:15
 add-end : tie.Need-add-end Inv-loop μ-loop
 add-end c = search needs
 
--- src/lib.rt:32:5
 loop-holds : tie.Need-loop-holds Inv-loop μ-loop
 loop-holds c = (omega arith, written-none _ _)
 
--- src/lib.rt:33:13
 cards-below-requires : tie.Need-cards-below-requires Inv-loop μ-loop
 cards-below-requires c κs = search needs
 
--- src/lib.rt:34:30
 cards-below-requires-2 : tie.Need-cards-below-requires-2 Inv-loop μ-loop
 cards-below-requires-2 c κs = search needs
 
--- src/lib.rt:34:30
 sub-cards : tie.Need-sub-cards Inv-loop μ-loop
 sub-cards c = search run-ordered
 
--- src/lib.rt:34:29
 cast-cards : tie.Need-cast-cards Inv-loop μ-loop
 cast-cards c = record { fits = search run-small }
 
--- src/lib.rt:34:15
 cast-cards-2 : tie.Need-cast-cards-2 Inv-loop μ-loop
 cast-cards-2 c = search needs
 
--- src/lib.rt:34:9
 array-write-cards : tie.Need-array-write-cards Inv-loop μ-loop
 array-write-cards c = search needs
 
--- src/lib.rt:32:9
 add-s : tie.Need-add-s Inv-loop μ-loop
 add-s c = search needs
 
--- src/lib.rt:32:5
 loop-less : tie.Need-loop-less Inv-loop μ-loop
 loop-less c = search needs
 
--- src/lib.rt:32:5
 loop-again : tie.Need-loop-again Inv-loop μ-loop
 loop-again c = (omega arith, search run-again)
 
--- src/lib.rt:26:1
 returns : tie.Need-returns Inv-loop μ-loop
 unfolding runCards
 returns c = search written-stop

@@ -1,35 +1,30 @@
 -- The verdict is what document 01 says: a plan is admitted exactly when every kind fits at some k, each k given is the least, and 8 names the first kind with no k and its excess.
 -- Assumes nothing.
-use mathlib.Core.Path.{_≡_, refl, sym, ap, _∙_}
-use mathlib.Core.Bool.{Bool, true, false}
-use mathlib.Core.List.{List}
+use mathlib.Core.Path.{_≡_, refl, sym, _∙_}
 use mathlib.Core.Logic.{_↔_}
 use Prim.Native.Nat.{ℕ, zero, suc, _+_, _-_, _*_, _≤_, _<_}
 use native.Mathlib.Decide.{decLt}
 use native.Mathlib.Omega.{arith}
 use lib.Dec.{eqb}
 use lib.ListN.{getD, replicate, length-replicate, getD-replicate, List·getD-eq-default}
-use borrow.Author.Tests.{eq-eqb, ne-eqb, eqb-true, eqb-false}
-use Rattle.laws.specs.Written.{written}
+use borrow.Author.Tests.{eq-eqb, ne-eqb, eqb-false}
 use Rattle.laws.specs.Written.Properties.{written-at, written-kept}
 use Rattle.plan.specs.declared.Plan.{Plan}
 use Rattle.plan.specs.declared.answer.Answer.{Answer}
 use Rattle.plan.specs.declared.answer.Answer.the-variants.{Good, No}
 use Rattle.plan.specs.declared.answer.Refusal.{Refusal}
 use Rattle.plan.specs.declared.answer.Refusal.the-variants.{ByKind}
-use Rattle.plan.specs.Answer.{refuse, _andThen_, eachTo}
+use Rattle.plan.specs.Answer.{_andThen_, eachTo}
 use Rattle.plan.specs.Answer.Properties.{andThen-good, andThen-no, andThen-left, andThen-right, refuse-good, each-at, each-of, each-refused}
 use Rattle.plan.specs.Order.{kindOf, checked}
 use Rattle.plan.specs.Order.Properties.{InOrder, in-order, in-order-good}
-use Rattle.layout.specs.Layout.{held}
 use Rattle.layout.specs.Layout.Properties.{held-period}
-use Rattle.supply.specs.Supply.{window, supply}
+use Rattle.supply.specs.Supply.{window}
 use Rattle.supply.specs.Supply.Properties.{supply-everywhere}
 use Rattle.supply.specs.Fit.Properties.{width-most, width-fits, width-least, width-some, width-none, excess-most, excess-attained}
-use Rattle.verdict.specs.declared.Verdict.{Verdict}
 use Rattle.verdict.specs.Workload.{workload}
 use Rattle.verdict.specs.Verdict.{projectOn, ceilingOn, heldOn, widthOf, excessOf, fitted, admitted, verdictOf, judged}
-use Rattle.verdict.specs.Admission.{asked, given, Width, Fits, Excess, NotAdmitted}
+use Rattle.verdict.specs.Admission.{Width, Fits, Excess, NotAdmitted}
 
 -- ---- the k of one kind
 
@@ -177,10 +172,6 @@ refused-exactly p o i x = (told, tell)
         let same = excess-one p i (excessOf p i) x (kind-excess p i (ceiling i (n .its-kind)) none) (n .excess) in
         let before = each-of i (fitted p) (λ j l. fitted-of p j (kind-some p j (n .first j l .0) (n .first j l .1))) in
         order-next p o ∙ sym (each-refused (p .kinds) i (fitted p) (ByKind 8 i (excessOf p i)) (sym before) (sym (fitted-no p i none)) (n .its-kind)) ∙ rw same
-
--- one outcome
-pub one-outcome : (p : Plan) (a b : Verdict) → a ≡ judged p → b ≡ judged p → a ≡ b
-one-outcome p a b e f = e ∙ sym f
 
 -- ---- what a run needs
 

@@ -20,10 +20,10 @@ use Rattle.plan.specs.Order.{kindOf, budgetOf, checked}
 use Rattle.plan.specs.Order.Properties.{InOrder}
 use Rattle.layout.specs.Cards.{cardsBelow, heldFrom}
 use Rattle.layout.specs.Cards.Properties.{below-grows, run-closed, run-ceiling}
-use Rattle.layout.specs.Layout.{held, firstCell}
+use Rattle.layout.specs.Layout.{firstCell}
 use Rattle.layout.specs.Layout.Properties.{first-next, first-most, held-from, held-mod}
 use Rattle.supply.specs.declared.Fit.{Fit}
-use Rattle.supply.specs.Fit.{heldAt, leastWidth, leastExcess, fitOf}
+use Rattle.supply.specs.Fit.{heldAt, fitOf}
 use Rattle.supply.specs.Fit.Properties.{fit-framed, excess-most}
 use Rattle.verdict.specs.declared.Verdict.{Verdict}
 use Rattle.verdict.specs.Workload.{workload}

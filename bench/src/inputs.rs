@@ -1,0 +1,116 @@
+//! The plans, states and the stream that are timed.
+
+use second::generate::limit_plans;
+use second::{fresh, release, slice, verdict, KindState, Plan, State};
+
+/// One card, one project, one kind, one slice.
+pub fn smallest() -> Plan {
+    Plan::of(1, 1, &[(1, 1)], &[(0, 1, 1, 1)])
+}
+
+/// A plan whose bytes are the most there are: eight projects and sixteen kinds.
+pub fn widest() -> Plan {
+    let widest = |plan: &Plan| (plan.p, plan.n) == (8, 16) && verdict(plan).0.is_good();
+    limit_plans().into_iter().find(widest).unwrap_or_default()
+}
+
+/// A rack of four cards with three projects: one that folds on two cards at a time, two smaller ones.
+pub fn typical() -> Plan {
+    Plan::of(
+        4,
+        16,
+        &[(2, 28), (1, 12), (2, 20)],
+        &[
+            (0, 40, 40, 9),
+            (0, 60, 60, 12),
+            (0, 120, 100, 20),
+            (1, 60, 50, 8),
+            (1, 120, 120, 20),
+            (2, 40, 30, 5),
+            (2, 80, 64, 10),
+            (2, 240, 240, 12),
+        ],
+    )
+}
+
+/// Eight cards held throughout by one project of `n` like kinds, each as long as k = 8 allows and no k below it.
+pub fn only_at_8(n: u16, frame: u8, d: u16) -> Plan {
+    // 8C + (n-1)C <= 8D, and more than at k = 7.
+    let c = (8 * u32::from(d) / u32::from(n + 7)) as u16;
+    let kinds = vec![(0, d, d, c); usize::from(n)];
+    let plan = Plan::of(8, frame, &[(8, 8 * u16::from(frame))], &kinds);
+    let (answer, k) = verdict(&plan);
+    assert!(answer.is_good() && k[..usize::from(n)].iter().all(|&k| k == 8));
+    plan
+}
+
+/// The same project with `n` kinds that all have work, released one slice after another.
+pub fn all_active(n: u16, frame: u8, d: u16) -> State {
+    let kinds = vec![(0, d, d, d); usize::from(n)];
+    let plan = Plan::of(8, frame, &[(8, 8 * u16::from(frame))], &kinds);
+    let mut state = State {
+        plan,
+        clock: 1000,
+        ..State::default()
+    };
+    for (i, place) in state.kinds.iter_mut().take(usize::from(n)).enumerate() {
+        *place = KindState {
+            released: true,
+            at: 1000 - 7 * i as u32 % 16,
+            left: 100,
+        };
+    }
+    state
+}
+
+/// A call of the stream.
+#[derive(Clone, Copy)]
+pub enum Command {
+    /// Of a kind, with a length.
+    Release(u64, u64),
+    /// A slice.
+    Slice,
+}
+
+/// Calls that are all good, from a fresh start.
+pub struct Stream {
+    /// The fresh start.
+    pub start: State,
+    /// What follows.
+    pub commands: Vec<Command>,
+    /// How many slices.
+    pub slices: u64,
+    /// How many releases.
+    pub releases: u64,
+}
+
+/// Four projects of four kinds each; each kind is released as soon as it is due, at its full length.
+pub fn stream(slices: u64) -> Stream {
+    let kinds: Vec<_> = (0..16)
+        .map(|j| (j as u8 % 4, 40 + 8 * j, 40 + 8 * j, 10))
+        .collect();
+    let plan = Plan::of(8, 16, &[(2, 24); 4], &kinds);
+    let (answer, start) = fresh(&plan);
+    assert!(answer.is_good());
+    let mut stream = Stream {
+        start,
+        commands: Vec::new(),
+        slices,
+        releases: 0,
+    };
+    let mut state = start;
+    for _ in 0..slices {
+        for kind in 0..16 {
+            let e = u64::from(plan.kinds[kind as usize].length);
+            let (answer, next) = release(&state, kind, e);
+            if answer.is_good() {
+                state = next;
+                stream.commands.push(Command::Release(kind, e));
+                stream.releases += 1;
+            }
+        }
+        state = slice(&state, &mut [0; 8]).1;
+        stream.commands.push(Command::Slice);
+    }
+    stream
+}

@@ -1,0 +1,609 @@
+//! A copy of the second program with one rule altered, to show that the comparison can fail.
+//!
+//! It stands where the proved side stands. Most faults are errors that look right, of document 01's
+//! own list or near it; the rest are about orders, buffers and images. Without a fault the copy must
+//! agree with the second program, so that a fault is found for what it is.
+
+use crate::interface::{
+    number, plan_image, plan_of, refused, state_image, word, Side, PLAN_IMAGE, STATE_IMAGE,
+};
+use crate::second_side::{state_or_refuse, Second};
+use second::layout::{cards_held, cells, h};
+use second::plan::budgets_sum_above;
+use second::play::{command, Command};
+use second::rack::{in_form, LAST_CLOCK};
+use second::supply::supply;
+use second::verdict::{ceiling_of, workload};
+use second::{Answer, Plan, State};
+
+/// One rule altered.
+#[derive(Clone, Copy, Debug, PartialEq, Eq)]
+#[allow(missing_docs)]
+pub enum Fault {
+    Faultless,
+    SumFirst,
+    FiveFirst,
+    UnusedPlace,
+    SpareBit,
+    WriteJudges,
+    CutOff,
+    OwnKind,
+    FrameStart,
+    Average,
+    OnlyTop,
+    ExcessAtTop,
+    Ties,
+    RankByD,
+    TwoCards,
+    Rotated,
+    FirstFrame,
+    ServesNone,
+    ElevenFirst,
+    Early,
+    ExactlyT,
+    FifteenFirst,
+    LowByte,
+    ReleasedByte,
+    ShortImage,
+    NineFirst,
+    PastNeeded,
+    RefusalClears,
+    NoCount,
+    PlayEnd,
+    PlayLeftOver,
+    PlayClock,
+    PlaySliceBits,
+    PlayLowBits,
+    PlayRefused,
+}
+
+use Fault::*;
+
+/// Each fault that records must show: its name and what it is.
+pub const RECORD_FAULTS: [(Fault, &str, &str); 28] = [
+    (SumFirst, "sum-first", "7 is told before 4"),
+    (FiveFirst, "five-first", "all kinds for 5 before any 6"),
+    (
+        UnusedPlace,
+        "unused-place",
+        "the length in an unused place is not looked at",
+    ),
+    (SpareBit, "spare-bit", "the last spare bit is not looked at"),
+    (WriteJudges, "write-judges", "writing plan bytes adds 8"),
+    (CutOff, "cut-off", "W without the cut-off unit"),
+    (OwnKind, "own-kind", "W with kind i's own part"),
+    (
+        FrameStart,
+        "frame-start",
+        "supply from the frame's start only",
+    ),
+    (Average, "average", "supply as floor(Bt/F)"),
+    (OnlyTop, "only-top", "only k = q is counted"),
+    (
+        ExcessAtTop,
+        "excess-at-top",
+        "the excess at q, not the least over k",
+    ),
+    (Ties, "ties", "a tie goes to the higher kind number"),
+    (
+        RankByD,
+        "rank-by-d",
+        "ranked by D, not release clock plus D",
+    ),
+    (
+        TwoCards,
+        "two-cards",
+        "a unit is given two cards in a slice",
+    ),
+    (Rotated, "rotated", "the layout rotates between frames"),
+    (
+        FirstFrame,
+        "first-frame",
+        "after the first frame what is left does not fall",
+    ),
+    (
+        ServesNone,
+        "serves-none",
+        "the clock moves, no one is served",
+    ),
+    (ElevenFirst, "eleven-first", "11 is told before 9"),
+    (Early, "early", "a release at T-1 passes"),
+    (ExactlyT, "exactly-t", "a release at exactly T gives 14"),
+    (FifteenFirst, "fifteen-first", "15 is told before 14"),
+    (
+        LowByte,
+        "low-byte",
+        "only the low byte of a kind is looked at",
+    ),
+    (
+        ReleasedByte,
+        "released-byte",
+        "a released byte of 2 or more is taken for 1",
+    ),
+    (
+        ShortImage,
+        "short-image",
+        "an image one byte short is taken as if it ended in 0",
+    ),
+    (
+        NineFirst,
+        "nine-first",
+        "the verdict tells a short k before 8",
+    ),
+    (
+        PastNeeded,
+        "past-needed",
+        "bytes past those needed are cleared",
+    ),
+    (
+        RefusalClears,
+        "refusal-clears",
+        "a refusal clears the lent buffer",
+    ),
+    (NoCount, "no-count", "the slot table's count is 0"),
+];
+
+/// Each fault that streams must show.
+pub const STREAM_FAULTS: [(Fault, &str, &str); 9] = [
+    (PlayEnd, "play-end", "no end line after a bad command"),
+    (
+        PlayLeftOver,
+        "play-left-over",
+        "one or two bytes left over are passed by",
+    ),
+    (PlayClock, "play-clock", "a slice prints the clock after it"),
+    (
+        PlaySliceBits,
+        "play-slice-bits",
+        "the e of a slice is not looked at",
+    ),
+    (
+        PlayLowBits,
+        "play-low-bits",
+        "the seven low bits of a release are not looked at",
+    ),
+    (
+        PlayRefused,
+        "play-refused",
+        "an end line after a refused plan",
+    ),
+    (Ties, "ties", "a tie goes to the higher kind number"),
+    (CutOff, "cut-off", "W without the cut-off unit"),
+    (Early, "early", "a release at T-1 passes"),
+];
+
+/// The fault of this name, `none` included.
+pub fn named(name: &str) -> Option<Fault> {
+    if name == "none" {
+        return Some(Faultless);
+    }
+    RECORD_FAULTS
+        .iter()
+        .chain(&STREAM_FAULTS)
+        .find(|fault| fault.1 == name)
+        .map(|fault| fault.0)
+}
+
+/// The second program with this fault.
+#[derive(Clone, Copy, Debug)]
+pub struct Faulty(pub Fault);
+
+impl Faulty {
+    fn is(&self, fault: Fault) -> bool {
+        self.0 == fault
+    }
+
+    /// An image as this copy sees it.
+    fn seen(&self, image: &[u8], size: usize) -> Vec<u8> {
+        let mut seen = image.to_vec();
+        if self.is(ShortImage) && seen.len() + 1 == size {
+            seen.push(0);
+        }
+        if seen.len() < size {
+            return seen;
+        }
+        if self.is(UnusedPlace) {
+            let mut plan = plan_of(&seen);
+            for place in plan.kinds.iter_mut().skip(usize::from(plan.n)) {
+                place.length = 0;
+            }
+            seen[..PLAN_IMAGE].copy_from_slice(&plan_image(&plan));
+        }
+        if self.is(ReleasedByte) && size == STATE_IMAGE {
+            for place in 0..16 {
+                let released = &mut seen[PLAN_IMAGE + 4 + 7 * place];
+                *released = (*released).min(1);
+            }
+        }
+        seen
+    }
+
+    /// A refusal by the record order, with this copy's order.
+    fn order(&self, plan: &Plan, word_before: u64) -> u64 {
+        if self.is(SumFirst) && number(word_before) == 4 && budgets_sum_above(plan) {
+            return refused(7);
+        }
+        if self.is(FiveFirst) && number(word_before) == 6 {
+            let kinds = plan.used_kinds();
+            if let Some(place) = kinds.iter().position(|kind| kind.project >= plan.p) {
+                return word(Answer::refused_at(5, place), 0);
+            }
+        }
+        word_before
+    }
+
+    /// A function on a plan image, with this copy's image and order.
+    fn on_plan(&self, plan: &[u8], call: impl FnOnce(&[u8]) -> u64) -> u64 {
+        let seen = self.seen(plan, PLAN_IMAGE);
+        let word = call(&seen);
+        match seen.len() {
+            PLAN_IMAGE.. => self.order(&plan_of(&seen), word),
+            _ => word,
+        }
+    }
+
+    /// What this copy does to a lent buffer after the call.
+    fn after(&self, word: u64, lent: &mut [u8], needed: usize) -> u64 {
+        if self.is(RefusalClears) && number(word) != 0 {
+            lent.fill(0);
+        }
+        if self.is(PastNeeded) && number(word) == 0 {
+            lent[needed..].fill(0);
+        }
+        word
+    }
+
+    /// A function on a state image, changed in place when this copy's answer is good.
+    fn on_state(&self, image: &mut [u8], call: impl FnOnce(&State) -> (Answer, State)) -> u64 {
+        let seen = self.seen(image, STATE_IMAGE);
+        match state_or_refuse(&seen) {
+            Ok(state) => {
+                let (answer, next) = call(&state);
+                let word = self.order(&state.plan, word(answer, 0));
+                if number(word) == 0 {
+                    let count = image.len().min(STATE_IMAGE);
+                    image[..count].copy_from_slice(&state_image(&next)[..count]);
+                }
+                word
+            }
+            Err(word) => match seen.len() {
+                STATE_IMAGE.. => self.order(&plan_of(&seen), word),
+                _ => word,
+            },
+        }
+    }
+
+    fn supply(&self, plan: &Plan, project: usize, k: u64, t: u64) -> u64 {
+        let held = h(plan, project);
+        match self.0 {
+            FrameStart => (0..t as usize).map(|x| held[x % held.len()].min(k)).sum(),
+            Average => held.iter().map(|h| h.min(&k)).sum::<u64>() * t / held.len() as u64,
+            _ => supply(plan, project, k, t),
+        }
+    }
+
+    fn workload(&self, plan: &Plan, i: usize) -> u64 {
+        let kinds = plan.used_kinds();
+        let d = kinds[i].deadline;
+        let part = |j: usize| {
+            let (t, c) = (kinds[j].separation, kinds[j].length);
+            (u64::from(d / t * c), u64::from(c.min(d % t)))
+        };
+        let w = workload(plan, i);
+        match self.0 {
+            OwnKind => w + part(i).0 + part(i).1,
+            CutOff => (0..kinds.len())
+                .filter(|&j| j != i && kinds[j].project == kinds[i].project)
+                .map(|j| part(j).0)
+                .sum(),
+            _ => w,
+        }
+    }
+
+    fn judge(&self, plan: &Plan) -> (Answer, [u8; 16]) {
+        let mut ks = [0; 16];
+        let answer = second::check(plan);
+        if !answer.is_good() {
+            return (answer, ks);
+        }
+        for (i, kind) in plan.used_kinds().iter().enumerate() {
+            let w = self.workload(plan, i);
+            let over = |k: u64| {
+                let asked = k * u64::from(kind.length) + w;
+                let d = u64::from(kind.deadline);
+                asked.saturating_sub(self.supply(plan, usize::from(kind.project), k, d))
+            };
+            let q = ceiling_of(plan, i);
+            let first = if self.is(OnlyTop) { q } else { 1 };
+            match (first..=q).find(|&k| over(k) == 0) {
+                Some(k) => ks[i] = k as u8,
+                None => {
+                    let from = if self.is(ExcessAtTop) { q } else { first };
+                    let excess = (from..=q).map(over).min().unwrap_or(0);
+                    return (Answer::not_admitted(i, excess), [0; 16]);
+                }
+            }
+        }
+        (Answer::GOOD, ks)
+    }
+
+    fn start(&self, plan: &Plan) -> (Answer, State) {
+        let (answer, _) = self.judge(plan);
+        let mut state = State::default();
+        if answer.is_good() {
+            state.plan = *plan;
+        }
+        (answer, state)
+    }
+
+    fn released(&self, state: &State, kind: u64, e: u64) -> (Answer, State) {
+        let kind = if self.is(LowByte) { kind % 256 } else { kind };
+        let (answer, next) = second::release(state, kind, e);
+        let (Some(place), Some(of_plan)) = (
+            state.kinds.get(kind as usize),
+            state.plan.kinds.get(kind as usize),
+        ) else {
+            return (answer, next);
+        };
+        let gone = u64::from(state.clock.saturating_sub(place.at));
+        let t = u64::from(of_plan.separation);
+        match (self.0, answer.number) {
+            (Early, 14) if gone + 1 == t && place.left == 0 => {
+                let mut seen = *state;
+                seen.kinds[kind as usize] = Default::default();
+                second::release(&seen, kind, e)
+            }
+            (ExactlyT, 0) if place.released && gone == t => (Answer::refused(14), *state),
+            (FifteenFirst, 14) if place.left > 0 => (Answer::refused(15), *state),
+            _ => (answer, next),
+        }
+    }
+
+    fn sliced(&self, state: &State, row: &mut [u8]) -> (Answer, State) {
+        let in_order = second::check(&state.plan).is_good() && in_form(state);
+        if self.is(ElevenFirst) && in_order && state.clock == LAST_CLOCK {
+            return (Answer::refused(11), *state);
+        }
+        let kept = row.to_vec();
+        let (answer, mut next) = second::slice(state, row);
+        if !answer.is_good() {
+            return (answer, *state);
+        }
+        // The row again, by this copy's rules.
+        row.copy_from_slice(&kept);
+        row[..usize::from(state.plan.m)].fill(0);
+        next.kinds = state.kinds;
+        let frame = u64::from(state.plan.frame);
+        let clock = u64::from(state.clock);
+        let now = match self.0 {
+            Rotated => (clock + clock / frame) % frame,
+            _ => clock % frame,
+        };
+        let cells = cells(&state.plan);
+        for project in 0..usize::from(state.plan.p) {
+            let cards = cards_held(&cells, project, now);
+            let ranked = self.ranked(state, project);
+            let times = if self.is(TwoCards) { 2 } else { 1 };
+            let units = ranked.iter().flat_map(|&i| vec![i; times]);
+            for (card, i) in cards.into_iter().zip(units) {
+                if self.is(ServesNone) {
+                    continue;
+                }
+                row[card as usize] = i as u8 + 1;
+                if !(self.is(FirstFrame) && clock >= frame) {
+                    next.kinds[i].left = next.kinds[i].left.saturating_sub(1);
+                }
+            }
+        }
+        (answer, next)
+    }
+
+    fn ranked(&self, state: &State, project: usize) -> Vec<usize> {
+        let kinds = state.plan.used_kinds();
+        let mut ranked: Vec<usize> = (0..kinds.len())
+            .filter(|&i| usize::from(kinds[i].project) == project && state.kinds[i].left > 0)
+            .collect();
+        ranked.sort_by_key(|&i| {
+            let (d, at) = (u64::from(kinds[i].deadline), u64::from(state.kinds[i].at));
+            match self.0 {
+                Ties => (at + d, kinds.len() - i),
+                RankByD => (d, i),
+                _ => (at + d, i),
+            }
+        });
+        ranked
+    }
+}
+
+impl Side for Faulty {
+    fn check(&self, plan: &[u8]) -> u64 {
+        self.on_plan(plan, |plan| Second.check(plan))
+    }
+
+    fn read(&self, bytes: &[u8], plan: &mut [u8]) -> u64 {
+        let mut seen = bytes.to_vec();
+        if self.is(SpareBit) {
+            // The spare bit of the last kind is the last bit of the plan.
+            let total = second::bytes::bytes_asked_for(bytes);
+            if let (Some(last), true) = (seen.get_mut(total - 1), total > 3) {
+                *last &= 0xFE;
+            }
+        }
+        let mut word = Second.read(&seen, plan);
+        if self.is(SumFirst) || self.is(FiveFirst) {
+            word = self.order(&unpacked(&seen), word);
+        }
+        self.after(word, plan, PLAN_IMAGE)
+    }
+
+    fn write(&self, plan: &[u8], out: &mut [u8]) -> u64 {
+        let word = self.on_plan(plan, |plan| {
+            if self.is(WriteJudges) && number(Second.check(plan)) == 0 {
+                let word = Second.verdict(plan, &mut [0; 16]);
+                if number(word) != 0 {
+                    return word;
+                }
+            }
+            Second.write(plan, out)
+        });
+        self.after(word, out, (word >> 16 & 0xFFFF) as usize)
+    }
+
+    fn slot_table(&self, plan: &[u8], out: &mut [u8]) -> u64 {
+        let word = self.on_plan(plan, |plan| Second.slot_table(plan, out));
+        let word = self.after(word, out, (word >> 16 & 0xFFFF) as usize);
+        if self.is(NoCount) {
+            word & !0xFFFF_0000
+        } else {
+            word
+        }
+    }
+
+    fn verdict(&self, plan: &[u8], k: &mut [u8]) -> u64 {
+        let word = self.on_plan(plan, |plan| {
+            if plan.len() < PLAN_IMAGE {
+                return refused(9);
+            }
+            let (answer, ks) = self.judge(&plan_of(plan));
+            let judged = answer.is_good() || answer.number == 8;
+            if k.len() < 16 && (answer.is_good() || self.is(NineFirst) && judged) {
+                return refused(9);
+            }
+            if answer.is_good() {
+                k[..16].copy_from_slice(&ks);
+            }
+            word(answer, 0)
+        });
+        self.after(word, k, 16)
+    }
+
+    fn fresh(&self, plan: &[u8], state: &mut [u8]) -> u64 {
+        let word = self.on_plan(plan, |plan| {
+            if plan.len() < PLAN_IMAGE {
+                return refused(9);
+            }
+            let (answer, fresh) = self.start(&plan_of(plan));
+            if answer.is_good() {
+                if state.len() < STATE_IMAGE {
+                    return refused(9);
+                }
+                state[..STATE_IMAGE].copy_from_slice(&state_image(&fresh));
+            }
+            word(answer, 0)
+        });
+        self.after(word, state, STATE_IMAGE)
+    }
+
+    fn release(&self, state: &mut [u8], kind: u64, e: u64) -> u64 {
+        self.on_state(state, |state| self.released(state, kind, e))
+    }
+
+    fn slice(&self, state: &mut [u8], row: &mut [u8]) -> u64 {
+        let m = state.first().map_or(0, |&m| usize::from(m));
+        let word = self.on_state(state, |state| self.sliced(state, row));
+        self.after(word, row, m)
+    }
+}
+
+/// The fields of plan bytes, in range or not, as far as they are there.
+fn unpacked(bytes: &[u8]) -> Plan {
+    let mut next = 0;
+    let mut take = |width: usize| {
+        let mut value = 0u16;
+        for _ in 0..width {
+            let byte = bytes.get(next / 8).copied().unwrap_or(0);
+            value = value << 1 | u16::from(byte >> (7 - next % 8) & 1);
+            next += 1;
+        }
+        value
+    };
+    let mut plan = Plan {
+        m: take(4) as u8,
+        p: take(4) as u8,
+        n: take(5) as u8,
+        frame: take(7) as u8,
+        ..Plan::default()
+    };
+    take(4);
+    let (p, n) = (plan.used_projects().len(), plan.used_kinds().len());
+    for place in &mut plan.projects[..p] {
+        place.ceiling = take(4) as u8;
+        place.budget = take(10);
+        take(2);
+    }
+    for place in &mut plan.kinds[..n] {
+        place.project = take(3) as u8;
+        place.separation = take(12);
+        place.deadline = take(12);
+        place.length = take(12);
+        take(1);
+    }
+    plan
+}
+
+/// The player with this fault, over the copy with this fault.
+pub fn play(fault: Fault, input: &[u8]) -> String {
+    let copy = Faulty(fault);
+    let mut lines = String::new();
+    let (mut answer, plan, taken) = second::read(input);
+    let mut state = State::default();
+    if answer.is_good() {
+        (answer, state) = copy.start(&plan);
+    }
+    if !answer.is_good() {
+        lines += &format!("plan refused {} at {}\n", answer.number, answer.place);
+        if fault == PlayRefused {
+            lines += "end 0\n";
+        }
+        return lines;
+    }
+    lines += "plan ok\n";
+    for bytes in input[taken..].chunks(3) {
+        let mut seen = bytes.to_vec();
+        match (fault, bytes) {
+            (PlayLeftOver, [_] | [_, _]) => break,
+            (PlaySliceBits, [0..=7, _, third]) => seen = vec![0, 0, third & 0x7F],
+            (PlayLowBits, [128..=255, _, third]) => seen[2] = third & 0x80,
+            _ => {}
+        }
+        match command(&seen) {
+            Command::Release { kind, e } => {
+                let (answer, next) = copy.released(&state, kind, e);
+                state = next;
+                lines += &match answer.number {
+                    0 => format!("r {kind} {e} ok\n"),
+                    number => format!("r {kind} {e} refused {number}\n"),
+                };
+            }
+            Command::Slice => {
+                let before = state.clock;
+                let mut row = vec![0; usize::from(plan.m)];
+                let (answer, next) = copy.sliced(&state, &mut row);
+                state = next;
+                let clock = if fault == PlayClock {
+                    state.clock
+                } else {
+                    before
+                };
+                lines += &match answer.number {
+                    0 => format!("t {clock}:"),
+                    number => format!("t refused {number}"),
+                };
+                if answer.is_good() {
+                    for byte in row {
+                        lines += &format!(" {byte}");
+                    }
+                }
+                lines += "\n";
+            }
+            Command::Bad => {
+                lines += "bad command\n";
+                if fault == PlayEnd {
+                    return lines;
+                }
+                break;
+            }
+        }
+    }
+    lines + &format!("end {}\n", state.clock)
+}

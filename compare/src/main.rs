@@ -1,0 +1,276 @@
+//! Compares the proved library and the proved player with the second program.
+
+#![forbid(unsafe_code)]
+
+use compare::faulty::{self, Fault, Faulty, RECORD_FAULTS, STREAM_FAULTS};
+use compare::interface::{image_in_words, of_hex, outcome_in_words, Case};
+use compare::proved::Proved;
+use compare::run::{records, streams, Part, StreamDifference, Tally};
+use compare::second_side::Second;
+use compare::streams::{Program, Stream};
+use std::io::{self, Read, Write};
+use std::path::PathBuf;
+use std::process::ExitCode;
+use std::time::Instant;
+
+const USAGE: &str = "\
+usage: compare --play PATH [--seed N] [--count N] [--streams N] [--numbers]
+       compare --self-test [--seed N]
+       compare --again 'CALL' | --again 'stream HEX' --play PATH
+
+  --play PATH   the proved player; not needed with --streams 0
+  --seed N      the seed of the generated cases (1)
+  --count N     generated records, beside the fixed ones (1000000)
+  --streams N   generated streams, beside the fixed ones (20000); 0: no streams at all
+  --numbers     also shows how often each number was given back
+  --self-test   compares the second program with copies that have a fault; each must be found
+  --again       runs a call or a stream of a printed difference once more
+
+exit status: 0 no difference, 1 a difference (or a fault not found), 2 not run
+";
+
+struct Arguments {
+    play: Option<PathBuf>,
+    seed: u64,
+    count: u64,
+    streams: u64,
+    numbers: bool,
+    self_test: bool,
+    again: Option<String>,
+    play_with: Option<Fault>,
+}
+
+fn arguments() -> Result<Arguments, String> {
+    let mut found = Arguments {
+        play: None,
+        seed: 1,
+        count: 1_000_000,
+        streams: 20_000,
+        numbers: false,
+        self_test: false,
+        again: None,
+        play_with: None,
+    };
+    let mut given = std::env::args().skip(1);
+    while let Some(name) = given.next() {
+        let mut value = || given.next().ok_or(format!("{name} wants a value"));
+        let number = |value: String| {
+            value
+                .parse()
+                .map_err(|_| format!("{name} wants a number, not {value}"))
+        };
+        match name.as_str() {
+            "--play" => found.play = Some(PathBuf::from(value()?)),
+            "--seed" => found.seed = number(value()?)?,
+            "--count" => found.count = number(value()?)?,
+            "--streams" => found.streams = number(value()?)?,
+            "--numbers" => found.numbers = true,
+            "--self-test" => found.self_test = true,
+            "--again" => found.again = Some(value()?),
+            // The self-test starts this program so, as a player with a fault.
+            "--play-with-fault" => {
+                let name = value()?;
+                found.play_with = Some(faulty::named(&name).ok_or(format!("no fault {name}"))?);
+            }
+            _ => return Err(format!("{name} is not known")),
+        }
+    }
+    Ok(found)
+}
+
+fn main() -> ExitCode {
+    let result = arguments().and_then(|arguments| match run(&arguments) {
+        Ok(result) => result.map(ExitCode::from),
+        Err(error) => {
+            eprintln!("compare: the player could not be run: {error}");
+            Ok(ExitCode::from(2))
+        }
+    });
+    result.unwrap_or_else(|error| {
+        eprint!("compare: {error}\n\n{USAGE}");
+        ExitCode::from(2)
+    })
+}
+
+/// The exit status; an inner error is about the arguments.
+fn run(arguments: &Arguments) -> io::Result<Result<u8, String>> {
+    if let Some(fault) = arguments.play_with {
+        let mut input = Vec::new();
+        io::stdin().lock().read_to_end(&mut input)?;
+        io::stdout()
+            .lock()
+            .write_all(faulty::play(fault, &input).as_bytes())?;
+        return Ok(Ok(0));
+    }
+    if arguments.self_test {
+        return Ok(Ok(u8::from(!self_test(arguments.seed)?)));
+    }
+    if let Some(line) = &arguments.again {
+        return again(line, arguments);
+    }
+    if arguments.play.is_none() && arguments.streams > 0 {
+        return Ok(Err("--play is missing (or say --streams 0)".to_string()));
+    }
+
+    let start = Instant::now();
+    let mut tally = Tally::default();
+    let part = |generated| Part {
+        fixed: true,
+        generated,
+        seed: arguments.seed,
+    };
+    let found = records(&Proved, part(arguments.count), &mut tally);
+    let mut difference = found.map(|found| found.in_words(&Proved, "proved"));
+    if let (None, Some(play)) = (&difference, player(arguments)) {
+        if arguments.streams > 0 {
+            let found = streams(&play, part(arguments.streams), &mut tally)?;
+            if let Some(found) = found {
+                difference = Some(found.in_words(&play, "proved")?);
+            }
+        }
+    }
+    if arguments.numbers {
+        print!("{}", tally.numbers_in_words());
+    }
+    if let Some(difference) = &difference {
+        print!("{difference}");
+    }
+    println!(
+        "compared {} records ({} calls) and {} streams ({} lines), seed {}, {} s: {}",
+        tally.records,
+        tally.calls,
+        tally.streams,
+        tally.lines,
+        arguments.seed,
+        start.elapsed().as_secs(),
+        match difference {
+            None => "no difference",
+            Some(_) => "A DIFFERENCE",
+        }
+    );
+    Ok(Ok(u8::from(difference.is_some())))
+}
+
+fn player(arguments: &Arguments) -> Option<Program> {
+    arguments.play.as_ref().map(|path| Program {
+        path: path.clone(),
+        arguments: Vec::new(),
+    })
+}
+
+/// One call or one stream again, with both answers.
+fn again(line: &str, arguments: &Arguments) -> io::Result<Result<u8, String>> {
+    if let Some(digits) = line.strip_prefix("stream ") {
+        let Some(input) = of_hex(digits.trim()) else {
+            return Ok(Err("--again: no hex digits".to_string()));
+        };
+        let Some(play) = player(arguments) else {
+            return Ok(Err("--again: a stream wants --play".to_string()));
+        };
+        let stream = Stream {
+            name: "again".to_string(),
+            input,
+            expected: None,
+            pauses: Vec::new(),
+        };
+        let (one, other) = (
+            play.play(&stream)?,
+            compare::streams::second_plays(&stream.input),
+        );
+        if one == other {
+            print!("no difference:\n{}", String::from_utf8_lossy(&one));
+        } else {
+            print!("{}", StreamDifference { stream }.in_words(&play, "proved")?);
+        }
+        return Ok(Ok(u8::from(one != other)));
+    }
+    let Some(case) = Case::of_line(line) else {
+        return Ok(Err("--again: no call".to_string()));
+    };
+    let (one, other) = (case.run(&Proved), case.run(&Second));
+    if let Some(image) = image_in_words(&case) {
+        println!("{image}");
+    }
+    println!("proved {}", outcome_in_words(&one, &other));
+    println!("second {}", outcome_in_words(&other, &one));
+    Ok(Ok(u8::from(one != other)))
+}
+
+/// Each fault must be found, by the fixed and by the generated cases; without one, nothing may differ.
+fn self_test(seed: u64) -> io::Result<bool> {
+    const RECORDS: u64 = 100_000;
+    const STREAMS: u64 = 2_000;
+    let start = Instant::now();
+    let mut good = true;
+    let parts = |generated| {
+        let part = |fixed, generated| Part {
+            fixed,
+            generated,
+            seed,
+        };
+        [part(true, 0), part(false, generated)]
+    };
+    let mut tell = |name: &str, what: &str, unit: &str, after: [Option<u64>; 2]| {
+        // The fixed and the generated cases together are one comparison.
+        let found = after.iter().any(Option::is_some);
+        good &= found;
+        let said = after.map(|after| after.map_or("not".to_string(), |count| count.to_string()));
+        println!(
+            "{} {name:<16} by fixed {unit} {:>6}, by generated {:>6}  ({what})",
+            if found { "found    " } else { "NOT FOUND" },
+            said[0],
+            said[1],
+        );
+    };
+
+    for (fault, name, what) in RECORD_FAULTS {
+        let after = parts(RECORDS).map(|part| {
+            let mut tally = Tally::default();
+            records(&Faulty(fault), part, &mut tally).map(|_| tally.records)
+        });
+        tell(name, what, "records", after);
+    }
+    let this = std::env::current_exe()?;
+    let faulty_player = |name: &str| Program {
+        path: this.clone(),
+        arguments: vec!["--play-with-fault".to_string(), name.to_string()],
+    };
+    for (_, name, what) in STREAM_FAULTS {
+        let mut after = [None; 2];
+        for (after, part) in after.iter_mut().zip(parts(STREAMS)) {
+            let mut tally = Tally::default();
+            *after = streams(&faulty_player(name), part, &mut tally)?.map(|_| tally.streams);
+        }
+        tell(name, what, "streams", after);
+    }
+
+    // Without a fault the copy agrees, so each fault above was found for what it is.
+    let part = |generated| Part {
+        fixed: true,
+        generated,
+        seed,
+    };
+    let mut tally = Tally::default();
+    if let Some(found) = records(&Faulty(Fault::Faultless), part(RECORDS), &mut tally) {
+        print!("{}", found.in_words(&Faulty(Fault::Faultless), "copy"));
+        good = false;
+    }
+    let player = faulty_player("none");
+    if let Some(found) = streams(&player, part(STREAMS), &mut tally)? {
+        print!("{}", found.in_words(&player, "copy")?);
+        good = false;
+    }
+    println!(
+        "self-test: {} faults, {} records and {} streams without a fault, seed {seed}, {} s: {}",
+        RECORD_FAULTS.len() + STREAM_FAULTS.len(),
+        tally.records,
+        tally.streams,
+        start.elapsed().as_secs(),
+        if good {
+            "each fault found, no false difference"
+        } else {
+            "FAILED"
+        }
+    );
+    Ok(good)
+}

@@ -1,0 +1,112 @@
+//! The second program behind the same interface.
+
+use crate::interface::{
+    plan_image, plan_of, refused, state_image, state_of, word, Side, K_BYTES, PLAN_IMAGE,
+    STATE_IMAGE,
+};
+use second::State;
+
+/// The second program.
+#[derive(Clone, Copy, Debug)]
+pub struct Second;
+
+/// The state in a given image, or the word that refuses the image.
+pub fn state_or_refuse(image: &[u8]) -> Result<State, u64> {
+    if image.len() < STATE_IMAGE {
+        return Err(refused(9));
+    }
+    // A released byte other than 0 or 1: 10, after the record order.
+    state_of(image).ok_or_else(|| match second::check(&plan_of(image)) {
+        answer if answer.is_good() => refused(10),
+        answer => word(answer, 0),
+    })
+}
+
+impl Side for Second {
+    fn check(&self, plan: &[u8]) -> u64 {
+        if plan.len() < PLAN_IMAGE {
+            return refused(9);
+        }
+        word(second::check(&plan_of(plan)), 0)
+    }
+
+    fn read(&self, bytes: &[u8], plan: &mut [u8]) -> u64 {
+        let (answer, found, taken) = second::read(bytes);
+        if !answer.is_good() {
+            return word(answer, taken);
+        }
+        if plan.len() < PLAN_IMAGE {
+            return refused(9);
+        }
+        plan[..PLAN_IMAGE].copy_from_slice(&plan_image(&found));
+        word(answer, taken)
+    }
+
+    fn write(&self, plan: &[u8], out: &mut [u8]) -> u64 {
+        if plan.len() < PLAN_IMAGE {
+            return refused(9);
+        }
+        let (answer, count) = second::write(&plan_of(plan), out);
+        word(answer, count)
+    }
+
+    fn slot_table(&self, plan: &[u8], out: &mut [u8]) -> u64 {
+        if plan.len() < PLAN_IMAGE {
+            return refused(9);
+        }
+        let (answer, count) = second::slot_table(&plan_of(plan), out);
+        word(answer, count)
+    }
+
+    fn verdict(&self, plan: &[u8], k: &mut [u8]) -> u64 {
+        if plan.len() < PLAN_IMAGE {
+            return refused(9);
+        }
+        let (answer, found) = second::verdict(&plan_of(plan));
+        if !answer.is_good() {
+            return word(answer, 0);
+        }
+        if k.len() < K_BYTES {
+            return refused(9);
+        }
+        k[..K_BYTES].copy_from_slice(&found);
+        word(answer, 0)
+    }
+
+    fn fresh(&self, plan: &[u8], state: &mut [u8]) -> u64 {
+        if plan.len() < PLAN_IMAGE {
+            return refused(9);
+        }
+        let (answer, found) = second::fresh(&plan_of(plan));
+        if !answer.is_good() {
+            return word(answer, 0);
+        }
+        if state.len() < STATE_IMAGE {
+            return refused(9);
+        }
+        state[..STATE_IMAGE].copy_from_slice(&state_image(&found));
+        word(answer, 0)
+    }
+
+    fn release(&self, state: &mut [u8], kind: u64, e: u64) -> u64 {
+        match state_or_refuse(state) {
+            Ok(found) => {
+                let (answer, next) = second::release(&found, kind, e);
+                state[..STATE_IMAGE].copy_from_slice(&state_image(&next));
+                word(answer, 0)
+            }
+            Err(word) => word,
+        }
+    }
+
+    fn slice(&self, state: &mut [u8], row: &mut [u8]) -> u64 {
+        match state_or_refuse(state) {
+            Ok(found) => {
+                let (answer, next) = second::slice(&found, row);
+                state[..STATE_IMAGE].copy_from_slice(&state_image(&next));
+                word(answer, 0)
+            }
+            Err(word) => word,
+        }
+    }
+}

@@ -1,0 +1,144 @@
+//! A first difference made small: bytes are taken away and lowered as long as the difference stays.
+
+use crate::interface::{Case, Op, PLAN_IMAGE, STATE_IMAGE};
+
+/// At most so many tries.
+const TRIES: u32 = 20_000;
+
+/// Keeps the smallest that still differs.
+struct Smallest<'a, T> {
+    best: T,
+    differs: &'a mut dyn FnMut(&T) -> bool,
+    tries: u32,
+}
+
+impl<T: PartialEq> Smallest<'_, T> {
+    fn try_one(&mut self, tried: T) -> bool {
+        if tried == self.best || self.tries == 0 {
+            return false;
+        }
+        self.tries -= 1;
+        let better = (self.differs)(&tried);
+        if better {
+            self.best = tried;
+        }
+        better
+    }
+}
+
+/// A smaller call on which the two sides still differ.
+pub fn smaller_case(case: &Case, differs: &mut dyn FnMut(&Case) -> bool) -> Case {
+    let mut smallest = Smallest {
+        best: case.clone(),
+        differs,
+        tries: TRIES,
+    };
+    loop {
+        let mut better = false;
+        for kind in (0..16).rev() {
+            better |= smallest.try_one(without_kind(&smallest.best, kind));
+        }
+        for place in (0..smallest.best.given.len()).rev() {
+            better |= lower_byte(&mut smallest, place, |case| &mut case.given);
+        }
+        for place in 0..smallest.best.lent.len() {
+            better |= lower_byte(&mut smallest, place, |case| &mut case.lent);
+        }
+        for cut in [8, 1] {
+            while smallest.best.given.len() >= cut {
+                let mut tried = smallest.best.clone();
+                tried.given.truncate(tried.given.len() - cut);
+                if !smallest.try_one(tried) {
+                    break;
+                }
+                better = true;
+            }
+            while smallest.best.lent.len() >= cut {
+                let mut tried = smallest.best.clone();
+                tried.lent.truncate(tried.lent.len() - cut);
+                if !smallest.try_one(tried) {
+                    break;
+                }
+                better = true;
+            }
+        }
+        for to in [|v: u64| v & 0xFF, |v| v / 2, |v: u64| v.saturating_sub(1)] {
+            let mut tried = smallest.best.clone();
+            tried.kind = to(tried.kind);
+            better |= smallest.try_one(tried);
+            let mut tried = smallest.best.clone();
+            tried.e = to(tried.e);
+            better |= smallest.try_one(tried);
+        }
+        if !better {
+            return smallest.best;
+        }
+    }
+}
+
+/// One byte set to 0, halved or lowered by one.
+fn lower_byte(
+    smallest: &mut Smallest<Case>,
+    place: usize,
+    buffer: fn(&mut Case) -> &mut Vec<u8>,
+) -> bool {
+    for lower in [|_| 0, |v| v / 2, |v: u8| v.saturating_sub(1)] {
+        let mut tried = smallest.best.clone();
+        let bytes = buffer(&mut tried);
+        if place >= bytes.len() {
+            return false;
+        }
+        bytes[place] = lower(bytes[place]);
+        if smallest.try_one(tried) {
+            return true;
+        }
+    }
+    false
+}
+
+/// The image without one kind: the later kinds move up, in the plan and in the state.
+fn without_kind(case: &Case, kind: usize) -> Case {
+    let mut tried = case.clone();
+    let image = &mut tried.given;
+    if case.op == Op::Read || image.len() < PLAN_IMAGE || kind >= usize::from(image[2]) {
+        return tried;
+    }
+    image[2] -= 1;
+    let mut move_up = |from: usize| {
+        image[from + 7 * kind..from + 7 * 16].rotate_left(7);
+        image[from + 7 * 15..from + 7 * 16].fill(0);
+    };
+    move_up(28);
+    if matches!(case.op, Op::Release | Op::Slice) && case.given.len() >= STATE_IMAGE {
+        move_up(PLAN_IMAGE + 4);
+    }
+    if tried.kind > kind as u64 {
+        tried.kind -= 1;
+    }
+    tried
+}
+
+/// A shorter stream on which the two players still differ: commands are taken out, then single bytes lowered.
+pub fn smaller_stream(input: &[u8], differs: &mut dyn FnMut(&Vec<u8>) -> bool) -> Vec<u8> {
+    let mut smallest = Smallest {
+        best: input.to_vec(),
+        differs,
+        tries: 2_000,
+    };
+    loop {
+        let mut better = false;
+        let plan = second::bytes::bytes_asked_for(&smallest.best);
+        for piece in [300, 48, 12, 3, 1] {
+            let mut end = smallest.best.len();
+            while end >= plan + piece {
+                let mut tried = smallest.best.clone();
+                tried.drain(end - piece..end);
+                better |= smallest.try_one(tried);
+                end -= piece;
+            }
+        }
+        if !better {
+            return smallest.best;
+        }
+    }
+}

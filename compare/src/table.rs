@@ -1,0 +1,271 @@
+//! What document 01 gives in numbers: P1 to P11, "Run and compared" and the player's example.
+//!
+//! Here the expected outcome is written down, so that both sides are held to it. P3 and P4 speak of
+//! supply, which no function on bytes gives; the second program's own tests have them.
+
+use crate::interface::{
+    plan_image, state_image, word, Case, Op, Outcome, K_BYTES, PLAN_IMAGE, STATE_IMAGE,
+};
+use second::bytes::pack;
+use second::generate::{release_bytes, SLICE};
+use second::{Answer, Kind, KindState, Plan, State};
+
+/// A case of document 01 and what it must give.
+pub struct Named {
+    /// Where 01 says it.
+    pub name: &'static str,
+    /// The call.
+    pub case: Case,
+    /// The word, and both buffers after the call.
+    pub expected: Outcome,
+}
+
+const PLAN_A: [u8; 22] = [
+    0x22, 0x18, 0x40, 0x10, 0x0C, 0x20, 0x14, 0x00, 0x10, 0x01, 0x00, 0x0C, 0x20, 0x08, 0x00, 0x80,
+    0x04, 0x20, 0x10, 0x01, 0x00, 0x04,
+];
+
+/// Collects the cases: a good call names the bytes it puts first in the lent buffer, a refused one its number.
+struct Table {
+    rows: Vec<Named>,
+}
+
+impl Table {
+    fn good(&mut self, name: &'static str, case: Case, count: usize, first: &[u8]) {
+        let mut lent = case.lent.clone();
+        lent[..first.len()].copy_from_slice(first);
+        let expected = Outcome {
+            word: word(Answer::GOOD, count),
+            given: case.given.clone(),
+            lent,
+            outside: false,
+        };
+        self.rows.push(Named {
+            name,
+            case,
+            expected,
+        });
+    }
+
+    fn refused(&mut self, name: &'static str, case: Case, number: u64, place: u64, excess: u64) {
+        let answer = Answer {
+            number,
+            place,
+            excess,
+        };
+        let expected = Outcome {
+            word: word(answer, 0),
+            given: case.given.clone(),
+            lent: case.lent.clone(),
+            outside: false,
+        };
+        self.rows.push(Named {
+            name,
+            case,
+            expected,
+        });
+    }
+
+    /// The verdict and the fresh start alike.
+    fn refused_by_8(&mut self, name: &'static str, plan: &Plan, place: u64, excess: u64) {
+        for op in [Op::Verdict, Op::Fresh] {
+            self.refused(name, on(plan, op, STATE_IMAGE), 8, place, excess);
+        }
+    }
+
+    fn admitted(&mut self, name: &'static str, plan: &Plan, k: &[u8]) {
+        let mut ks = [0; K_BYTES];
+        ks[..k.len()].copy_from_slice(k);
+        self.good(name, on(plan, Op::Verdict, K_BYTES + 2), 0, &ks);
+        let fresh = State {
+            plan: *plan,
+            ..State::default()
+        };
+        let case = on(plan, Op::Fresh, STATE_IMAGE + 2);
+        self.good(name, case, 0, &state_image(&fresh));
+    }
+
+    /// The record and its bytes, both refused before the verdict.
+    fn out_of_order(&mut self, name: &'static str, plan: &Plan, number: u64, place: u64) {
+        for op in [Op::Check, Op::Write, Op::SlotTable, Op::Verdict, Op::Fresh] {
+            let lent = if op == Op::Check { 0 } else { 600 };
+            self.refused(name, on(plan, op, lent), number, place, 0);
+        }
+        self.refused(name, reading(&pack(plan), PLAN_IMAGE), number, place, 0);
+    }
+}
+
+fn lent(count: usize) -> Vec<u8> {
+    vec![0xEE; count]
+}
+
+fn on(plan: &Plan, op: Op, count: usize) -> Case {
+    Case::new(op, plan_image(plan).to_vec(), lent(count))
+}
+
+fn reading(bytes: &[u8], count: usize) -> Case {
+    Case::new(Op::Read, bytes.to_vec(), lent(count))
+}
+
+fn slicing(state: &State, count: usize) -> Case {
+    Case::new(Op::Slice, state_image(state).to_vec(), lent(count))
+}
+
+/// P1 to P11 (without P3 and P4) and "Run and compared".
+pub fn table() -> Vec<Named> {
+    let mut table = Table { rows: Vec::new() };
+    let (a, b) = (Plan::a(), Plan::b());
+
+    let image = plan_image(&a);
+    table.good("P1, read", reading(&PLAN_A, PLAN_IMAGE), 22, &image);
+    let more = [&PLAN_A[..], &[0xFF, 0xFF]].concat();
+    table.good(
+        "P1, more behind",
+        reading(&more, PLAN_IMAGE + 1),
+        22,
+        &image,
+    );
+    table.good("P1, written", on(&a, Op::Write, 25), 22, &PLAN_A);
+    let slots = [1, 1, 1, 2, 2, 2, 2, 2];
+    table.good("P2", on(&a, Op::SlotTable, 10), 8, &slots);
+    table.admitted("P5", &a, &[1, 1, 1]);
+    let mut longer = a;
+    longer.kinds[0].length = 7;
+    table.refused_by_8("P6", &longer, 0, 1);
+    let mut earlier = a;
+    for length in [2, 3] {
+        earlier.kinds[0] = Kind {
+            project: 0,
+            separation: 4,
+            deadline: 3,
+            length,
+        };
+        match length {
+            2 => table.admitted("P7 with C 2", &earlier, &[1, 1, 1]),
+            _ => table.refused_by_8("P7 with C 3", &earlier, 0, 1),
+        }
+    }
+    table.admitted("P8", &b, &[2, 1, 1]);
+    let opening = Plan::of(2, 1, &[(2, 2)], &[(0, 3, 3, 2), (0, 6, 6, 4), (0, 6, 6, 3)]);
+    table.refused_by_8("P9", &opening, 0, 4);
+    let mut wider = a;
+    wider.projects[1].budget = 6;
+    table.out_of_order("P10", &wider, 7, 0);
+    let mut wider = a;
+    wider.projects[0].budget = 5;
+    table.out_of_order("P11", &wider, 4, 0);
+
+    let none = Plan {
+        n: 0,
+        kinds: [Kind::default(); 16],
+        ..a
+    };
+    table.out_of_order("n = 0 gives 2", &none, 2, 0);
+    let two = reading(&PLAN_A[..2], PLAN_IMAGE);
+    table.refused("two bytes give 1", two, 1, 0, 0);
+    let exactly = "a budget sum of exactly mF passes";
+    table.good(exactly, on(&a, Op::Check, 0), 0, &[]);
+
+    // Kind 1 of plan A has T 4 and was released at clock 0.
+    let mut state = State {
+        plan: a,
+        clock: 3,
+        ..State::default()
+    };
+    state.kinds[1].released = true;
+    let case = Case::release(state_image(&state).to_vec(), 1, 2);
+    table.refused("release at T-1 gives 14", case, 14, 0, 0);
+    state.clock = 4;
+    let case = Case::release(state_image(&state).to_vec(), 1, 2);
+    state.kinds[1] = KindState {
+        released: true,
+        at: 4,
+        left: 2,
+    };
+    table.good("release at exactly T passes", case, 0, &[]);
+    if let Some(row) = table.rows.last_mut() {
+        row.expected.given = state_image(&state).to_vec();
+    }
+
+    let short = "one byte short";
+    table.refused(short, reading(&PLAN_A[..21], PLAN_IMAGE), 1, 0, 0);
+    table.refused(short, reading(&PLAN_A, PLAN_IMAGE - 1), 9, 0, 0);
+    table.refused(short, on(&a, Op::Write, 21), 9, 0, 0);
+    table.refused(short, on(&a, Op::SlotTable, 7), 9, 0, 0);
+    table.refused(short, on(&a, Op::Verdict, K_BYTES - 1), 9, 0, 0);
+    table.refused(short, on(&a, Op::Fresh, STATE_IMAGE - 1), 9, 0, 0);
+    table.refused(short, slicing(&state, 1), 9, 0, 0);
+    for op in [Op::Check, Op::Write, Op::SlotTable, Op::Verdict, Op::Fresh] {
+        let mut case = on(&a, op, 300);
+        case.given.pop();
+        if op == Op::Check {
+            case.lent.clear();
+        }
+        table.refused(short, case, 9, 0, 0);
+    }
+    let mut case = slicing(&state, 8);
+    case.given.pop();
+    table.refused(short, case, 9, 0, 0);
+    let mut case = Case::release(state_image(&state).to_vec(), 2, 1);
+    case.given.pop();
+    table.refused(short, case, 9, 0, 0);
+    table.rows
+}
+
+/// The player's example: its input and its eleven lines.
+pub fn example() -> (Vec<u8>, &'static str) {
+    let mut input = PLAN_A.to_vec();
+    for (kind, e) in [(0, 6), (1, 2), (2, 2)] {
+        input.extend(release_bytes(kind, e));
+    }
+    input.extend(SLICE.repeat(4));
+    for (kind, e) in [(1, 2), (2, 1)] {
+        input.extend(release_bytes(kind, e));
+    }
+    let lines = "\
+plan ok
+r 0 6 ok
+r 1 2 ok
+r 2 2 ok
+t 0: 1 2
+t 1: 1 2
+t 2: 1 3
+t 3: 3 0
+r 1 2 ok
+r 2 1 refused 14
+end 4
+";
+    (input, lines)
+}
+
+/// "Run and compared" where a stream can show it, and its lines: n = 0, two bytes, all cells, T-1 and T.
+pub fn run_and_compared() -> Vec<(&'static str, Vec<u8>, &'static str)> {
+    let mut none = PLAN_A;
+    // The n of the header is its bits 8 to 12.
+    none[1] &= 0b0000_0111;
+    let release = release_bytes(1, 2);
+    let mut early = PLAN_A.to_vec();
+    early.extend(release);
+    early.extend(SLICE.repeat(3));
+    early.extend(release);
+    early.extend(SLICE);
+    early.extend(release);
+    vec![
+        ("n = 0 gives 2", none.to_vec(), "plan refused 2 at 0\n"),
+        (
+            "two bytes give 1",
+            PLAN_A[..2].to_vec(),
+            "plan refused 1 at 0\n",
+        ),
+        (
+            "a budget sum of exactly mF passes",
+            PLAN_A.to_vec(),
+            "plan ok\nend 0\n",
+        ),
+        (
+            "release at exactly T passes, at T-1 gives 14",
+            early,
+            "plan ok\nr 1 2 ok\nt 0: 0 2\nt 1: 0 2\nt 2: 0 0\nr 1 2 refused 14\nt 3: 0 0\nr 1 2 ok\nend 4\n",
+        ),
+    ]
+}

@@ -1,0 +1,22 @@
+use Rattle.player.specs.Session.Properties.{waits-on}
+use borrow.Author.Needs.{needs}
+use Rattle.player.proofs.session.waits.Statement.{statement}
+use Rattle.player.proofs.session.waits.Tie as tie
+use Rattle.player.proofs.session.waits.Reads as reads
+use Rattle.player.proofs.session.waits.Lts as lts
+use Rattle.plan.proofs.answer.Answer.number.Reads as number-reads
+
+-- src/session.rt:49:9
+returns : tie.Need-returns
+returns c = search needs
+
+-- src/session.rt:51:5
+number-requires : tie.Need-number-requires
+number-requires c κs = search needs
+
+-- src/session.rt:45:1
+returns-2 : tie.Need-returns-2
+returns-2 c = search waits-on
+
+pub waits-spec : {M : Type 1} → statement M
+waits-spec = tie.close (tie.spec returns number-requires returns-2)

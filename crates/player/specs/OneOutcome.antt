@@ -1,0 +1,32 @@
+-- Each public operation's contract admits one outcome.
+-- Assumes nothing.
+use mathlib.Core.Path.{_≡_, sym, _∙_}
+use mathlib.Core.Bool.{Bool, true, false}
+use mathlib.Core.List.{List}
+use Prim.Native.Nat.{ℕ}
+use Rattle.player.specs.declared.command.Command.{Command}
+use Rattle.player.specs.declared.session.Session.{Session}
+use Rattle.player.specs.declared.session.Progress.{Progress}
+use Rattle.player.specs.Command.{commandOf}
+use Rattle.player.specs.Kept.{Keeps}
+use Rattle.player.specs.Session.{unopened, atStage, Plays}
+
+-- `Command::decode`
+pub decode-one-outcome : (bytes : List ℕ) (a b : Command) → a ≡ commandOf bytes → b ≡ commandOf bytes → a ≡ b
+decode-one-outcome bytes a b p q = p ∙ sym q
+
+-- `keep`
+pub keep-one-outcome : (bytes : List ℕ) (from to a b : ℕ) (after later : List ℕ) → Keeps bytes from to a after → Keeps bytes from to b later → (a ≡ b) × (after ≡ later)
+keep-one-outcome bytes from to a b after later x y = (x .result ∙ sym (y .result), x .buffer ∙ sym (y .buffer))
+
+-- `Session::new`
+pub new-one-outcome : (a b : Session) → a ≡ unopened → b ≡ unopened → a ≡ b
+new-one-outcome a b p q = p ∙ sym q
+
+-- `Session::is_over`
+pub is-over-one-outcome : (x : Session) (a b : Bool) → a ≡ atStage (x .stage) false false true → b ≡ atStage (x .stage) false false true → a ≡ b
+is-over-one-outcome x a b p q = p ∙ sym q
+
+-- `Session::play`
+pub play-one-outcome : (x : Session) (last : Bool) (bytes out : List ℕ) (r s : Progress) (held later : List ℕ) → Plays x last bytes out r held → Plays x last bytes out s later → (r ≡ s) × (held ≡ later)
+play-one-outcome x last bytes out r s held later a b = (a .result ∙ sym (b .result), a .buffer ∙ sym (b .buffer))

@@ -1,0 +1,451 @@
+-- Laws of a play line by line: each way out, over what the code has in hand there, and the steps of the loop.
+-- Assumes nothing.
+use mathlib.Core.Path.{_≡_, refl, sym, ap, ap₂, _∙_}
+use mathlib.Core.Bool.{Bool, true, false, true≢false, cond, not, _&&_, _||_}
+use mathlib.Core.List.{List, [], _∷_, _++_, append-assoc, append-nil}
+use Prim.Native.Nat.{ℕ, zero, suc, _+_, _-_, _≤_, _<_}
+use native.Mathlib.Decide.{decLt}
+use native.Mathlib.Omega.{arith}
+use lib.Dec.{ltb, eqb}
+use lib.ListN.{length, take, drop, length-append, length-drop, take-append-drop}
+use lib.Seq.{sets, sets-eq, take-at, drop-at, drop-drop, length-take-le, length-sets}
+use borrow.Author.Tests.{lt-ltb, le-ltb, eq-eqb, ne-eqb, eqb-true}
+use Rattle.plan.specs.declared.Plan.{Plan}
+use Rattle.plan.specs.declared.answer.Answer.{Answer}
+use Rattle.plan.specs.declared.answer.Answer.the-variants.{Good, No}
+use Rattle.plan.specs.declared.answer.Refusal.{Refusal}
+use Rattle.plan.specs.Answer.{number, _andThen_, ifGood}
+use Rattle.plan.specs.Answer.Properties.{andThen-good, andThen-no, andThen-left}
+use Rattle.plan_bytes.specs.declared.Reading.{Reading}
+use Rattle.plan_bytes.specs.Reading.{readOf}
+use Rattle.plan_bytes.specs.Parts.Properties.{handed-on}
+use Rattle.plan_bytes.specs.RoundTrip.Writes.{read-good}
+use Rattle.rack.specs.declared.State.{State}
+use Rattle.rack.specs.declared.Next.{Next}
+use Rattle.rack.specs.State.{noState}
+use Rattle.rack.specs.Start.{startOf}
+use Rattle.rack.specs.Slice.{sliceOf}
+use Rattle.rack.specs.Row.{rowByte}
+use Rattle.player.specs.declared.command.Command.{Command}
+use Rattle.player.specs.declared.command.Command.the-variants.{Slice, Release, Bad}
+use Rattle.player.specs.declared.turn.Turn.{Turn}
+use Rattle.player.specs.declared.session.Stage.{Stage}
+use Rattle.player.specs.declared.session.Stage.the-variants.{Opening, Running, Over}
+use Rattle.player.specs.declared.session.Session.{Session}
+use Rattle.player.specs.declared.session.Step.{Step}
+use Rattle.player.specs.declared.session.Progress.{Progress}
+use Rattle.player.specs.Text.{Puts}
+use Rattle.player.specs.Text.Properties.{puts-none, sets-nothing}
+use Rattle.player.specs.Line.{planLine, releaseLine, sliceLine, badLine, endLine}
+use Rattle.player.specs.Command.{commandOf}
+use Rattle.player.specs.Command.Properties.{command-short}
+use Rattle.player.specs.Turn.{rowRoom, lineOf, Turns}
+use Rattle.player.specs.Played.{opening}
+use Rattle.player.specs.Played.Front.{one-short}
+use Rattle.player.specs.Session.{unopened, running, over, atStage, Move, stay, firstLine, openOf, commandMove, lastLine, runOf, stepOf, Steps, lineRoom, onto, linesOf, playOf, progressOf, Plays}
+
+-- ---- where a play stands
+
+pub new-is : (s : State) → s ≡ noState → _≡_ {A = Session} (record { stage = Opening; state = s }) unopened
+new-is s e = λ i. record { stage = Opening; state = e i }
+
+-- one of three, where the stage is known
+pub at-opening : {A : Type 0} (g : Stage) (a b c : A) → g ≡ Opening → a ≡ atStage g a b c
+at-opening g a b c e = rw e
+
+pub at-running : {A : Type 0} (g : Stage) (a b c : A) → g ≡ Running → b ≡ atStage g a b c
+at-running g a b c e = rw e
+
+pub at-over : {A : Type 0} (g : Stage) (a b c : A) → g ≡ Over → c ≡ atStage g a b c
+at-over g a b c e = rw e
+
+pub waits-on : (last : Bool) (n : ℕ) (a : Answer) → last ≡ false → n ≡ number a → eqb n 1 ≡ (not last && eqb (number a) 1)
+waits-on last n a e f = rw (e, f)
+
+-- ---- the ways out of a line, into a buffer
+
+module _ (out held : List ℕ) (at next : ℕ) where
+  -- nothing is taken, and nothing printed
+  pub stays : (m : Move) (x : Session) → m ≡ stay x → Steps m out at (record { session = x; taken = 0; next = at }) out
+  stays m x e = rw e (record { session = refl; taken = refl; text = puts-none out at; room = omega arith })
+
+  -- the first line
+  pub first-no : (m : Move) (a : Answer) (w : Refusal) (s z : State) (v : Session) (n : ℕ) → m ≡ firstLine a s n → a ≡ No w → z ≡ noState → v ≡ over z → Puts out at (planLine a) next held → next ≤ at + 128
+      → Steps m out at (record { session = v; taken = 0; next = next }) held
+  first-no m a w s z v n q e f g p l = rw (q, e) (record { session = g ∙ ap over f; taken = refl; text = rw e at p; room = l })
+
+  pub start-no : (p : Plan) (x : Next) (w : Refusal) (z : State) (v : Session) (n : ℕ) → x ≡ startOf p → x .answer ≡ No w → z ≡ noState → v ≡ over z → Puts out at (planLine (x .answer)) next held → next ≤ at + 128
+      → Steps (firstLine (startOf p .answer) (startOf p .state) n) out at (record { session = v; taken = 0; next = next }) held
+  start-no p x w z v n q e f g t l = rw (← q) (first-no (firstLine (x .answer) (x .state) n) (x .answer) w (x .state) z v n refl e f g t l)
+
+  pub start-good : (p : Plan) (x : Next) (v : Session) (n : ℕ) → x ≡ startOf p → x .answer ≡ Good → v ≡ running (x .state) → Puts out at (planLine (x .answer)) next held → next ≤ at + 128
+      → Steps (firstLine (startOf p .answer) (startOf p .state) n) out at (record { session = v; taken = n; next = next }) held
+  start-good p x v n q e g t l = rw (← q, e) (record { session = g; taken = refl; text = rw e at t; room = l })
+
+  module _ (x : Session) (last : Bool) (bytes : List ℕ) (r : Reading) (b : Bool) (reading-is : r ≡ readOf bytes) (waits-is : b ≡ (not last && eqb (number (r .answer)) 1)) where
+    pub open-waits : b ≡ true → Steps (openOf x last bytes) out at (record { session = x; taken = 0; next = at }) out
+    unfolding openOf
+    open-waits t = stays (openOf x last bytes) x (rw (← reading-is, ← waits-is, t))
+
+    opens : b ≡ false → openOf x last bytes ≡ firstLine (r .answer andThen startOf (r .plan) .answer) (startOf (r .plan) .state) (r .taken)
+    unfolding openOf opening
+    opens t = rw (← reading-is, ← waits-is, t)
+
+    pub open-refused : (w : Refusal) (z : State) (v : Session) → b ≡ false → r .answer ≡ No w → z ≡ noState → v ≡ over z → Puts out at (planLine (r .answer)) next held → next ≤ at + 128
+        → Steps (openOf x last bytes) out at (record { session = v; taken = 0; next = next }) held
+    open-refused w z v t e f g p l =
+        let a : (r .answer andThen startOf (r .plan) .answer) ≡ r .answer = andThen-no (r .answer) (startOf (r .plan) .answer) w e ∙ sym e in
+        first-no (openOf x last bytes) (r .answer) w (startOf (r .plan) .state) z v (r .taken) (opens t ∙ ap (λ (y : Answer). firstLine y (startOf (r .plan) .state) (r .taken)) a) e f g p l
+
+    pub open-started : (step : Step) → b ≡ false → r .answer ≡ Good → Steps (firstLine (startOf (r .plan) .answer) (startOf (r .plan) .state) (r .taken)) out at step held → Steps (openOf x last bytes) out at step held
+    open-started step t e p =
+        let q : openOf x last bytes ≡ firstLine (startOf (r .plan) .answer) (startOf (r .plan) .state) (r .taken) =
+        opens t ∙ ap (λ (y : Answer). firstLine y (startOf (r .plan) .state) (r .taken)) (andThen-good (r .answer) (startOf (r .plan) .answer) e) in
+        rw q p
+
+  -- a command
+  pub obey-slice : (s : State) (k : Command) (t : Turn) (v : Session) → k ≡ Slice → Turns s Slice out at t held → v ≡ running (t .state) → Steps (commandMove s k) out at (record { session = v; taken = 3; next = t .next }) held
+  unfolding commandMove
+  obey-slice s k t v e p g = rw e (record { session = g ∙ ap running (p .state); taken = refl; text = p .line; room = p .room })
+
+  pub obey-release : (s : State) (k : Command) (kind e : ℕ) (t : Turn) (v : Session) → k ≡ Release kind e → Turns s (Release kind e) out at t held → v ≡ running (t .state)
+      → Steps (commandMove s k) out at (record { session = v; taken = 3; next = t .next }) held
+  unfolding commandMove
+  obey-release s k kind n t v e p g = rw e (record { session = g ∙ ap running (p .state); taken = refl; text = p .line; room = p .room })
+
+  pub obey-bad : (s : State) (k : Command) (v : Session) → k ≡ Bad → Puts out at (badLine ++ endLine (s .clock)) next held → next ≤ at + 128 → v ≡ over s
+      → Steps (commandMove s k) out at (record { session = v; taken = 0; next = next }) held
+  unfolding commandMove
+  obey-bad s k v e p l g = rw e (record { session = g; taken = refl; text = p; room = l })
+
+  module _ (x : Session) (last : Bool) (bytes : List ℕ) where
+    pub run-ends : (v : Session) → last ≡ true → length bytes ≡ 0 → Puts out at (endLine (x .state .clock)) next held → next ≤ at + 64 → v ≡ over (x .state)
+        → Steps (runOf x last bytes) out at (record { session = v; taken = 0; next = next }) held
+    unfolding runOf
+    run-ends v e n p l g = rw (e, eq-eqb (length bytes) 0 n) (record { session = g; taken = refl; text = p; room = omega arith })
+
+    pub run-left : (k : Command) (step : Step) → last ≡ true → (length bytes ≡ 0 → ⊥) → k ≡ commandOf bytes → Steps (commandMove (x .state) k) out at step held → Steps (runOf x last bytes) out at step held
+    unfolding runOf
+    run-left k step e n c p = rw (e, ne-eqb (length bytes) 0 n, ← c) p
+
+    pub run-waits : last ≡ false → length bytes < 3 → Steps (runOf x last bytes) out at (record { session = x; taken = 0; next = at }) out
+    unfolding runOf
+    run-waits e n = stays (runOf x last bytes) x (rw (e, lt-ltb (length bytes) 3 n))
+
+    pub run-obeys : (k : Command) (step : Step) → last ≡ false → 3 ≤ length bytes → k ≡ commandOf bytes → Steps (commandMove (x .state) k) out at step held → Steps (runOf x last bytes) out at step held
+    unfolding runOf
+    run-obeys k step e n c p = rw (e, le-ltb (length bytes) 3 n, ← c) p
+
+    pub step-opens : (step : Step) → x .stage ≡ Opening → Steps (openOf x last bytes) out at step held → Steps (stepOf x last bytes) out at step held
+    unfolding stepOf
+    step-opens step e p = rw (at-opening (x .stage) (openOf x last bytes) (runOf x last bytes) (stay x) e) at p
+
+    pub step-runs : (step : Step) → x .stage ≡ Running → Steps (runOf x last bytes) out at step held → Steps (stepOf x last bytes) out at step held
+    unfolding stepOf
+    step-runs step e p = rw (at-running (x .stage) (openOf x last bytes) (runOf x last bytes) (stay x) e) at p
+
+    pub step-over : x .stage ≡ Over → Steps (stepOf x last bytes) out at (record { session = x; taken = 0; next = at }) out
+    unfolding stepOf
+    step-over e = stays (stepOf x last bytes) x (rw e)
+
+-- ---- a line takes no more than is there
+
+pub read-whole : (s : List ℕ) → readOf s .answer ≡ Good → readOf s .taken ≤ length s
+unfolding readOf
+read-whole s e = rw e (read-good s e .long)
+
+first-most : (bytes : List ℕ) (a : Answer) (s : State) → opening bytes ≡ a → firstLine a s (readOf bytes .taken) .taken ≤ length bytes
+unfolding opening
+first-most bytes Good s e = read-whole bytes (andThen-left (readOf bytes .answer) (startOf (readOf bytes .plan) .answer) e)
+first-most bytes (No w) s e = omega arith
+
+command-most : (s : State) (k : Command) → commandMove s k .taken ≤ 3
+unfolding commandMove
+command-most s Slice = omega arith
+command-most s (Release kind e) = omega arith
+command-most s Bad = omega arith
+
+obey-most : (s : State) (bytes : List ℕ) → commandMove s (commandOf bytes) .taken ≤ length bytes
+unfolding commandMove
+obey-most s bytes =
+    elim (decLt (length bytes) 3) [
+      | yes l ↦ rw (← command-short bytes l) (omega arith)
+      | no l ↦ omega (arith, command-most s (commandOf bytes))
+    ]
+
+open-most : (x : Session) (last : Bool) (bytes : List ℕ) → openOf x last bytes .taken ≤ length bytes
+unfolding openOf
+open-most x last bytes = go (not last && eqb (number (readOf bytes .answer)) 1)
+  where
+    go : (b : Bool) → cond b (stay x) (firstLine (opening bytes) (startOf (readOf bytes .plan) .state) (readOf bytes .taken)) .taken ≤ length bytes
+    go true = omega arith
+    go false = first-most bytes (opening bytes) (startOf (readOf bytes .plan) .state) refl
+
+run-most : (x : Session) (last : Bool) (bytes : List ℕ) → runOf x last bytes .taken ≤ length bytes
+unfolding runOf
+run-most x true bytes = go (eqb (length bytes) 0)
+  where
+    go : (b : Bool) → cond b (lastLine (x .state)) (commandMove (x .state) (commandOf bytes)) .taken ≤ length bytes
+    go true = omega arith
+    go false = obey-most (x .state) bytes
+run-most x false bytes = go (ltb (length bytes) 3)
+  where
+    go : (b : Bool) → cond b (stay x) (commandMove (x .state) (commandOf bytes)) .taken ≤ length bytes
+    go true = omega arith
+    go false = obey-most (x .state) bytes
+
+pub step-most : (x : Session) (last : Bool) (bytes : List ℕ) → stepOf x last bytes .taken ≤ length bytes
+unfolding stepOf
+step-most x last bytes = go (x .stage)
+  where
+    go : (g : Stage) → atStage g (openOf x last bytes) (runOf x last bytes) (stay x) .taken ≤ length bytes
+    go Opening = open-most x last bytes
+    go Running = run-most x last bytes
+    go Over = omega arith
+
+-- ---- lines one behind the other
+
+pub onto-none : (m : Move) → m ≡ onto 0 [] m
+onto-none m = let e : m .taken ≡ 0 + m .taken = omega arith in λ i. record { session = m .session; taken = e i; text = m .text }
+
+pub onto-onto : (n k : ℕ) (xs ys : List ℕ) (m : Move) → onto n xs (onto k ys m) ≡ onto (n + k) (xs ++ ys) m
+onto-onto n k xs ys m = let e : n + (k + m .taken) ≡ n + k + m .taken = omega arith in λ i. record { session = m .session; taken = e i; text = sym (append-assoc xs ys (m .text)) i }
+
+-- where the lines stop
+pub lines-none : (n : ℕ) (x : Session) (last : Bool) (bytes : List ℕ) (room : ℕ) → n ≤ 0 → linesOf n x last bytes room ≡ stay x
+unfolding linesOf
+lines-none zero x last bytes room l = refl
+lines-none (suc n) x last bytes room l = absurd (omega arith)
+
+pub lines-full : (n : ℕ) (x : Session) (last : Bool) (bytes : List ℕ) (room : ℕ) → room < 128 → linesOf n x last bytes room ≡ stay x
+unfolding linesOf
+lines-full zero x last bytes room l = refl
+lines-full (suc n) x last bytes room l = rw (lt-ltb room 128 l)
+
+pub lines-idle : (n : ℕ) (x : Session) (last : Bool) (bytes : List ℕ) (room : ℕ) → 128 ≤ room → length (stepOf x last bytes .text) ≡ 0 → linesOf n x last bytes room ≡ stay x
+unfolding linesOf
+lines-idle zero x last bytes room l e = refl
+lines-idle (suc n) x last bytes room l e = rw (le-ltb room 128 l, eq-eqb (length (stepOf x last bytes .text)) 0 e)
+
+-- where they go on
+pub lines-on : (n : ℕ) (x : Session) (last : Bool) (bytes : List ℕ) (room : ℕ) → 0 < n → 128 ≤ room → 0 < length (stepOf x last bytes .text)
+    → linesOf n x last bytes room
+    ≡ onto (stepOf x last bytes .taken) (stepOf x last bytes .text) (linesOf (n - 1) (stepOf x last bytes .session) last (drop (stepOf x last bytes .taken) bytes) (room - length (stepOf x last bytes .text)))
+unfolding linesOf
+lines-on zero x last bytes room l r t = absurd (omega arith)
+lines-on (suc n) x last bytes room l r t =
+    let e : suc n - 1 ≡ n = omega arith in
+    rw (le-ltb room 128 r, ne-eqb (length (stepOf x last bytes .text)) 0 (omega arith), e)
+
+-- ---- the loop: what has been printed stands at the front, and what is left is still to be played
+
+pub record Playing (x : Session) (last : Bool) (bytes start : List ℕ) (session : Session) (taken count lines : ℕ) (out : List ℕ) : Type 0 where
+  pub whole : playOf x last bytes (length start) ≡ onto taken (take count out) (linesOf lines session last (drop taken bytes) (length start - count))
+  pub long : length out ≡ length start
+  pub count-most : count ≤ length start
+  pub taken-most : taken ≤ length bytes
+  pub kept : drop count out ≡ drop count start
+
+pub playing-starts : (x : Session) (last : Bool) (bytes start : List ℕ) → Playing x last bytes start x 0 0 (length start) start
+unfolding playOf
+playing-starts x last bytes start =
+    let e : length start - 0 ≡ length start = omega arith in
+    record {
+      whole = rw e (onto-none (linesOf (length start) x last bytes (length start)));
+      long = refl;
+      count-most = omega arith;
+      taken-most = omega arith;
+      kept = refl;
+    }
+
+module _ (x : Session) (last : Bool) (bytes start : List ℕ) (session : Session) (taken count lines : ℕ) (out : List ℕ) (p : Playing x last bytes start session taken count lines out) where
+  -- the lines stop: the outcome
+  stopped : linesOf lines session last (drop taken bytes) (length start - count) ≡ stay session → Plays x last bytes start (record { session = session; taken = taken; count = count }) out
+  stopped e =
+      let m : playOf x last bytes (length start) ≡ onto taken (take count out) (stay session) = p .whole ∙ ap (onto taken (take count out)) e in
+      let t : playOf x last bytes (length start) .text ≡ take count out = ap (λ (k : Move). k .text) m ∙ append-nil (take count out) in
+      let n : length (take count out) ≡ count = length-take-le count out (omega (arith, p .long, p .count-most)) in
+      let k : length (playOf x last bytes (length start) .text) ≡ count = ap length t ∙ n in
+      let z : taken ≡ taken + 0 = omega arith in
+      record {
+        result = λ i. record { session = sym (ap (λ (k : Move). k .session) m) i; taken = (z ∙ sym (ap (λ (k : Move). k .taken) m)) i; count = sym k i };
+        buffer = sym (take-append-drop count out) ∙ ap₂ _++_ (sym t) (p .kept ∙ ap (λ (j : ℕ). drop j start) (sym k));
+        room = p .count-most;
+      }
+
+  pub playing-done : lines ≤ 0 → Plays x last bytes start (record { session = session; taken = taken; count = count }) out
+  playing-done l = stopped (lines-none lines session last (drop taken bytes) (length start - count) l)
+
+  pub playing-full : length out - count < 128 → Plays x last bytes start (record { session = session; taken = taken; count = count }) out
+  playing-full l = let e = p .long in stopped (lines-full lines session last (drop taken bytes) (length start - count) (omega arith))
+
+  module _ (step : Step) (held : List ℕ) (room : 128 ≤ length out - count) (s : Steps (stepOf session last (take (length bytes - taken) (drop taken bytes))) out count step held) where
+    m : Move
+    m = stepOf session last (drop taken bytes)
+
+    moved : Steps m out count step held
+    unfolding m
+    moved = rw (handed-on bytes taken) at s
+
+    pub playing-idle : step .next ≡ count → Plays x last bytes start (record { session = session; taken = taken; count = count }) held
+    unfolding m
+    playing-idle e =
+        let z : length (m .text) ≡ 0 = omega (arith, moved .text .end) in
+        let h : held ≡ out = moved .text .buffer ∙ sets-nothing out count (m .text) z in
+        let l = p .long in
+        rw h (stopped (lines-idle lines session last (drop taken bytes) (length start - count) (omega arith) z))
+
+    pub taken-fits : taken + step .taken ≤ length bytes
+    unfolding m
+    taken-fits = omega (arith, moved .taken, step-most session last (drop taken bytes), length-drop taken bytes, p .taken-most)
+
+    pub playing-again : (step .next ≡ count → ⊥) → 0 < lines → Playing x last bytes start (step .session) (taken + step .taken) (step .next) (lines - 1) held
+    unfolding m
+    playing-again ne l =
+        let long = p .long in
+        let most = p .count-most in
+        let ended = moved .text .end in
+        let close = moved .room in
+        let t : 0 < length (m .text) = omega arith in
+        let fits : count + length (m .text) ≤ length out = omega arith in
+        let stored : held ≡ take count out ++ m .text ++ drop (count + length (m .text)) out = moved .text .buffer ∙ sets-eq (m .text) out count fits in
+        let front : length (take count out ++ m .text) ≡ step .next = length-append (take count out) (m .text) ∙ omega (arith, length-take-le count out (omega arith)) in
+        let printed : take (step .next) held ≡ take count out ++ m .text = ap (take (step .next)) stored ∙ take-at (take count out ++ m .text) (drop (count + length (m .text)) out) (step .next) front in
+        let left : length start - count - length (m .text) ≡ length start - step .next = omega arith in
+        record {
+          whole =
+              p .whole ∙ ap (onto taken (take count out)) (lines-on lines session last (drop taken bytes) (length start - count) l (omega arith) t)
+              ∙ onto-onto taken (m .taken) (take count out) (m .text) (linesOf (lines - 1) (m .session) last (drop (m .taken) (drop taken bytes)) (length start - count - length (m .text)))
+              ∙ rw (moved .session, moved .taken, printed, ← left, drop-drop (m .taken) taken bytes);
+          long = ap length (moved .text .buffer) ∙ length-sets out count (m .text) ∙ long;
+          count-most = omega arith;
+          taken-most = taken-fits;
+          kept =
+              ap (drop (step .next)) stored ∙ drop-at (take count out ++ m .text) (drop (count + length (m .text)) out) (step .next) front ∙ ap (λ (j : ℕ). drop j out) (sym ended)
+              ∙ ap (λ (j : ℕ). drop j out) ended ∙ sym (drop-drop (length (m .text)) count out) ∙ ap (drop (length (m .text))) (p .kept) ∙ drop-drop (length (m .text)) count start ∙ ap (λ (j : ℕ). drop j start) (sym ended);
+        }
+
+-- ---- playing takes no more than is there
+
+lines-most : (n : ℕ) (x : Session) (last : Bool) (bytes : List ℕ) (room : ℕ) → linesOf n x last bytes room .taken ≤ length bytes
+unfolding linesOf
+lines-most zero x last bytes room = omega arith
+lines-most (suc n) x last bytes room = go (ltb room lineRoom || eqb (length (stepOf x last bytes .text)) 0) (lines-most n (stepOf x last bytes .session) last (drop (stepOf x last bytes .taken) bytes) (room - length (stepOf x last bytes .text)))
+  where
+    go : (b : Bool) → linesOf n (stepOf x last bytes .session) last (drop (stepOf x last bytes .taken) bytes) (room - length (stepOf x last bytes .text)) .taken ≤ length (drop (stepOf x last bytes .taken) bytes)
+        → cond b (stay x) (onto (stepOf x last bytes .taken) (stepOf x last bytes .text) (linesOf n (stepOf x last bytes .session) last (drop (stepOf x last bytes .taken) bytes) (room - length (stepOf x last bytes .text)))) .taken ≤ length bytes
+    go true h = omega arith
+    go false h = omega (arith, step-most x last bytes, length-drop (stepOf x last bytes .taken) bytes)
+
+pub play-most : (x : Session) (last : Bool) (bytes : List ℕ) (room : ℕ) → playOf x last bytes room .taken ≤ length bytes
+unfolding playOf
+play-most x last bytes room = lines-most room x last bytes room
+
+-- ---- no line is empty
+
+plan-some : (a : Answer) → 0 < length (planLine a)
+unfolding planLine
+plan-some Good = omega arith
+plan-some (No w) = omega arith
+
+line-some : (s : State) (k : Command) → 0 < length (commandMove s k .text)
+unfolding commandMove lineOf releaseLine sliceLine
+line-some s Slice = go (sliceOf s rowRoom .answer)
+  where
+    go : (a : Answer) → 0 < length (sliceLine a (s .clock) (s .plan .cards) (rowByte s))
+    go Good = omega arith
+    go (No w) = omega arith
+line-some s (Release kind e) = omega arith
+line-some s Bad = omega arith
+
+end-some : (clock : ℕ) → 0 < length (endLine clock)
+unfolding endLine
+end-some clock = omega arith
+
+-- ---- where a play with room prints nothing
+
+-- it prints the next line, if there is one
+pub play-idle : (x : Session) (last : Bool) (bytes : List ℕ) (room : ℕ) → 128 ≤ room → length (playOf x last bytes room .text) ≡ 0 → length (stepOf x last bytes .text) ≡ 0
+unfolding playOf
+play-idle x last bytes room r e =
+    elim (decLt 0 (length (stepOf x last bytes .text))) [
+      | yes t ↦
+          let m = stepOf x last bytes in
+          let q = ap (λ (k : Move). length (k .text)) (lines-on room x last bytes room (omega arith) r t) in
+          absurd (omega (arith, length-append (m .text) (linesOf (room - 1) (m .session) last (drop (m .taken) bytes) (room - length (m .text)) .text)))
+      | no t ↦ omega arith
+    ]
+
+open-idle : (x : Session) (bytes : List ℕ) → length (openOf x false bytes .text) ≡ 0 → length bytes < 99
+unfolding openOf
+open-idle x bytes e = go (eqb (number (readOf bytes .answer)) 1) refl e
+  where
+    go : (b : Bool) → eqb (number (readOf bytes .answer)) 1 ≡ b → length (cond b (stay x) (firstLine (opening bytes) (startOf (readOf bytes .plan) .state) (readOf bytes .taken)) .text) ≡ 0 → length bytes < 99
+    go true q z = one-short bytes (eqb-true (number (readOf bytes .answer)) 1 q)
+    go false q z = absurd (omega (arith, plan-some (opening bytes)))
+
+run-idle : (x : Session) (bytes : List ℕ) → length (runOf x false bytes .text) ≡ 0 → length bytes < 99
+unfolding runOf
+run-idle x bytes e = elim (decLt (length bytes) 3) [ yes l ↦ omega arith | no l ↦ absurd (none (omega arith)) ]
+  where
+    none : 3 ≤ length bytes → ⊥
+    none l = let z : length (commandMove (x .state) (commandOf bytes) .text) ≡ 0 = rw (le-ltb (length bytes) 3 l) at e in omega (arith, line-some (x .state) (commandOf bytes))
+
+step-idle : (x : Session) (bytes : List ℕ) → atStage (x .stage) false false true ≡ false → length (stepOf x false bytes .text) ≡ 0 → length bytes < 99
+unfolding stepOf
+step-idle x bytes = go (x .stage)
+  where
+    go : (g : Stage) → atStage g false false true ≡ false → length (atStage g (openOf x false bytes) (runOf x false bytes) (stay x) .text) ≡ 0 → length bytes < 99
+    go Opening o e = open-idle x bytes e
+    go Running o e = run-idle x bytes e
+    go Over o e = absurd (true≢false o)
+
+-- before the end of the input and of the play, it waits for more: few bytes are left
+pub idle-short : (x : Session) (last b : Bool) (bytes out held : List ℕ) (r : Progress) → Plays x last bytes out r held → r .count ≡ 0 → last ≡ false → b ≡ atStage (x .stage) false false true → b ≡ false → 128 ≤ length out
+    → length bytes < 99
+idle-short x last b bytes out held r p e f g h l =
+    let z : length (playOf x last bytes (length out) .text) ≡ 0 = sym (ap (λ (q : Progress). q .count) (p .result)) ∙ e in
+    step-idle x bytes (sym g ∙ h) (play-idle x false bytes (length out) l (rw f at z))
+
+-- after the end of the input, the play is over
+run-some : (x : Session) (bytes : List ℕ) → 0 < length (runOf x true bytes .text)
+unfolding runOf
+run-some x bytes = go (eqb (length bytes) 0)
+  where
+    go : (b : Bool) → 0 < length (cond b (lastLine (x .state)) (commandMove (x .state) (commandOf bytes)) .text)
+    go true = end-some (x .state .clock)
+    go false = line-some (x .state) (commandOf bytes)
+
+pub idle-over : (x : Session) (bytes : List ℕ) → length (stepOf x true bytes .text) ≡ 0 → x .stage ≡ Over
+unfolding stepOf openOf
+idle-over x bytes = go (x .stage)
+  where
+    go : (g : Stage) → length (atStage g (openOf x true bytes) (runOf x true bytes) (stay x) .text) ≡ 0 → g ≡ Over
+    go Opening e = absurd (omega (arith, plan-some (opening bytes)))
+    go Running e = absurd (omega (arith, run-some x bytes))
+    go Over e = refl
+
+-- ---- of a part of a buffer
+
+pub part-taken : (x : Session) (last : Bool) (input out held : List ℕ) (from to : ℕ) (r : Progress) → Plays x last (take (to - from) (drop from input)) out r held → from ≤ to → to ≤ length input → from + r .taken ≤ to
+part-taken x last input out held from to r p a b =
+    let n : length (take (to - from) (drop from input)) ≡ to - from = length-take-le (to - from) (drop from input) (omega (arith, length-drop from input)) in
+    let e : r .taken ≡ playOf x last (take (to - from) (drop from input)) (length out) .taken = ap (λ (q : Progress). q .taken) (p .result) in
+    omega (arith, play-most x last (take (to - from) (drop from input)) (length out))
+
+pub part-short : (x : Session) (last b : Bool) (input out held : List ℕ) (from to : ℕ) (r : Progress) → Plays x last (take (to - from) (drop from input)) out r held → from ≤ to → to ≤ length input → r .count ≡ 0 → last ≡ false
+    → b ≡ atStage (x .stage) false false true → b ≡ false → 128 ≤ length out → 128 ≤ length input → to - from < length input
+part-short x last b input out held from to r p a c e f g h l k =
+    let n : length (take (to - from) (drop from input)) ≡ to - from = length-take-le (to - from) (drop from input) (omega (arith, length-drop from input)) in
+    omega (arith, idle-short x last b (take (to - from) (drop from input)) out held r p e f g h l)
+
+-- ---- each operation admits one outcome
+
+pub new-one-outcome : (a b : Session) → a ≡ unopened → b ≡ unopened → a ≡ b
+new-one-outcome a b e f = e ∙ sym f
+
+pub over-one-outcome : (x : Session) (a b : Bool) → a ≡ atStage (x .stage) false false true → b ≡ atStage (x .stage) false false true → a ≡ b
+over-one-outcome x a b e f = e ∙ sym f
+
+pub play-one-outcome : (x : Session) (last : Bool) (bytes out : List ℕ) (r s : Progress) (held later : List ℕ) → Plays x last bytes out r held → Plays x last bytes out s later → (r ≡ s) × (held ≡ later)
+play-one-outcome x last bytes out r s held later a b = (a .result ∙ sym (b .result), a .buffer ∙ sym (b .buffer))

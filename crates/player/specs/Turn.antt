@@ -1,0 +1,38 @@
+-- Document 01, "The player": what a command prints, and the state that follows it.
+-- Assumes nothing.
+use Prim.Native.Nat.{ℕ, _+_, _≤_}
+use mathlib.Core.Path.{_≡_}
+use mathlib.Core.List.{List}
+use Rattle.rack.specs.declared.State.{State}
+use Rattle.rack.specs.declared.Next.{Next}
+use Rattle.rack.specs.Release.{releaseOf}
+use Rattle.rack.specs.Slice.{sliceOf}
+use Rattle.rack.specs.Row.{rowByte}
+use Rattle.player.specs.declared.command.Command.{Command}
+use Rattle.player.specs.declared.command.Command.the-variants.{Slice, Release, Bad}
+use Rattle.player.specs.declared.turn.Turn.{Turn}
+use Rattle.player.specs.Text.{Puts}
+use Rattle.player.specs.Line.{releaseLine, sliceLine, badLine}
+pub mod Properties
+
+-- the bytes that a slice is lent for its row: as many as a plan can have cards
+abbrev pub rowRoom : ℕ
+rowRoom = 8
+
+-- "A release prints ..; a slice prints `t CLOCK:` with the clock before it and the row's bytes ..; Any other three bytes .. print `bad command`"
+unfoldable pub lineOf : State → Command → List ℕ
+lineOf s Slice = sliceLine (sliceOf s rowRoom .answer) (s .clock) (s .plan .cards) (rowByte s)
+lineOf s (Release kind e) = releaseLine kind e (releaseOf s kind e .answer)
+lineOf s Bad = badLine
+
+-- the state that the slice or the release hands back
+unfoldable pub after : State → Command → State
+after s Slice = sliceOf s rowRoom .state
+after s (Release kind e) = releaseOf s kind e .state
+after s Bad = s
+
+-- the line of a command behind what is in the buffer, and the state after it
+pub record Turns (s : State) (k : Command) (out : List ℕ) (at : ℕ) (r : Turn) (held : List ℕ) : Type 0 where
+  pub state : r .state ≡ after s k
+  pub line : Puts out at (lineOf s k) (r .next) held
+  pub room : r .next ≤ at + 128

@@ -1,0 +1,77 @@
+-- Laws of a command's turn: each way out, over what the code has in hand there.
+-- Assumes nothing.
+use mathlib.Core.Path.{_≡_, refl, sym, ap, ap₂, _∙_}
+use mathlib.Core.List.{List, _++_}
+use Prim.Native.Nat.{ℕ, zero, suc, _+_, _≤_, _<_}
+use native.Mathlib.Omega.{arith}
+use lib.ListN.{length, getD, replicate}
+use Rattle.laws.specs.Written.Properties.{written-at}
+use Rattle.plan.specs.declared.answer.Answer.{Answer}
+use Rattle.plan.specs.declared.answer.Answer.the-variants.{Good, No}
+use Rattle.plan.specs.declared.answer.Refusal.{Refusal}
+use Rattle.plan_bytes.specs.Parts.{partsTo}
+use Rattle.rack.specs.declared.State.{State}
+use Rattle.rack.specs.declared.Next.{Next}
+use Rattle.rack.specs.Release.{releaseOf}
+use Rattle.rack.specs.Slice.{sliceAnswer, sliceOf, bufferAfter, Sliced}
+use Rattle.rack.specs.Slice.Properties.{slice-room}
+use Rattle.rack.specs.Row.{rowByte, rowOver}
+use Rattle.player.specs.declared.command.Command.the-variants.{Slice, Release, Bad}
+use Rattle.player.specs.declared.turn.Turn.{Turn}
+use Rattle.player.specs.Ascii.{ascii}
+use Rattle.player.specs.Text.{decimal, Puts}
+use Rattle.player.specs.Line.{outcome, releaseLine, rowText, sliceLine}
+use Rattle.player.specs.Turn.{rowRoom, lineOf, after, Turns}
+
+-- two rows that agree on the cards print the same
+pub row-same : (cards : ℕ) (f g : ℕ → ℕ) → ((card : ℕ) → card < cards → f card ≡ g card) → rowText cards f ≡ rowText cards g
+unfolding rowText partsTo
+row-same zero f g h = refl
+row-same (suc cards) f g h = ap₂ _++_ (row-same cards f g (λ card l. h card (omega arith))) (ap (λ (n : ℕ). ascii " " ++ decimal n) (h cards (omega arith)))
+
+-- a slice's answer is good: the row has room, and its bytes are in it
+module _ (s : State) (row : List ℕ) (next : Next) (sliced : Sliced s (replicate 8 0) next row) where
+  answer-is : next .answer ≡ sliceOf s rowRoom .answer
+  answer-is = ap (λ (n : Next). n .answer) (sliced .result)
+
+  pub state-is : next .state ≡ after s Slice
+  unfolding after
+  state-is = ap (λ (n : Next). n .state) (sliced .result)
+
+  good-is : next .answer ≡ Good → sliceAnswer s rowRoom ≡ Good
+  unfolding sliceOf
+  good-is e = sym answer-is ∙ e
+
+  pub cards-fit : next .answer ≡ Good → s .plan .cards ≤ 8
+  cards-fit e = slice-room s rowRoom (sliceAnswer s rowRoom) (good-is e) refl
+
+  row-is : next .answer ≡ Good → (card : ℕ) → card < s .plan .cards → getD row card 0 ≡ rowByte s card
+  unfolding bufferAfter rowOver
+  row-is e card l =
+      let a : row ≡ rowOver s (replicate 8 0) = sliced .buffer ∙ rw (good-is e) in
+      ap (λ (x : List ℕ). getD x card 0) a ∙ written-at (s .plan .cards) (rowByte s) (replicate 8 0) 0 card l (cards-fit e)
+
+  pub slice-served : (out held : List ℕ) (at next-at : ℕ) → next .answer ≡ Good → Puts out at (sliceLine Good (s .clock) (s .plan .cards) (λ (card : ℕ). getD row card 0)) next-at held → next-at ≤ at + 128
+      → Turns s Slice out at (record { state = next .state; next = next-at }) held
+  unfolding lineOf sliceLine
+  slice-served out held at next-at e p l =
+      record {
+        state = state-is;
+        line = rw (← answer-is, e, ← row-same (s .plan .cards) (λ (card : ℕ). getD row card 0) (rowByte s) (row-is e)) p;
+        room = l;
+      }
+
+  pub slice-refused : (out held : List ℕ) (at next-at : ℕ) (w : Refusal) → next .answer ≡ No w → Puts out at (ascii "t" ++ outcome (next .answer)) next-at held → next-at ≤ at + 128
+      → Turns s Slice out at (record { state = next .state; next = next-at }) held
+  unfolding lineOf sliceLine
+  slice-refused out held at next-at w e p l = record { state = state-is; line = rw (← answer-is, e) (rw e at p); room = l }
+
+pub release-told : (s : State) (kind e : ℕ) (next : Next) (out held : List ℕ) (at next-at : ℕ) → next ≡ releaseOf s kind e → Puts out at (releaseLine kind e (next .answer)) next-at held → next-at ≤ at + 128
+    → Turns s (Release kind e) out at (record { state = next .state; next = next-at }) held
+unfolding lineOf after
+release-told s kind e next out held at next-at q p l =
+    record {
+      state = ap (λ (n : Next). n .state) q;
+      line = rw (← q) p;
+      room = l;
+    }

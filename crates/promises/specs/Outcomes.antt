@@ -1,0 +1,125 @@
+-- Demand 1, for every operation of document 01: any input is answered, by one outcome, and a refusal changes nothing.
+-- No operation has a `requires`, and a proved function ends; so whatever the input, the one outcome is reached.
+-- Assumes nothing.
+use mathlib.Core.Path.{_≡_, refl, sym, ap, _∙_}
+use mathlib.Core.List.{List, _++_}
+use Prim.Native.Nat.{ℕ}
+use lib.ListN.{length, drop, replicate}
+use Rattle.plan.specs.declared.Plan.{Plan}
+use Rattle.plan.specs.declared.answer.Answer.the-variants.{No}
+use Rattle.plan.specs.declared.answer.Refusal.{Refusal}
+use Rattle.plan.specs.Answer.{ifGood}
+use Rattle.plan.specs.Record.{noPlan}
+use Rattle.plan_bytes.specs.declared.Written.{Written}
+use Rattle.plan_bytes.specs.Parts.{encoded, size}
+use Rattle.plan_bytes.specs.Reading.{readOf}
+use Rattle.plan_bytes.specs.Writing.{writeAnswer, counted, Writes}
+use Rattle.plan_bytes.specs.OneOutcome.{write-one-outcome}
+use Rattle.layout.specs.declared.table.TableWritten.{TableWritten}
+use Rattle.layout.specs.Table.{tableAnswer, tableLength, tableOver, Tabled}
+use Rattle.layout.specs.OneOutcome.{slot-table-one-outcome}
+use Rattle.verdict.specs.Verdict.{judged}
+use Rattle.verdict.specs.Admission.Properties.{none-refused}
+use Rattle.rack.specs.declared.State.{State}
+use Rattle.rack.specs.declared.Next.{Next}
+use Rattle.rack.specs.State.{noState}
+use Rattle.rack.specs.Start.{startOf}
+use Rattle.rack.specs.Start.Properties.{start-refused}
+use Rattle.rack.specs.Release.{releaseOf}
+use Rattle.rack.specs.Release.Properties.{release-refused}
+use Rattle.rack.specs.Slice.{sliceOf, bufferAfter, Sliced}
+use Rattle.rack.specs.Slice.Properties.{slice-refused}
+use Rattle.rack.specs.OneOutcome.{slice-one-outcome}
+
+-- one outcome meets a contract, and no other does
+pub record One {A : Type 0} (contract : A → Type 0) : Type 0 where
+  pub outcome : A
+  pub meets : contract outcome
+  pub only : (a : A) → contract a → a ≡ outcome
+
+-- the contract of an operation that hands back a value
+one : {A : Type 0} (a : A) → One (λ r. r ≡ a)
+one a = record { outcome = a; meets = refl; only = λ r e. e }
+
+-- what an operation with a lent buffer hands back, and the buffer as it leaves it
+pub record Lent (A : Type 0) : Type 0 where
+  pub result : A
+  pub buffer : List ℕ
+
+lent : {A : Type 0} (a b : Lent A) → (a .result ≡ b .result) × (a .buffer ≡ b .buffer) → a ≡ b
+lent a b e = λ i. record { result = e .0 i; buffer = e .1 i }
+
+-- ---- reading a plan
+
+pub reading : (bytes : List ℕ) → One (λ r. r ≡ readOf bytes)
+reading bytes = one (readOf bytes)
+
+-- "A refused read gives an all-zero plan and 0 bytes taken"
+pub reading-refused : (bytes : List ℕ) (w : Refusal) → readOf bytes .answer ≡ No w → (readOf bytes .plan ≡ noPlan) × (readOf bytes .taken ≡ 0)
+unfolding readOf
+reading-refused bytes w e = (rw e, rw e)
+
+-- ---- writing a plan
+
+pub writing : (p : Plan) (out : List ℕ) → One (λ (o : Lent Written). Writes p out (o .result) (o .buffer))
+writing p out = record { outcome = made; meets = record { result = refl; buffer = refl }; only = λ o c. lent o made (write-one-outcome p out (o .result) (made .result) (o .buffer) (made .buffer) c (record { result = refl; buffer = refl })) }
+  where
+    made : Lent Written
+    made = record { result = counted (writeAnswer p out) (size p); buffer = ifGood (writeAnswer p out) (encoded p ++ drop (size p) out) out }
+
+-- "0 on a refusal. Lent buffers keep every byte on a refusal"
+pub writing-refused : (p : Plan) (out after : List ℕ) (r : Written) (w : Refusal) → Writes p out r after → r .answer ≡ No w → (r .count ≡ 0) × (after ≡ out)
+writing-refused p out after r w c e =
+    let a : writeAnswer p out ≡ No w = ap (λ (x : Written). x .answer) (sym (c .result)) ∙ e in
+    (ap (λ (x : Written). x .count) (c .result) ∙ (rw a), c .buffer ∙ (rw a))
+
+-- ---- writing the slot table
+
+pub tabling : (p : Plan) (out : List ℕ) → One (λ (o : Lent TableWritten). Tabled p out (o .buffer) (o .result))
+tabling p out = record { outcome = made; meets = record { answer = refl; count = refl; bytes = refl }; only = λ o c. lent o made (slot-table-one-outcome p out (o .buffer) (made .buffer) (o .result) (made .result) c (record { answer = refl; count = refl; bytes = refl })) }
+  where
+    made : Lent TableWritten
+    made = record { result = record { answer = tableAnswer p (length out); count = ifGood (tableAnswer p (length out)) (tableLength p) 0 }; buffer = ifGood (tableAnswer p (length out)) (tableOver p out) out }
+
+pub tabling-refused : (p : Plan) (out after : List ℕ) (r : TableWritten) (w : Refusal) → Tabled p out after r → r .answer ≡ No w → (r .count ≡ 0) × (after ≡ out)
+tabling-refused p out after r w c e =
+    let a : tableAnswer p (length out) ≡ No w = sym (c .answer) ∙ e in
+    (c .count ∙ (rw a), c .bytes ∙ (rw a))
+
+-- ---- the verdict
+
+pub judging : (p : Plan) → One (λ v. v ≡ judged p)
+judging p = one (judged p)
+
+-- "A refused verdict gives k 0 for every kind"
+pub judging-refused : (p : Plan) (w : Refusal) → judged p .answer ≡ No w → judged p .width ≡ replicate 16 0
+judging-refused = none-refused
+
+-- ---- a fresh start
+
+pub starting : (p : Plan) → One (λ n. n ≡ startOf p)
+starting p = one (startOf p)
+
+-- "a refused fresh start gives an all-zero state"
+pub starting-refused : (p : Plan) (w : Refusal) → startOf p .answer ≡ No w → startOf p .state ≡ noState
+starting-refused = start-refused
+
+-- ---- a release
+
+pub releasing : (s : State) (i e : ℕ) → One (λ n. n ≡ releaseOf s i e)
+releasing s i e = one (releaseOf s i e)
+
+-- "a refused slice or release gives back the state handed in"
+pub releasing-refused : (s : State) (i e : ℕ) (w : Refusal) → releaseOf s i e .answer ≡ No w → releaseOf s i e .state ≡ s
+releasing-refused = release-refused
+
+-- ---- a slice
+
+pub slicing : (s : State) (bytes : List ℕ) → One (λ (o : Lent Next). Sliced s bytes (o .result) (o .buffer))
+slicing s bytes = record { outcome = made; meets = record { result = refl; buffer = refl }; only = λ o c. lent o made (slice-one-outcome s bytes (o .buffer) (made .buffer) (o .result) (made .result) c (record { result = refl; buffer = refl })) }
+  where
+    made : Lent Next
+    made = record { result = sliceOf s (length bytes); buffer = bufferAfter s bytes }
+
+pub slicing-refused : (s : State) (bytes after : List ℕ) (next : Next) (w : Refusal) → Sliced s bytes next after → next .answer ≡ No w → (next .state ≡ s) × (after ≡ bytes)
+slicing-refused = slice-refused

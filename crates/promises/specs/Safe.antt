@@ -1,0 +1,18 @@
+-- The invariant of a running rack: nothing to refuse in the state itself, and every project on track.
+-- Assumes nothing.
+use mathlib.Core.Path.{_≡_}
+use Prim.Native.Nat.{ℕ}
+use lib.ListN.{length}
+use Rattle.plan.specs.declared.answer.Answer.the-variants.{Good}
+use Rattle.verdict.specs.Verdict.{judged}
+use Rattle.rack.specs.declared.State.{State}
+use Rattle.rack.specs.Form.Properties.{Ready}
+use Rattle.promises.specs.OnTrack.{OnTrack}
+use Rattle.promises.specs.View.{setupOf, momentOf}
+pub mod Properties
+
+pub record Safe (s : State) : Type 0 where
+  pub admitted : judged (s .plan) .answer ≡ Good
+  pub ready : Ready s
+  pub places : length (s .unit) ≡ 16
+  pub on-track : (j : ℕ) → OnTrack (setupOf (s .plan) j) (momentOf s)

@@ -1,0 +1,178 @@
+// Runs document 01's table P1 to P11 and prints what comes out; the gate compares. The same table
+// is one proved claim, specs/Table.antt.
+use plan::Answer;
+use plan::Kind;
+use plan::Plan;
+use plan::Project;
+
+fn space(n: u64) {
+    io::write_all(1, b" ");
+    io::print_decimal(1, n);
+}
+
+fn end_line() {
+    io::write_all(1, b"\n");
+}
+
+fn print_small(byte: u8) {
+    space(byte as u64);
+}
+
+fn print_decimals(bytes: &[u8]) {
+    for i in 0..bytes.len() {
+        print_small(bytes[i]);
+    }
+    end_line();
+}
+
+fn print_byte(byte: u8) {
+    io::write_all(1, b" ");
+    io::print_hex(1, byte as u64, 2);
+}
+
+fn print_bytes(bytes: &[u8]) {
+    for i in 0..bytes.len() {
+        print_byte(bytes[i]);
+    }
+    end_line();
+}
+
+fn print_answer(answer: Answer) {
+    space(answer.number() as u64);
+    space(answer.place() as u64);
+    space(answer.excess() as u64);
+}
+
+fn project(ceiling: u8, budget: u16) -> Project {
+    Project { ceiling, budget }
+}
+
+fn kind(project: u8, separation: u16, deadline: u16, length: u16) -> Kind {
+    Kind {
+        project,
+        separation,
+        deadline,
+        length,
+    }
+}
+
+fn three_kinds(mut plan: Plan, first: Kind, second: Kind, third: Kind) -> Plan {
+    plan.kinds = 3;
+    plan.kind[0] = first;
+    plan.kind[1] = second;
+    plan.kind[2] = third;
+    plan
+}
+
+// Plan A, with these budgets and this kind 0.
+fn like_a(budget: u16, next_budget: u16, first: Kind) -> Plan {
+    let mut plan = Plan::empty();
+    plan.cards = 2;
+    plan.frame = 4;
+    plan.projects = 2;
+    plan.project[0] = project(1, budget);
+    plan.project[1] = project(2, next_budget);
+    three_kinds(plan, first, kind(1, 4, 4, 2), kind(1, 8, 8, 2))
+}
+
+// One project of both cards, with these three kinds.
+fn one_project(frame: u8, budget: u16, first: Kind, second: Kind, third: Kind) -> Plan {
+    let mut plan = Plan::empty();
+    plan.cards = 2;
+    plan.frame = frame;
+    plan.projects = 1;
+    plan.project[0] = project(2, budget);
+    three_kinds(plan, first, second, third)
+}
+
+// A verdict's number, place and excess, and the sixteen k.
+fn verdict(case: &[u8], plan: Plan) {
+    let verdict = verdict::judge(plan);
+    let answer = verdict.answer;
+    let width = verdict.width;
+    io::write_all(1, case);
+    print_answer(answer);
+    io::write_all(1, b" k");
+    print_decimals(&width);
+}
+
+// The supply at k cards and a length: with no length of its own to ask for, a unit's workload
+// exceeds the supply by what the excess says.
+fn supply(held: [u8; 64], k: u8, length: u16) {
+    let fit = supply::least_fit(held, 4, k, 0, 1000, length);
+    if fit.excess <= 1000 {
+        space(1000 - fit.excess);
+    }
+}
+
+// The cards that plan A's projects hold at each of the four slices.
+fn held(first: u8, second: u8, third: u8, fourth: u8) -> [u8; 64] {
+    let mut cards = [0u8; 64];
+    cards[0] = first;
+    cards[1] = second;
+    cards[2] = third;
+    cards[3] = fourth;
+    cards
+}
+
+fn bytes_of_a() {
+    let reading = plan_bytes::read(
+        b"\x22\x18\x40\x10\x0c\x20\x14\x00\x10\x01\x00\x0c\x20\x08\x00\x80\x04\x20\x10\x01\x00\x04",
+    );
+    let answer = reading.answer;
+    io::write_all(1, b"P1 read");
+    print_answer(answer);
+    io::write_all(1, b" taken");
+    space(reading.taken as u64);
+    end_line();
+    let mut out = [0u8; 22];
+    let plan = reading.plan;
+    plan_bytes::write(plan, &mut out);
+    io::write_all(1, b"P1 written");
+    print_bytes(&out);
+}
+
+fn slots_of_a() {
+    let mut out = [0u8; 8];
+    layout::slot_table(like_a(3, 5, kind(0, 8, 8, 6)), &mut out);
+    io::write_all(1, b"P2");
+    print_decimals(&out);
+}
+
+fn supplies_of_a() {
+    let one = held(1, 1, 1, 0);
+    io::write_all(1, b"P3");
+    supply(one, 1, 0);
+    supply(one, 1, 1);
+    supply(one, 1, 3);
+    supply(one, 1, 4);
+    supply(one, 1, 8);
+    end_line();
+    let two = held(1, 1, 1, 2);
+    io::write_all(1, b"P4");
+    supply(two, 1, 4);
+    supply(two, 2, 4);
+    supply(two, 2, 1);
+    supply(two, 2, 3);
+    end_line();
+}
+
+fn main() {
+    bytes_of_a();
+    slots_of_a();
+    supplies_of_a();
+    verdict(b"P5", like_a(3, 5, kind(0, 8, 8, 6)));
+    verdict(b"P6", like_a(3, 5, kind(0, 8, 8, 7)));
+    verdict(b"P7", like_a(3, 5, kind(0, 4, 3, 2)));
+    verdict(b"P7", like_a(3, 5, kind(0, 4, 3, 3)));
+    verdict(
+        b"P8",
+        one_project(4, 8, kind(0, 4, 4, 1), kind(0, 8, 8, 3), kind(0, 8, 8, 2)),
+    );
+    verdict(
+        b"P9",
+        one_project(1, 2, kind(0, 3, 3, 2), kind(0, 6, 6, 4), kind(0, 6, 6, 3)),
+    );
+    verdict(b"P10", like_a(3, 6, kind(0, 8, 8, 6)));
+    verdict(b"P11", like_a(5, 5, kind(0, 8, 8, 6)));
+}

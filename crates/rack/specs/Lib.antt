@@ -1,15 +1,15 @@
--- The dispatcher: document 01, "Running", and the refusals 8 to 15.
+-- The dispatcher: document 01, "Running", and the refusals 8 to 15. Seat says how a slice finds its row, and the last three are laws that it shares.
 -- Assumes nothing.
-pub mod Picks
-pub mod Stores
-pub mod Firsts
 pub mod State
 pub mod Form
 pub mod Rank
 pub mod Row
-pub mod Seat
 pub mod Release
 pub mod Slice
-pub mod Run
 pub mod Start
+pub mod Run
 pub mod OneOutcome
+pub mod Seat
+pub mod Picks
+pub mod Stores
+pub mod Firsts

@@ -57,6 +57,7 @@ aheadBy works due i k = eqb (at works k) (at works i) && sooner (at due) k i
 unfoldable pub seatAt : ℕ → ℕ → ℕ
 seatAt card end = cond (ltb card end) (card + 1) 0
 
+-- where kind i sits: its project's card of its rank, or nowhere
 unfoldable pub seatBy : List ℕ → List ℕ → List ℕ → ℕ → ℕ → ℕ
 seatBy works due low n i = cond (eqb (at works i) 0) 0 (seatAt (at low (at works i - 1) + rankBy works due n i) (at low (at works i)))
 

@@ -3,7 +3,7 @@
 use mathlib.Core.Path.{_≡_, sym, _∙_}
 use mathlib.Core.List.{List}
 use Prim.Native.Nat.{ℕ}
-use Rattle.plan.specs.declared.answer.Answer.{Answer}
+use Rattle.answer.specs.declared.Answer.{Answer}
 use Rattle.exports.specs.Outcome.{told, Outcome}
 use Rattle.exports.specs.Exports.{checkAnswer, Reads, WritesBytes, WritesSlots, Judges, Starts, Releases, Slices}
 

@@ -5,9 +5,9 @@ use mathlib.Core.Path.{_≡_}
 use mathlib.Core.List.{List}
 use lib.Dec.{ltb}
 use lib.ListN.{length}
-use Rattle.plan.specs.declared.answer.Answer.{Answer}
-use Rattle.plan.specs.declared.answer.Refusal.the-variants.{Bare}
-use Rattle.plan.specs.Answer.{number, place, excess, refuse, ifGood}
+use Rattle.answer.specs.declared.Answer.{Answer}
+use Rattle.answer.specs.declared.Refusal.the-variants.{Bare}
+use Rattle.answer.specs.Answer.{number, place, excess, refuse, ifGood}
 pub mod Properties
 
 -- number in bits 0-7, place in bits 8-15, count in bits 16-31, excess in bits 32-63

@@ -9,8 +9,8 @@ ghost use lib.ListN.{length, drop};
 ghost use Rattle.laws.specs.Written.{written};
 ghost use Rattle.exports.specs.Outcome.{told};
 ghost use Rattle.exports.specs.Exports.{checkAnswer, Reads, WritesBytes, WritesSlots, widthAt, Judges, Starts, stateAnswer, Releases, Slices};
-use plan::Answer;
-use plan::Refusal;
+use answer::Answer;
+use answer::Refusal;
 use rack::State;
 
 fn byte(x: u8) -> u64

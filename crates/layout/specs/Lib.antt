@@ -1,6 +1,5 @@
 -- The layout of budgets onto cards: document 01, "Layout".
 -- Assumes nothing.
-pub mod Counts
 pub mod Cards
 pub mod Layout
 pub mod Table

@@ -1,6 +1,5 @@
 -- What a plan is and when its record is in order: document 01, "What the base holds", and the refusals 2 to 7.
 -- Assumes nothing.
 pub mod Record
-pub mod Answer
 pub mod Order
 pub mod OneOutcome

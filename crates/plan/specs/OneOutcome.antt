@@ -1,13 +1,11 @@
 -- Each public operation's contract admits one outcome.
 -- Assumes nothing.
 use mathlib.Core.Path.{_≡_, sym, _∙_}
-use Prim.Native.Nat.{ℕ}
 use Rattle.plan.specs.declared.Project.{Project}
 use Rattle.plan.specs.declared.Kind.{Kind}
 use Rattle.plan.specs.declared.Plan.{Plan}
-use Rattle.plan.specs.declared.answer.Answer.{Answer}
+use Rattle.answer.specs.declared.Answer.{Answer}
 use Rattle.plan.specs.Record.{noProject, noKind, noPlan}
-use Rattle.plan.specs.Answer.{number, place, excess}
 use Rattle.plan.specs.Order.{sizes, checked}
 
 -- `Project::empty`
@@ -29,15 +27,3 @@ sizes-one-outcome plan a b p q = p ∙ sym q
 -- `Plan::check`
 pub check-one-outcome : (plan : Plan) (a b : Answer) → a ≡ checked plan → b ≡ checked plan → a ≡ b
 check-one-outcome plan a b p q = p ∙ sym q
-
--- `Answer::number`
-pub number-one-outcome : (answer : Answer) (a b : ℕ) → a ≡ number answer → b ≡ number answer → a ≡ b
-number-one-outcome answer a b p q = p ∙ sym q
-
--- `Answer::place`
-pub place-one-outcome : (answer : Answer) (a b : ℕ) → a ≡ place answer → b ≡ place answer → a ≡ b
-place-one-outcome answer a b p q = p ∙ sym q
-
--- `Answer::excess`
-pub excess-one-outcome : (answer : Answer) (a b : ℕ) → a ≡ excess answer → b ≡ excess answer → a ≡ b
-excess-one-outcome answer a b p q = p ∙ sym q

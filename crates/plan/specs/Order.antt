@@ -9,10 +9,10 @@ use Rattle.laws.specs.All.{allTo}
 use Rattle.plan.specs.declared.Project.{Project}
 use Rattle.plan.specs.declared.Kind.{Kind}
 use Rattle.plan.specs.declared.Plan.{Plan}
-use Rattle.plan.specs.declared.answer.Answer.{Answer}
-use Rattle.plan.specs.declared.answer.Refusal.the-variants.{Bare, ByProject, ByKind}
+use Rattle.answer.specs.declared.Answer.{Answer}
+use Rattle.answer.specs.declared.Refusal.the-variants.{Bare, ByProject, ByKind}
 use Rattle.plan.specs.Record.{noProject, noKind}
-use Rattle.plan.specs.Answer.{refuse, _andThen_, eachTo}
+use Rattle.answer.specs.Answer.{refuse, _andThen_, eachTo}
 pub mod Properties
 
 -- ---- the plan's places

@@ -1,6 +1,5 @@
 -- The records with nothing in them.
 -- Assumes nothing.
-use Prim.Native.Nat.{ℕ}
 use lib.ListN.{replicate}
 use Rattle.plan.specs.declared.Project.{Project}
 use Rattle.plan.specs.declared.Kind.{Kind}

@@ -7,8 +7,8 @@ ghost use Rattle.plan.specs.Order.{within, emptyProject, emptyKind, inRa
 use crate::Kind;
 use crate::Plan;
 use crate::Project;
-use crate::answer::Answer;
-use crate::answer::Refusal;
+use answer::Answer;
+use answer::Refusal;
 
 fn within(x: u16, most: u16) -> bool
     ensures { λ r. ⌜ r ≡ within most x ⌝ }

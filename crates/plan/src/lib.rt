@@ -2,11 +2,8 @@
 //
 // Document 01, "What the base holds" and the refusals 2 to 7 of "Numbers given back when we say
 // no". A plan goes by value. Every record is answered, whatever its fields hold.
-mod answer;
 mod check;
 
-pub use answer::Answer;
-pub use answer::Refusal;
 ghost use mathlib.Core.Path.{_≡_};
 ghost use Rattle.plan.specs.Record.{noProject, noKind, noPlan};
 

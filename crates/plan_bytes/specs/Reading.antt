@@ -7,10 +7,10 @@ use lib.Dec.{ltb, eqb}
 use lib.ListN.{length, getD}
 use Rattle.laws.specs.All.{allTo}
 use Rattle.plan.specs.declared.Plan.{Plan}
-use Rattle.plan.specs.declared.answer.Answer.{Answer}
-use Rattle.plan.specs.declared.answer.Refusal.the-variants.{Bare}
+use Rattle.answer.specs.declared.Answer.{Answer}
+use Rattle.answer.specs.declared.Refusal.the-variants.{Bare}
 use Rattle.plan.specs.Record.{noPlan}
-use Rattle.plan.specs.Answer.{refuse, _andThen_, ifGood}
+use Rattle.answer.specs.Answer.{refuse, _andThen_, ifGood}
 use Rattle.plan.specs.Order.{sizes, ranges}
 use Rattle.plan_bytes.specs.declared.Reading.{Reading}
 use Rattle.plan_bytes.specs.Parts.{headerFields, projectFields, kindFields, projectAt, kindAt, afterHeader, afterProjects, headed, decoded, size}

@@ -7,7 +7,7 @@ pub use reader::read;
 pub use writer::write;
 ghost use mathlib.Core.Path.{_≡_};
 ghost use Rattle.plan_bytes.specs.Parts.{size};
-use plan::Answer;
+use answer::Answer;
 use plan::Plan;
 
 // What reading found: the answer, the plan (all zero where it is refused) and how many bytes it

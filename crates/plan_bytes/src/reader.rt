@@ -13,11 +13,11 @@ ghost use Rattle.plan_bytes.specs.Reading.{projectsSpare, kindsSpare, pl
 use crate::Reading;
 use crate::part;
 use crate::size;
-use plan::Answer;
+use answer::Answer;
 use plan::Kind;
 use plan::Plan;
 use plan::Project;
-use plan::Refusal;
+use answer::Refusal;
 
 // The projects of a plan, and whether their spare bits are zero.
 struct Projects {

@@ -10,9 +10,9 @@ ghost use Rattle.plan_bytes.specs.Writing.{Writes};
 use crate::Written;
 use crate::part;
 use crate::size;
-use plan::Answer;
+use answer::Answer;
 use plan::Plan;
-use plan::Refusal;
+use answer::Refusal;
 
 // The projects, after the header.
 fn put_projects(plan: Plan, out: &mut [u8])

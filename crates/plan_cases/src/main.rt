@@ -1,6 +1,6 @@
 // Runs plan bytes: plan A read and written, and the refusals that document 01 asks to be run.
 // For each case it prints number, place and count; the gate compares what it prints.
-use plan::Answer;
+use answer::Answer;
 use plan::Plan;
 
 fn answered(case: &[u8], answer: Answer, count: usize) {

@@ -2,9 +2,9 @@
 -- Assumes nothing.
 use Prim.Native.Nat.{ℕ}
 use mathlib.Core.List.{List, _++_}
-use Rattle.plan.specs.declared.answer.Answer.{Answer}
-use Rattle.plan.specs.declared.answer.Answer.the-variants.{Good, No}
-use Rattle.plan.specs.Answer.{number, place}
+use Rattle.answer.specs.declared.Answer.{Answer}
+use Rattle.answer.specs.declared.Answer.the-variants.{Good, No}
+use Rattle.answer.specs.Answer.{number, place}
 use Rattle.plan_bytes.specs.Parts.{partsTo}
 use Rattle.player.specs.Ascii.{ascii}
 use Rattle.player.specs.Text.{decimal}

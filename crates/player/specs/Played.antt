@@ -3,8 +3,8 @@
 use Prim.Native.Nat.{ℕ}
 use mathlib.Core.List.{List, [], _∷_, _++_}
 use lib.ListN.{drop}
-use Rattle.plan.specs.declared.answer.Answer.{Answer}
-use Rattle.plan.specs.Answer.{_andThen_, ifGood}
+use Rattle.answer.specs.declared.Answer.{Answer}
+use Rattle.answer.specs.Answer.{_andThen_, ifGood}
 use Rattle.plan_bytes.specs.Reading.{readOf}
 use Rattle.rack.specs.declared.State.{State}
 use Rattle.rack.specs.Start.{startOf}

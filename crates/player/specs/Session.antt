@@ -6,8 +6,8 @@ use mathlib.Core.Bool.{Bool, cond, not, _&&_, _||_}
 use mathlib.Core.List.{List, [], _++_}
 use lib.Dec.{ltb, eqb}
 use lib.ListN.{length, drop}
-use Rattle.plan.specs.declared.answer.Answer.{Answer}
-use Rattle.plan.specs.Answer.{number, ifGood}
+use Rattle.answer.specs.declared.Answer.{Answer}
+use Rattle.answer.specs.Answer.{number, ifGood}
 use Rattle.plan_bytes.specs.Reading.{readOf}
 use Rattle.rack.specs.declared.State.{State}
 use Rattle.rack.specs.State.{noState}

@@ -8,7 +8,7 @@ ghost use Rattle.player.specs.Text.{decimal, Puts};
 ghost use Rattle.player.specs.Line.{planLine, outcome, releaseLine, rowText, sliceLine, badLine, endLine};
 use crate::text::put;
 use crate::text::put_number;
-use plan::Answer;
+use answer::Answer;
 
 // A word, and then a number.
 fn put_both(out: &mut [u8], at: usize, word: &[u8], n: u32) -> usize

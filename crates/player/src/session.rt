@@ -4,13 +4,13 @@ ghost use mathlib.Core.Bool.{not, _&&_, true, false};
 ghost use Prim.Native.Nat.{_+_, _≤_};
 ghost use lib.Dec.{eqb};
 ghost use lib.ListN.{length};
-ghost use Rattle.plan.specs.Answer.{number};
+ghost use Rattle.answer.specs.Answer.{number};
 ghost use Rattle.rack.specs.Start.{startOf};
 ghost use Rattle.player.specs.Session.{unopened, running, over, atStage, firstLine, openOf, commandMove, runOf, stepOf, Steps, Plays};
 use crate::command::Command;
 use crate::line;
 use crate::turn;
-use plan::Answer;
+use answer::Answer;
 use plan::Plan;
 use rack::State;
 

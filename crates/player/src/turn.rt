@@ -4,7 +4,7 @@ ghost use lib.ListN.{length};
 ghost use Rattle.player.specs.Turn.{Turns};
 use crate::command::Command;
 use crate::line;
-use plan::Answer;
+use answer::Answer;
 use rack::State;
 
 // The state after a command, and the index after its line.

@@ -10,8 +10,8 @@ use native.Mathlib.Omega.{arith}
 use lib.ListN.{length, getD, take, drop}
 use lib.Seq.{take-all}
 use Rattle.plan.specs.declared.Plan.{Plan}
-use Rattle.plan.specs.declared.answer.Answer.the-variants.{Good}
-use Rattle.plan.specs.Answer.{number}
+use Rattle.answer.specs.declared.Answer.the-variants.{Good}
+use Rattle.answer.specs.Answer.{number}
 use Rattle.plan.specs.Order.{within, budgetOf, kindOf}
 use Rattle.layout.specs.Layout.{held}
 use Rattle.rack.specs.State.{unitOf}
@@ -21,7 +21,7 @@ use Rattle.rack.specs.Release.{releaseOf}
 use Rattle.promises.specs.Run.{Call, nextAfter, runFrom, after, slicesOf, noSlice}
 use Rattle.promises.specs.Since.{never, sinceFrom, fewer}
 use Rattle.promises.specs.Named.{namesKind, namesProject, bytesOf, Orderly}
-use Rattle.promises.specs.Kept.{unit-named, unit-left, row-orderly, project-most, project-all, not-ten, not-fifteen, fourteen-says, fourteen-of}
+use Rattle.promises.specs.Kept.{unit-named, unit-left, row-orderly, project-most, project-all, not-ten, not-fifteen, fourteen-says, fourteen-of, clock-counts}
 
 module _ (p : Plan) (admitted : startOf p .answer ≡ Good) where
   -- ---- 1. In time
@@ -100,3 +100,9 @@ module _ (p : Plan) (admitted : startOf p .answer ≡ Good) where
       let since = sinceFrom i (startOf p .state) never calls in
       (number (releaseOf (after p calls) i e .answer) ≡ 14) ↔ ((i < p .kinds) × (within (kindOf p i .length) e ≡ true) × (fewer (kindOf p i .separation) since ≡ true))
   told-early calls i e = (fourteen-says p admitted calls i e, fourteen-of p admitted calls i e)
+
+  -- ---- 5. The clock
+
+  -- it is the number of accepted slices since the fresh start
+  pub clock-tells : (calls : List Call) → after p calls .clock ≡ length (slicesOf (startOf p .state) calls)
+  clock-tells = clock-counts p admitted

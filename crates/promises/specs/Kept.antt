@@ -9,23 +9,25 @@ use native.Mathlib.Omega.{arith}
 use lib.ListN.{length, getD, take, drop, getD-replicate}
 use Rattle.plan.specs.declared.Plan.{Plan}
 use Rattle.plan.specs.declared.Kind.{Kind}
-use Rattle.plan.specs.declared.answer.Answer.the-variants.{Good}
-use Rattle.plan.specs.Answer.{number}
+use Rattle.answer.specs.declared.Answer.the-variants.{Good}
+use Rattle.answer.specs.Answer.{number}
 use Rattle.plan.specs.Order.{budgetOf, kindOf, within}
 use Rattle.plan.specs.Order.Properties.{InOrder}
 use Rattle.layout.specs.Layout.{held}
-use Rattle.rack.specs.declared.Unit.{Unit}
+use Rattle.unit.specs.declared.Unit.{Unit}
 use Rattle.rack.specs.declared.State.{State}
-use Rattle.rack.specs.State.{unitOf, kindAt, noUnit}
+use Rattle.unit.specs.Unit.{noUnit}
+use Rattle.rack.specs.State.{unitOf, kindAt}
 use Rattle.rack.specs.State.Properties.{good-moves}
 use Rattle.rack.specs.Start.{startOf}
 use Rattle.rack.specs.Start.Properties.{start-good}
 use Rattle.rack.specs.Rank.{gone, activeKinds}
-use Rattle.rack.specs.Release.{early, released, releaseAnswer, releaseOf}
+use Rattle.unit.specs.Start.{early}
+use Rattle.rack.specs.Release.{released, releaseAnswer, releaseOf}
 use Rattle.rack.specs.Slice.{sliceOf}
 use Rattle.promises.specs.Run.{Call, slice, release, nextAfter, runFrom, after, noSlice, slicesOf}
 use Rattle.promises.specs.Since.{never, sinceFrom, fewer}
-use Rattle.promises.specs.Run.Properties.{run-plan, At, slices-at}
+use Rattle.promises.specs.Run.Properties.{run-clock, run-plan, At, slices-at}
 use Rattle.promises.specs.Named.{namesProject, bytesOf, Orderly}
 use Rattle.promises.specs.Named.Properties.{orderly}
 use Rattle.promises.specs.Budget.{named-most, named-all}
@@ -52,6 +54,10 @@ module _ (p : Plan) (admitted : startOf p .answer ≡ Good) where
 
   after-plan : (calls : List Call) → after p calls .plan ≡ p
   after-plan calls = run-plan calls (startOf p .state) ∙ start-plan
+
+  -- the clock starts at 0, and counts
+  pub clock-counts : (calls : List Call) → after p calls .clock ≡ length (slicesOf (startOf p .state) calls)
+  clock-counts calls = omega (arith, run-clock calls (startOf p .state), ap (λ (s : State). s .clock) (start-good p admitted))
 
   -- ---- a unit
 

@@ -7,17 +7,18 @@ use Prim.Native.Nat.{ℕ, _<_}
 use native.Mathlib.Omega.{arith}
 use lib.Dec.{ltb, eqb}
 use borrow.Author.Tests.{lt-ltb, ltb-true, not-true, not-false, eqb-false}
-use Rattle.plan.specs.declared.answer.Answer.the-variants.{Good}
-use Rattle.plan.specs.declared.answer.Refusal.the-variants.{Bare}
-use Rattle.plan.specs.Answer.{number, refuse, _andThen_}
+use Rattle.answer.specs.declared.Answer.the-variants.{Good}
+use Rattle.answer.specs.declared.Refusal.the-variants.{Bare}
+use Rattle.answer.specs.Answer.{number, refuse, _andThen_}
 use Rattle.plan.specs.Order.{within}
 use Rattle.rack.specs.declared.State.{State}
 use Rattle.rack.specs.State.{unitOf, kindAt}
 use Rattle.rack.specs.Form.{ready}
 use Rattle.rack.specs.Form.Properties.{ready-of}
 use Rattle.rack.specs.Rank.{gone}
-use Rattle.rack.specs.Release.{early, startable, releaseAnswer}
-use Rattle.rack.specs.Release.Properties.{early-says}
+use Rattle.unit.specs.Start.{early, startable}
+use Rattle.rack.specs.Release.{releaseAnswer}
+use Rattle.unit.specs.Start.Properties.{early-says}
 use Rattle.rack.specs.Slice.{roomAndTime, sliceAnswer}
 use Rattle.promises.specs.Safe.{Safe}
 use Rattle.promises.specs.Safe.Properties.{safe-none-left}

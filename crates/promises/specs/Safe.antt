@@ -3,7 +3,7 @@
 use mathlib.Core.Path.{_≡_}
 use Prim.Native.Nat.{ℕ}
 use lib.ListN.{length}
-use Rattle.plan.specs.declared.answer.Answer.the-variants.{Good}
+use Rattle.answer.specs.declared.Answer.the-variants.{Good}
 use Rattle.verdict.specs.Verdict.{judged}
 use Rattle.rack.specs.declared.State.{State}
 use Rattle.rack.specs.Form.Properties.{Ready}

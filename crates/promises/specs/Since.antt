@@ -5,7 +5,7 @@ use mathlib.Core.Bool.{Bool, false, cond}
 use mathlib.Core.List.{List, [], _∷_}
 use lib.Dec.{ltb, eqb}
 use lib.ListN.{length}
-use Rattle.plan.specs.Answer.{ifGood}
+use Rattle.answer.specs.Answer.{ifGood}
 use Rattle.rack.specs.declared.State.{State}
 use Rattle.rack.specs.Release.{releaseAnswer}
 use Rattle.rack.specs.Slice.{sliceAnswer}

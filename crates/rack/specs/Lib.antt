@@ -1,4 +1,4 @@
--- The dispatcher: document 01, "Running", and the refusals 8 to 15. Seat says how a slice finds its row, and the last three are laws that it shares.
+-- The dispatcher: document 01, "Running", and the refusals 8 to 15. Seat says how a slice finds its row.
 -- Assumes nothing.
 pub mod State
 pub mod Form
@@ -7,9 +7,5 @@ pub mod Row
 pub mod Release
 pub mod Slice
 pub mod Start
-pub mod Run
 pub mod OneOutcome
 pub mod Seat
-pub mod Picks
-pub mod Stores
-pub mod Firsts

@@ -1,29 +1,19 @@
 -- Document 01, "Release", and the refusals 12 to 15.
 -- Assumes nothing.
 use Prim.Native.Nat.{ℕ}
-use mathlib.Core.Bool.{Bool, true, not, _&&_}
-use lib.Dec.{ltb, eqb}
+use mathlib.Core.Bool.{true, not}
+use lib.Dec.{ltb}
 use lib.ListN.{set}
-use Rattle.plan.specs.declared.Kind.{Kind}
-use Rattle.plan.specs.declared.answer.Answer.{Answer}
-use Rattle.plan.specs.declared.answer.Refusal.the-variants.{Bare}
-use Rattle.plan.specs.Answer.{refuse, _andThen_}
-use Rattle.plan.specs.Order.{within}
-use Rattle.rack.specs.declared.Unit.{Unit}
+use Rattle.answer.specs.declared.Answer.{Answer}
+use Rattle.answer.specs.declared.Refusal.the-variants.{Bare}
+use Rattle.answer.specs.Answer.{refuse, _andThen_}
+use Rattle.unit.specs.Start.{startable}
 use Rattle.rack.specs.declared.State.{State}
 use Rattle.rack.specs.declared.Next.{Next}
 use Rattle.rack.specs.State.{unitOf, kindAt, nextOf}
 use Rattle.rack.specs.Form.{ready}
 use Rattle.rack.specs.Rank.{gone}
 pub mod Properties
-
--- "released before, and fewer than T slices ago", where so many slices are gone since
-unfoldable pub early : ℕ → Unit → ℕ → Bool
-early separation v ago = v .released && ltb ago separation
-
--- "13: e is 0 or above C", "14", "15: slices of an earlier unit are left"
-unfoldable pub startable : Kind → Unit → ℕ → ℕ → Answer
-startable k v ago e = refuse (not (within (k .length) e)) (Bare 13) andThen (refuse (early (k .separation) v ago) (Bare 14) andThen refuse (not (eqb (v .left) 0)) (Bare 15))
 
 -- "Release: the record order, 10, 12, 13, 14, 15"
 unfoldable pub releaseAnswer : State → ℕ → ℕ → Answer

@@ -1,17 +1,16 @@
 -- How a slice finds its row: for each kind the card that it takes, plus 1, or 0 where it is not served. Row.antt says what the row is.
 -- Assumes nothing.
 use Prim.Native.Nat.{ℕ, zero, suc, _+_, _-_, _%_}
-use mathlib.Core.Bool.{Bool, cond, _&&_}
+use mathlib.Core.Bool.{cond}
 use mathlib.Core.List.{List}
-use lib.Dec.{ltb, eqb}
-use lib.ListN.{getD, set, replicate}
+use lib.Dec.{eqb}
+use lib.ListN.{set, replicate}
 use Rattle.laws.specs.Written.{written}
-use Rattle.laws.specs.Ranking.{rankIn, sooner}
 use Rattle.plan.specs.declared.Plan.{Plan}
 use Rattle.plan.specs.declared.Kind.{Kind}
 use Rattle.layout.specs.Cards.{cardsBelow}
 use Rattle.layout.specs.Layout.{firstCell}
-use Rattle.rack.specs.declared.Unit.{Unit}
+use Rattle.unit.specs.declared.Unit.{Unit}
 use Rattle.rack.specs.declared.State.{State}
 use Rattle.rack.specs.State.{unitOf, kindAt}
 use Rattle.rack.specs.Rank.{rank, served}
@@ -31,7 +30,7 @@ seatOf s i = cond (served s i) (lowest (s .plan) (s .clock) (kindAt s i .project
 unfoldable pub seatsOf : State → List ℕ
 seatsOf s = written (s .plan .kinds) (seatOf s) (replicate 16 0)
 
--- ---- from arrays: for each kind its project plus 1 or 0 where nothing is left, and its due clock; for each project the card from which its own go on
+-- ---- what the seats are found from
 
 -- of a kind with slices left, its project plus 1; else 0
 unfoldable pub worksFor : Unit → Kind → ℕ
@@ -40,26 +39,6 @@ worksFor v k = cond (eqb (v .left) 0) 0 (k .project + 1)
 -- kind i's
 abbrev pub worksOf : State → ℕ → ℕ
 worksOf s i = worksFor (unitOf s i) (kindAt s i)
-
--- what stands in an array at place k
-abbrev pub at : List ℕ → ℕ → ℕ
-at l k = getD l k 0
-
--- how many kinds of the same project outrank kind i
-unfoldable pub rankBy : List ℕ → List ℕ → ℕ → ℕ → ℕ
-rankBy works due n i = rankIn n (λ k. eqb (at works k) (at works i)) (sooner (at due)) i
-
--- whether kind k is one of them
-unfoldable pub aheadBy : List ℕ → List ℕ → ℕ → ℕ → Bool
-aheadBy works due i k = eqb (at works k) (at works i) && sooner (at due) k i
-
--- a card below the end of a project's, plus 1, or 0
-unfoldable pub seatAt : ℕ → ℕ → ℕ
-seatAt card end = cond (ltb card end) (card + 1) 0
-
--- where kind i sits: its project's card of its rank, or nowhere
-unfoldable pub seatBy : List ℕ → List ℕ → List ℕ → ℕ → ℕ → ℕ
-seatBy works due low n i = cond (eqb (at works i) 0) 0 (seatAt (at low (at works i - 1) + rankBy works due n i) (at low (at works i)))
 
 -- ---- the row from the seats
 

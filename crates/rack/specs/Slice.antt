@@ -7,10 +7,10 @@ use mathlib.Core.List.{List}
 use lib.Dec.{ltb, eqb}
 use lib.ListN.{length}
 use Rattle.laws.specs.Written.{written}
-use Rattle.plan.specs.declared.answer.Answer.{Answer}
-use Rattle.plan.specs.declared.answer.Refusal.the-variants.{Bare}
-use Rattle.plan.specs.Answer.{refuse, _andThen_, ifGood}
-use Rattle.rack.specs.declared.Unit.{Unit}
+use Rattle.answer.specs.declared.Answer.{Answer}
+use Rattle.answer.specs.declared.Refusal.the-variants.{Bare}
+use Rattle.answer.specs.Answer.{refuse, _andThen_, ifGood}
+use Rattle.unit.specs.declared.Unit.{Unit}
 use Rattle.rack.specs.declared.State.{State}
 use Rattle.rack.specs.declared.Next.{Next}
 use Rattle.rack.specs.State.{unitOf, nextOf}

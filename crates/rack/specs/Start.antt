@@ -1,8 +1,8 @@
 -- Document 01, "Starting fresh", and the refusal 8.
 -- Assumes nothing.
 use Rattle.plan.specs.declared.Plan.{Plan}
-use Rattle.plan.specs.declared.answer.Answer.{Answer}
-use Rattle.plan.specs.Answer.{_andThen_}
+use Rattle.answer.specs.declared.Answer.{Answer}
+use Rattle.answer.specs.Answer.{_andThen_}
 use Rattle.plan.specs.Order.{checked}
 use Rattle.verdict.specs.Verdict.{admitted}
 use Rattle.rack.specs.declared.Next.{Next}

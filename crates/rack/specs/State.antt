@@ -1,22 +1,18 @@
 -- Document 01, "Running": the state and its places, and what a call that may be refused hands back.
 -- Assumes nothing.
 use Prim.Native.Nat.{ℕ}
-use mathlib.Core.Bool.{false}
 use lib.ListN.{getD, replicate}
 use Rattle.plan.specs.declared.Plan.{Plan}
 use Rattle.plan.specs.declared.Kind.{Kind}
-use Rattle.plan.specs.declared.answer.Answer.{Answer}
+use Rattle.answer.specs.declared.Answer.{Answer}
 use Rattle.plan.specs.Record.{noPlan}
 use Rattle.plan.specs.Order.{kindOf}
-use Rattle.plan.specs.Answer.{ifGood}
-use Rattle.rack.specs.declared.Unit.{Unit}
+use Rattle.answer.specs.Answer.{ifGood}
+use Rattle.unit.specs.declared.Unit.{Unit}
+use Rattle.unit.specs.Unit.{noUnit}
 use Rattle.rack.specs.declared.State.{State}
 use Rattle.rack.specs.declared.Next.{Next}
 pub mod Properties
-
--- "a kind never released has release clock 0 and left 0"
-abbrev pub noUnit : Unit
-noUnit = record { released = false; at = 0; left = 0 }
 
 -- the plan at clock 0, with no kind ever released
 abbrev pub freshOf : Plan → State

@@ -8,18 +8,12 @@ mod release;
 mod slice;
 
 ghost use mathlib.Core.Path.{_≡_};
-ghost use Rattle.rack.specs.State.{noUnit, freshOf, noState};
+ghost use Rattle.rack.specs.State.{freshOf, noState};
 ghost use Rattle.rack.specs.Start.{startOf};
-use plan::Answer;
+use answer::Answer;
 use plan::Plan;
+use unit::Unit;
 use verdict::judge;
-
-// A kind's last unit: whether there ever was one, the clock at its release, and the slices left.
-pub struct Unit {
-    pub released: bool,
-    pub at: u32,
-    pub left: u16,
-}
 
 // The plan that runs, the clock, and a place for each kind's unit. Places beyond the plan's kinds
 // hold zeros.
@@ -33,18 +27,6 @@ pub struct State {
 pub struct Next {
     pub answer: Answer,
     pub state: State,
-}
-
-impl Unit {
-    fn empty() -> Self
-        ensures { λ r. ⌜ r ≡ noUnit ⌝ }
-    {
-        Unit {
-            released: false,
-            at: 0,
-            left: 0,
-        }
-    }
 }
 
 impl State {

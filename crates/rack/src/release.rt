@@ -1,42 +1,11 @@
 // A release: a unit of a kind starts, with a length.
 ghost use mathlib.Core.Path.{_≡_};
-ghost use Rattle.rack.specs.Release.{early, startable, releaseAnswer, releaseOf};
+ghost use Rattle.rack.specs.Release.{releaseAnswer, releaseOf};
 use crate::Next;
 use crate::State;
-use crate::Unit;
-use plan::Answer;
-use plan::Kind;
-use plan::Refusal;
-
-impl Unit {
-    fn is_early(self, separation: u16, ago: u32) -> bool
-        ensures { λ r. ⌜ r ≡ early separation self ago ⌝ }
-    {
-        if !self.released {
-            return false;
-        }
-        ago < separation as u32
-    }
-
-    // 13, 14, 15.
-    fn may_start(self, kind: Kind, ago: u32, length: u32) -> Answer
-        ensures { λ r. ⌜ r ≡ startable kind self ago length ⌝ }
-    {
-        if length == 0 {
-            return Answer::No(Refusal::Bare(13));
-        }
-        if (kind.length as u32) < length {
-            return Answer::No(Refusal::Bare(13));
-        }
-        if self.is_early(kind.separation, ago) {
-            return Answer::No(Refusal::Bare(14));
-        }
-        if self.left != 0 {
-            return Answer::No(Refusal::Bare(15));
-        }
-        Answer::Good
-    }
-}
+use answer::Answer;
+use answer::Refusal;
+use unit::Unit;
 
 impl State {
     // The record order, 10, 12, 13, 14, 15.
@@ -67,9 +36,9 @@ impl State {
             };
         };
         self.unit[kind] = Unit {
-            released: true,
             at: self.clock,
             left: length as u16,
+            released: true,
         };
         Next {
             answer,

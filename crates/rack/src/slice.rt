@@ -7,90 +7,23 @@
 // Of n kinds, a of them with slices left, on m cards for p projects, that is a·n steps for the
 // ranks and 4n + p + m for the rest, after a check of 40 + n + 2p.
 ghost use mathlib.Core.Path.{_≡_};
-ghost use mathlib.Core.Bool.{_&&_, _||_};
 ghost use Prim.Native.Nat.{ℕ, _+_, _-_, _≤_, _<_, _%_};
-ghost use lib.Dec.{ltb, eqb};
 ghost use lib.ListN.{length, replicate};
 ghost use Rattle.laws.specs.Written.{written};
 ghost use Rattle.plan.specs.Order.Properties.{InOrder};
 ghost use Rattle.rack.specs.Form.Properties.{Ready};
-ghost use Rattle.rack.specs.Seat.{at, idle, worksFor, rankBy, seatAt, seatBy, lowest, seatsOf, seated};
+ghost use Rattle.seats.specs.Seats.{at};
+ghost use Rattle.rack.specs.Seat.{idle, worksFor, lowest, seatsOf, seated};
 ghost use Rattle.rack.specs.Slice.{sliceAnswer, advanced, Sliced};
 use crate::Next;
 use crate::State;
-use crate::Unit;
+use answer::Answer;
+use answer::Refusal;
 use layout::cards_below;
-use plan::Answer;
 use plan::Kind;
 use plan::Plan;
-use plan::Refusal;
-
-// Whether kind k, due then, goes before kind i.
-fn outranks(due: u32, k: usize, than: u32, i: usize) -> bool
-    ensures { λ r. ⌜ r ≡ (ltb due than || (eqb due than && ltb k i)) ⌝ }
-{
-    if due < than {
-        return true;
-    }
-    if due != than {
-        return false;
-    }
-    k < i
-}
-
-// How many kinds of the same project outrank kind i.
-fn rank(works: &[u8; 16], due: &[u32; 16], kinds: usize, i: usize) -> u8
-    requires { ⌜ (kinds ≤ 16) × (i < kinds) ⌝ }
-    ensures { λ r. ⌜ (r ≡ rankBy (now (works .entry)) (now (due .entry)) kinds i) × (r ≤ 16) ⌝ }
-{
-    let project = works[i];
-    let than = due[i];
-    let mut rank: u8 = 0;
-    for k in 0..kinds {
-        if works[k] != project {
-            continue;
-        }
-        if !outranks(due[k], k, than, i) {
-            continue;
-        }
-        rank += 1;
-    }
-    rank
-}
-
-// A card below the end of a project's, plus 1; else 0.
-fn seat_at(card: u8, end: u8) -> u8
-    ensures { λ r. ⌜ r ≡ seatAt card end ⌝ }
-{
-    if card < end {
-        return card + 1;
-    }
-    0
-}
-
-// Where kind i sits.
-fn seat(works: &[u8; 16], due: &[u32; 16], low: &[u8; 9], kinds: usize, i: usize) -> u8
-    requires { ⌜ (kinds ≤ 16) × (i < kinds) × (at (now works) i ≤ 8) × ((j : ℕ) → at (now low) j ≤ 8) ⌝ }
-    ensures { λ r. ⌜ r ≡ seatBy (now (works .entry)) (now (due .entry)) (now (low .entry)) kinds i ⌝ }
-{
-    let number = works[i] as usize;
-    if number == 0 {
-        return 0;
-    }
-    seat_at(low[number - 1] + rank(works, due, kinds, i), low[number])
-}
-
-// Where every kind sits.
-fn seats(works: &[u8; 16], due: &[u32; 16], low: &[u8; 9], kinds: usize) -> [u8; 16]
-    requires { ⌜ (kinds ≤ 16) × ((i : ℕ) → at (now works) i ≤ 8) × ((j : ℕ) → at (now low) j ≤ 8) ⌝ }
-    ensures { λ r. ⌜ r ≡ written kinds (seatBy (now (works .entry)) (now (due .entry)) (now (low .entry)) kinds) (replicate 16 0) ⌝ }
-{
-    let mut seats = [0u8; 16];
-    for i in 0..kinds {
-        seats[i] = seat(works, due, low, kinds, i);
-    }
-    seats
-}
+use seats::seats;
+use unit::Unit;
 
 // For each project the card from which its own go on in this slice, and past the last project the
 // card after them: one walk over the projects.
@@ -132,25 +65,23 @@ fn seat_kinds(out: &mut [u8], seat: &[u8; 16], kinds: usize)
     }
 }
 
-impl Unit {
-    // For a kind with slices left its project plus 1; else 0.
-    fn works_for(self, kind: Kind) -> u8
-        requires { ⌜ kind .project < 8 ⌝ }
-        ensures { λ r. ⌜ r ≡ worksFor self kind ⌝ }
-    {
-        if self.left == 0 {
-            return 0;
-        }
-        kind.project + 1
+// For a kind with slices left its project plus 1; else 0.
+fn works_for(unit: Unit, kind: Kind) -> u8
+    requires { ⌜ kind .project < 8 ⌝ }
+    ensures { λ r. ⌜ r ≡ worksFor unit kind ⌝ }
+{
+    if unit.left == 0 {
+        return 0;
     }
+    kind.project + 1
+}
 
-    // Release clock plus D.
-    fn due(self, kind: Kind) -> u32
-        requires { ⌜ self .at ≤ 1000000000 ⌝ }
-        ensures { λ r. ⌜ r ≡ self .at + kind .deadline ⌝ }
-    {
-        self.at + kind.deadline as u32
-    }
+// Release clock plus D.
+fn due_clock(unit: Unit, kind: Kind) -> u32
+    requires { ⌜ unit .at ≤ 1000000000 ⌝ }
+    ensures { λ r. ⌜ r ≡ unit .at + kind .deadline ⌝ }
+{
+    unit.at + kind.deadline as u32
 }
 
 impl State {
@@ -164,8 +95,8 @@ impl State {
         let mut works = [0u8; 16];
         let mut due = [0u32; 16];
         for i in 0..kinds {
-            works[i] = self.unit[i].works_for(plan.kind[i]);
-            due[i] = self.unit[i].due(plan.kind[i]);
+            works[i] = works_for(self.unit[i], plan.kind[i]);
+            due[i] = due_clock(self.unit[i], plan.kind[i]);
         }
         let low = lowest_cards(plan, self.clock);
         seats(&works, &due, &low, kinds)

@@ -9,7 +9,7 @@ use Rattle.plan.specs.declared.Project.{Project}
 use Rattle.plan.specs.declared.Kind.{Kind}
 use Rattle.plan.specs.declared.Plan.{Plan}
 use Rattle.plan.specs.Record.{noProject, noKind}
-use Rattle.plan.specs.Answer.{number, place, excess}
+use Rattle.answer.specs.Answer.{number, place, excess}
 use Rattle.layout.specs.Layout.{slotOf, held}
 use Rattle.supply.specs.Supply.{supply}
 use Rattle.plan_bytes.specs.declared.Reading.{Reading}
@@ -17,7 +17,7 @@ use Rattle.plan_bytes.specs.Parts.{encoded}
 use Rattle.plan_bytes.specs.Reading.{readOf}
 use Rattle.verdict.specs.declared.Verdict.{Verdict}
 use Rattle.verdict.specs.Verdict.{judged}
-use Rattle.plan.specs.declared.answer.Answer.the-variants.{Good}
+use Rattle.answer.specs.declared.Answer.the-variants.{Good}
 pub mod Properties
 
 -- ---- the plans

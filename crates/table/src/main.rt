@@ -1,6 +1,6 @@
 // Runs document 01's table P1 to P11 and prints what comes out; the gate compares. The same table
 // is one proved claim, specs/Table.antt.
-use plan::Answer;
+use answer::Answer;
 use plan::Kind;
 use plan::Plan;
 use plan::Project;

@@ -6,9 +6,9 @@ use lib.Dec.{eqb}
 use lib.ListN.{replicate}
 use Rattle.laws.specs.Written.{written}
 use Rattle.plan.specs.declared.Plan.{Plan}
-use Rattle.plan.specs.declared.answer.Answer.{Answer}
-use Rattle.plan.specs.declared.answer.Refusal.the-variants.{ByKind}
-use Rattle.plan.specs.Answer.{refuse, _andThen_, eachTo, ifGood}
+use Rattle.answer.specs.declared.Answer.{Answer}
+use Rattle.answer.specs.declared.Refusal.the-variants.{ByKind}
+use Rattle.answer.specs.Answer.{refuse, _andThen_, eachTo, ifGood}
 use Rattle.plan.specs.Order.{projectOf, kindOf, checked}
 use Rattle.layout.specs.Layout.{held}
 use Rattle.supply.specs.Supply.{supply}

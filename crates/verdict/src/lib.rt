@@ -3,16 +3,16 @@
 ghost use mathlib.Core.Path.{_≡_};
 ghost use Prim.Native.Nat.{_+_, _*_, _≤_, _<_};
 ghost use lib.Dec.{eqb};
-ghost use Rattle.plan.specs.declared.answer.Refusal.the-variants.{ByKind};
-ghost use Rattle.plan.specs.Answer.{refuse};
+ghost use Rattle.answer.specs.declared.Refusal.the-variants.{ByKind};
+ghost use Rattle.answer.specs.Answer.{refuse};
 ghost use Rattle.plan.specs.Order.{kindOf};
 ghost use Rattle.plan.specs.Order.Properties.{InOrder};
 ghost use Rattle.verdict.specs.Workload.{workload};
 ghost use Rattle.verdict.specs.Verdict.{admitted, verdictOf, judged};
 ghost use Rattle.verdict.specs.Steps.{runCards, projectCards, allCards, fitOn};
-use plan::Answer;
+use answer::Answer;
 use plan::Plan;
-use plan::Refusal;
+use answer::Refusal;
 use supply::Fit;
 
 // The answer, and beside it document 01's k for each kind: the most cards that count at one

@@ -6,9 +6,9 @@ use Rattle.exports.proofs.told.Reads as reads
 use Rattle.exports.proofs.told.Lts as lts
 use Rattle.exports.proofs.byte.Reads as byte-reads
 use Rattle.exports.proofs.word.Reads as word-reads
-use Rattle.plan.proofs.answer.Answer.excess.Reads as excess-reads
-use Rattle.plan.proofs.answer.Answer.number.Reads as number-reads
-use Rattle.plan.proofs.answer.Answer.place.Reads as place-reads
+use Rattle.answer.proofs.Answer.excess.Reads as excess-reads
+use Rattle.answer.proofs.Answer.number.Reads as number-reads
+use Rattle.answer.proofs.Answer.place.Reads as place-reads
 
 -- src/lib.rt:31:10
 number-requires : tie.Need-number-requires

@@ -12,12 +12,12 @@ use lib.ListN.{length, drop, getD}
 use borrow.Author.Tests.{lt-ltb, le-ltb, lt-leb, ne-eqb}
 use Rattle.laws.specs.Written.{written}
 use Rattle.plan.specs.declared.Plan.{Plan}
-use Rattle.plan.specs.declared.answer.Answer.{Answer}
-use Rattle.plan.specs.declared.answer.Answer.the-variants.{Good, No}
-use Rattle.plan.specs.declared.answer.Refusal.{Refusal}
-use Rattle.plan.specs.declared.answer.Refusal.the-variants.{Bare}
-use Rattle.plan.specs.Answer.{refuse, _andThen_, ifGood}
-use Rattle.plan.specs.Answer.Properties.{andThen-left, andThen-right, andThen-good, opened-no, opened-on, refuse-good, refused, passed}
+use Rattle.answer.specs.declared.Answer.{Answer}
+use Rattle.answer.specs.declared.Answer.the-variants.{Good, No}
+use Rattle.answer.specs.declared.Refusal.{Refusal}
+use Rattle.answer.specs.declared.Refusal.the-variants.{Bare}
+use Rattle.answer.specs.Answer.{refuse, _andThen_, ifGood}
+use Rattle.answer.specs.Answer.Properties.{andThen-left, andThen-right, andThen-good, opened-no, opened-on, refuse-good, refused, passed}
 use Rattle.plan.specs.Order.{checked, within}
 use Rattle.plan.specs.Order.Properties.{InOrder, in-order}
 use Rattle.plan_bytes.specs.declared.Reading.{Reading}

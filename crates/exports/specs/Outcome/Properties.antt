@@ -7,11 +7,11 @@ use native.Mathlib.Omega.{arith}
 use lib.Dec.{ltb}
 use lib.ListN.{length}
 use borrow.Author.Tests.{lt-ltb, le-ltb}
-use Rattle.plan.specs.declared.answer.Answer.{Answer}
-use Rattle.plan.specs.declared.answer.Answer.the-variants.{Good, No}
-use Rattle.plan.specs.declared.answer.Refusal.{Refusal}
-use Rattle.plan.specs.declared.answer.Refusal.the-variants.{Bare}
-use Rattle.plan.specs.Answer.{number, place, excess, refuse, _andThen_, ifGood}
+use Rattle.answer.specs.declared.Answer.{Answer}
+use Rattle.answer.specs.declared.Answer.the-variants.{Good, No}
+use Rattle.answer.specs.declared.Refusal.{Refusal}
+use Rattle.answer.specs.declared.Refusal.the-variants.{Bare}
+use Rattle.answer.specs.Answer.{number, place, excess, refuse, _andThen_, ifGood}
 use Rattle.exports.specs.Outcome.{told, room, Outcome}
 
 -- the parts as the code finds and widens them

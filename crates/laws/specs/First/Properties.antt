@@ -82,3 +82,18 @@ first-least (suc n) f k p l =
 -- one that holds settles that there is one
 pub first-some : (n : ℕ) (f : ℕ → Bool) (k : ℕ) → 0 < k → k ≤ n → f k ≡ true → 0 < firstTo n f
 first-some n f k p l t = elim (decLt 0 (firstTo n f)) [ yes q ↦ q | no q ↦ absurd (true≢false (sym t ∙ first-zero n f (omega arith) k p l)) ]
+
+-- ---- two tests, and one more place
+
+pub first-cong : (n : ℕ) (f g : ℕ → Bool) → ((k : ℕ) → 0 < k → k ≤ n → f k ≡ g k) → firstTo n f ≡ firstTo n g
+unfolding firstTo
+first-cong zero f g h = refl
+first-cong (suc n) f g h = rw (first-cong n f g (λ k p l. h k p (omega arith)), h (suc n) (omega arith) (omega arith))
+
+-- one at which the test fails is passed over
+pub first-skip : (n : ℕ) (f : ℕ → Bool) → f (suc n) ≡ false → firstTo (suc n) f ≡ firstTo n f
+first-skip n f e = elim (decLt 0 (firstTo n f)) [ yes p ↦ first-kept n f p | no p ↦ first-next n f (omega arith) ∙ rw e (omega arith) ]
+
+-- the first at which it holds
+pub first-new : (n : ℕ) (f : ℕ → Bool) → f (suc n) ≡ true → ((k : ℕ) → 0 < k → k ≤ n → f k ≡ true → ⊥) → firstTo (suc n) f ≡ suc n
+first-new n f e h = elim (decLt 0 (firstTo n f)) [ yes p ↦ absurd (h (firstTo n f) p (first-le n f) (first-holds n f p)) | no p ↦ first-next n f (omega arith) ∙ rw e ]

@@ -11,8 +11,7 @@ use borrow.Author.Tests.{lt-ltb, le-ltb, eq-eqb, ne-eqb, eqb-true, eqb-false}
 use Rattle.laws.specs.Sum.{sumTo}
 use Rattle.laws.specs.Sum.Properties.{sum-add, sum-cong, sum-zero}
 use Rattle.laws.specs.Count.{countTo}
-use Rattle.laws.specs.Count.Properties.{count-le}
-use Rattle.layout.specs.Counts.{count-split, count-sum}
+use Rattle.laws.specs.Count.Properties.{count-le, count-split, count-sum}
 use Rattle.layout.specs.Layout.{cellAt}
 use Rattle.layout.specs.Cards.{cardsBelow, heldFrom}
 

@@ -1,22 +1,22 @@
 -- Laws of the record's order: what a good answer says of each field, and that nothing less is asked.
 -- Assumes nothing.
-use mathlib.Core.Path.{_≡_, refl, sym, ap, _∙_}
+use mathlib.Core.Path.{_≡_, refl, sym, _∙_}
 use mathlib.Core.Bool.{Bool, true, false, not, _&&_, _||_, true≢false}
 use Prim.Native.Nat.{ℕ, _*_, _≤_, _<_}
 use native.Mathlib.Omega.{arith}
 use lib.Dec.{leb, ltb, eqb}
-use borrow.Author.Tests.{lt-ltb, le-ltb, le-leb, ne-eqb, ltb-true, leb-true, eqb-true, eqb-false, not-true, not-false}
-use Rattle.laws.specs.Tests.{and-left, and-right, and-both}
+use borrow.Author.Tests.{lt-ltb, le-ltb, le-leb, ne-eqb, ltb-true, leb-true, eqb-false, not-true, not-false}
+use Rattle.laws.specs.Tests.{and-left, and-right}
 use Rattle.laws.specs.All.Properties.{all-at, all-of}
 use Rattle.plan.specs.declared.Project.{Project}
 use Rattle.plan.specs.declared.Kind.{Kind}
 use Rattle.plan.specs.declared.Plan.{Plan}
-use Rattle.plan.specs.declared.answer.Answer.{Answer}
-use Rattle.plan.specs.declared.answer.Answer.the-variants.{Good}
-use Rattle.plan.specs.declared.answer.Refusal.the-variants.{Bare, ByProject, ByKind}
+use Rattle.answer.specs.declared.Answer.{Answer}
+use Rattle.answer.specs.declared.Answer.the-variants.{Good}
+use Rattle.answer.specs.declared.Refusal.the-variants.{Bare, ByProject, ByKind}
 use Rattle.plan.specs.Record.{noProject, noKind}
-use Rattle.plan.specs.Answer.{refuse, _andThen_}
-use Rattle.plan.specs.Answer.Properties.{andThen-left, andThen-right, refuse-good, each-at, each-of}
+use Rattle.answer.specs.Answer.{refuse, _andThen_}
+use Rattle.answer.specs.Answer.Properties.{andThen-left, andThen-right, refuse-good, each-at, each-of}
 use Rattle.plan.specs.Order.{within, sized, emptyProject, emptyKind, tidyProject, tidyKind, tidyProjects, tidyKinds, inRange, timed, budgets, projectOf, kindOf, sizes, unused, projectInRange, projectsInRange, kindInRange, kindInRangeAt, kindsInRange, budgetsFit, ranges, checked}
 
 -- ---- "1..most"

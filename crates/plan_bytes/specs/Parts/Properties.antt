@@ -9,11 +9,10 @@ use native.Mathlib.Omega.{arith}
 use lib.ListN.{length, take, drop, set, getD, length-drop, replicate}
 use lib.Seq.{sets, take-all}
 use Rattle.laws.specs.Written.Properties.{written-none, written-again, written-stop}
-use Rattle.plan.specs.Record.{noProject, noKind}
+use Rattle.plan.specs.Record.{noProject, noKind, noPlan}
 use Rattle.plan.specs.declared.Project.{Project}
 use Rattle.plan.specs.declared.Kind.{Kind}
 use Rattle.plan.specs.declared.Plan.{Plan}
-use Rattle.plan.specs.Record.{noPlan}
 use Rattle.plan_bytes.specs.Pack.{bits, pack, unpack}
 use Rattle.plan_bytes.specs.Bytes.{numberTo, bytesOf}
 use Rattle.plan_bytes.specs.Parts.{headerBytes, projectBytes, kindBytes, headerFields, projectFields, kindFields, projectFrom, kindFrom, projectAt, kindAt, projectsFrom, kindsFrom, headed, decoded, size}

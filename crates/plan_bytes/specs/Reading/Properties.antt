@@ -12,13 +12,13 @@ use lib.ListN.{length, take, drop, getD, replicate, getD-replicate}
 use Rattle.laws.specs.All.Properties.{all-none, all-again, all-end, all-of}
 use Rattle.laws.specs.Written.Properties.{written-kept}
 use Rattle.plan.specs.declared.Plan.{Plan}
-use Rattle.plan.specs.declared.answer.Answer.{Answer}
-use Rattle.plan.specs.declared.answer.Answer.the-variants.{Good, No}
-use Rattle.plan.specs.declared.answer.Refusal.{Refusal}
-use Rattle.plan.specs.declared.answer.Refusal.the-variants.{Bare}
+use Rattle.answer.specs.declared.Answer.{Answer}
+use Rattle.answer.specs.declared.Answer.the-variants.{Good, No}
+use Rattle.answer.specs.declared.Refusal.{Refusal}
+use Rattle.answer.specs.declared.Refusal.the-variants.{Bare}
 use Rattle.plan.specs.Record.{noProject, noKind, noPlan}
-use Rattle.plan.specs.Answer.{refuse, _andThen_}
-use Rattle.plan.specs.Answer.Properties.{refused, passed, stage-no, stage-on, opened-no, opened-on}
+use Rattle.answer.specs.Answer.{refuse, _andThen_}
+use Rattle.answer.specs.Answer.Properties.{refused, passed, stage-no, stage-on, opened-no, opened-on}
 use Rattle.plan.specs.Order.{projectOf, kindOf, emptyProject, emptyKind, tidyProject, tidyKind, tidyProjects, tidyKinds, sized, sizes, unused, ranges, checked}
 use Rattle.plan.specs.Order.Properties.{used-place, kept-empty, no-project-empty, no-kind-empty}
 use Rattle.plan_bytes.specs.declared.Reading.{Reading}

@@ -18,11 +18,11 @@ use Rattle.laws.specs.Written.Properties.{written-at, written-kept, written-len
 use Rattle.plan.specs.declared.Project.{Project}
 use Rattle.plan.specs.declared.Kind.{Kind}
 use Rattle.plan.specs.declared.Plan.{Plan}
-use Rattle.plan.specs.declared.answer.Answer.the-variants.{Good}
-use Rattle.plan.specs.declared.answer.Refusal.the-variants.{Bare}
+use Rattle.answer.specs.declared.Answer.the-variants.{Good}
+use Rattle.answer.specs.declared.Refusal.the-variants.{Bare}
 use Rattle.plan.specs.Record.{noProject, noKind}
-use Rattle.plan.specs.Answer.{refuse, _andThen_, ifGood}
-use Rattle.plan.specs.Answer.Properties.{andThen-left, andThen-right}
+use Rattle.answer.specs.Answer.{refuse, _andThen_, ifGood}
+use Rattle.answer.specs.Answer.Properties.{andThen-left, andThen-right}
 use Rattle.plan.specs.Order.{projectOf, kindOf, emptyProject, emptyKind, sized, sizes, unused, ranges, checked}
 use Rattle.plan.specs.Order.Properties.{InOrder, in-order, ProjectInRange, KindInRange}
 use Rattle.plan_bytes.specs.Pack.{bits, pack, unpack, Fitting}

@@ -16,12 +16,12 @@ use Rattle.laws.specs.Written.Properties.{written-at, written-length}
 use Rattle.plan.specs.declared.Project.{Project}
 use Rattle.plan.specs.declared.Kind.{Kind}
 use Rattle.plan.specs.declared.Plan.{Plan}
-use Rattle.plan.specs.declared.answer.Answer.{Answer}
-use Rattle.plan.specs.declared.answer.Answer.the-variants.{Good, No}
-use Rattle.plan.specs.declared.answer.Refusal.the-variants.{Bare}
+use Rattle.answer.specs.declared.Answer.{Answer}
+use Rattle.answer.specs.declared.Answer.the-variants.{Good, No}
+use Rattle.answer.specs.declared.Refusal.the-variants.{Bare}
 use Rattle.plan.specs.Record.{noProject, noKind, noPlan}
-use Rattle.plan.specs.Answer.{refuse, _andThen_, ifGood}
-use Rattle.plan.specs.Answer.Properties.{andThen-left, andThen-right, refuse-good}
+use Rattle.answer.specs.Answer.{refuse, _andThen_, ifGood}
+use Rattle.answer.specs.Answer.Properties.{andThen-left, andThen-right, refuse-good}
 use Rattle.plan.specs.Order.{projectOf, kindOf, sizes, ranges, checked}
 use Rattle.plan.specs.Order.Properties.{Sized, sizes-says}
 use Rattle.plan_bytes.specs.Pack.{bits, pack, unpack}

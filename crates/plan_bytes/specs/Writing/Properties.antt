@@ -8,12 +8,12 @@ use native.Mathlib.Omega.{arith}
 use lib.Dec.{ltb}
 use borrow.Author.Tests.{lt-ltb, le-ltb}
 use Rattle.plan.specs.declared.Plan.{Plan}
-use Rattle.plan.specs.declared.answer.Answer.{Answer}
-use Rattle.plan.specs.declared.answer.Answer.the-variants.{Good, No}
-use Rattle.plan.specs.declared.answer.Refusal.{Refusal}
-use Rattle.plan.specs.declared.answer.Refusal.the-variants.{Bare}
-use Rattle.plan.specs.Answer.{refuse, _andThen_, ifGood}
-use Rattle.plan.specs.Answer.Properties.{opened-no, opened-on}
+use Rattle.answer.specs.declared.Answer.{Answer}
+use Rattle.answer.specs.declared.Answer.the-variants.{Good, No}
+use Rattle.answer.specs.declared.Refusal.{Refusal}
+use Rattle.answer.specs.declared.Refusal.the-variants.{Bare}
+use Rattle.answer.specs.Answer.{refuse, _andThen_, ifGood}
+use Rattle.answer.specs.Answer.Properties.{opened-no, opened-on}
 use Rattle.plan.specs.Order.{checked}
 use Rattle.plan_bytes.specs.declared.Written.{Written}
 use Rattle.plan_bytes.specs.Parts.{encoded, size}

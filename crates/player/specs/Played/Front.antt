@@ -13,13 +13,13 @@ use borrow.Author.Tests.{lt-ltb, le-ltb}
 use Rattle.laws.specs.All.{allTo}
 use Rattle.laws.specs.Written.{written}
 use Rattle.plan.specs.declared.Plan.{Plan}
-use Rattle.plan.specs.declared.answer.Answer.{Answer}
-use Rattle.plan.specs.declared.answer.Answer.the-variants.{Good, No}
-use Rattle.plan.specs.declared.answer.Refusal.{Refusal}
-use Rattle.plan.specs.declared.answer.Refusal.the-variants.{Bare, ByProject, ByKind}
+use Rattle.answer.specs.declared.Answer.{Answer}
+use Rattle.answer.specs.declared.Answer.the-variants.{Good, No}
+use Rattle.answer.specs.declared.Refusal.{Refusal}
+use Rattle.answer.specs.declared.Refusal.the-variants.{Bare, ByProject, ByKind}
 use Rattle.plan.specs.Record.{noProject, noKind}
-use Rattle.plan.specs.Answer.{number, refuse, _andThen_, eachTo}
-use Rattle.plan.specs.Answer.Properties.{andThen-good, andThen-no}
+use Rattle.answer.specs.Answer.{number, refuse, _andThen_, eachTo}
+use Rattle.answer.specs.Answer.Properties.{andThen-good, andThen-no}
 use Rattle.plan.specs.Order.{sized, sizes, inRange, timed, projectOf, kindOf, projectInRange, projectsInRange, kindInRange, kindInRangeAt, kindsInRange, budgets, budgetsFit, ranges}
 use Rattle.plan.specs.Order.Properties.{Sized, sizes-says}
 use Rattle.plan_bytes.specs.declared.Reading.{Reading}

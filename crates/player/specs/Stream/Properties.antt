@@ -10,10 +10,10 @@ use lib.Dec.{ltb, eqb}
 use lib.ListN.{length, drop, length-append}
 use lib.Seq.{drop-append-le, drop-drop}
 use borrow.Author.Tests.{le-ltb, eqb-true, eqb-false, ltb-false, eq-eqb}
-use Rattle.plan.specs.declared.answer.Answer.{Answer}
-use Rattle.plan.specs.declared.answer.Answer.the-variants.{Good, No}
-use Rattle.plan.specs.Answer.{number, _andThen_, ifGood}
-use Rattle.plan.specs.Answer.Properties.{andThen-left}
+use Rattle.answer.specs.declared.Answer.{Answer}
+use Rattle.answer.specs.declared.Answer.the-variants.{Good, No}
+use Rattle.answer.specs.Answer.{number, _andThen_, ifGood}
+use Rattle.answer.specs.Answer.Properties.{andThen-left}
 use Rattle.plan_bytes.specs.declared.Reading.{Reading}
 use Rattle.plan_bytes.specs.Bytes.{numberTo}
 use Rattle.plan_bytes.specs.Bytes.Properties.{number-append}

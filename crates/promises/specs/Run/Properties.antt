@@ -8,8 +8,8 @@ use lib.ListN.{length, getD, take}
 use lib.Seq.{length-take-le, getD-take}
 use Rattle.laws.specs.Written.Properties.{written-at, written-length}
 use Rattle.plan.specs.declared.Plan.{Plan}
-use Rattle.plan.specs.declared.answer.Answer.{Answer}
-use Rattle.plan.specs.declared.answer.Answer.the-variants.{Good, No}
+use Rattle.answer.specs.declared.Answer.{Answer}
+use Rattle.answer.specs.declared.Answer.the-variants.{Good, No}
 use Rattle.rack.specs.declared.State.{State}
 use Rattle.rack.specs.Form.Properties.{Ready}
 use Rattle.rack.specs.Row.{rowByte, rowOver}

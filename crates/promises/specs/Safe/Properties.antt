@@ -8,16 +8,17 @@ use native.Mathlib.Omega.{arith}
 use lib.ListN.{length, getD-replicate}
 use borrow.Author.Tests.{eq-eqb}
 use Rattle.plan.specs.declared.Plan.{Plan}
-use Rattle.plan.specs.declared.answer.Answer.the-variants.{Good}
+use Rattle.answer.specs.declared.Answer.the-variants.{Good}
 use Rattle.verdict.specs.Verdict.{judged}
 use Rattle.verdict.specs.Admission.Properties.{judged-in-order}
-use Rattle.rack.specs.declared.Unit.{Unit}
+use Rattle.unit.specs.declared.Unit.{Unit}
 use Rattle.rack.specs.declared.State.{State}
-use Rattle.rack.specs.State.{unitOf, kindAt, freshOf, noUnit}
-use Rattle.rack.specs.Form.Properties.{UnitInForm}
+use Rattle.unit.specs.Unit.{noUnit}
+use Rattle.rack.specs.State.{unitOf, kindAt, freshOf}
+use Rattle.unit.specs.Form.Properties.{UnitInForm}
 use Rattle.rack.specs.Rank.{gone, until, served}
 use Rattle.rack.specs.Start.{startAnswer, startOf}
-use Rattle.rack.specs.Start.Properties.{start-good, fresh-sound}
+use Rattle.rack.specs.Start.Properties.{start-good, fresh-form, fresh-places}
 use Rattle.rack.specs.Release.{released, releaseAnswer}
 use Rattle.rack.specs.Release.Properties.{release-says, release-form, release-places}
 use Rattle.rack.specs.Slice.{advanced, sliceAnswer}
@@ -58,11 +59,10 @@ module _ (s : State) (safe : Safe s) (i : ℕ) (l : i < s .plan .kinds) where
 fresh-safe : (p : Plan) → judged p .answer ≡ Good → Safe (freshOf p)
 fresh-safe p good =
     let order = judged-in-order p good in
-    let sound = fresh-sound p order in
     record {
       admitted = good;
-      ready = sound .ready;
-      places = sound .places;
+      ready = fresh-form p order;
+      places = fresh-places p;
       on-track = λ j. idle-on-track (setupOf p j) (view-admitted p good j) (momentOf (freshOf p)) (λ i o. ap (λ (v : Unit). v .left) (getD-replicate 16 i noUnit noUnit (omega (arith, o .below, order .counts .kinds-most))));
     }
 

@@ -9,14 +9,15 @@ use native.Mathlib.Omega.{arith}
 use lib.Dec.{eqb}
 use lib.ListN.{length}
 use borrow.Author.Tests.{eq-eqb, ne-eqb}
-use Rattle.plan.specs.declared.answer.Answer.{Answer}
-use Rattle.plan.specs.declared.answer.Answer.the-variants.{Good, No}
-use Rattle.plan.specs.Answer.{ifGood}
-use Rattle.rack.specs.declared.Unit.{Unit}
+use Rattle.answer.specs.declared.Answer.{Answer}
+use Rattle.answer.specs.declared.Answer.the-variants.{Good, No}
+use Rattle.answer.specs.Answer.{ifGood}
+use Rattle.unit.specs.declared.Unit.{Unit}
 use Rattle.rack.specs.declared.State.{State}
 use Rattle.rack.specs.State.{unitOf, kindAt}
 use Rattle.rack.specs.Rank.{gone}
-use Rattle.rack.specs.Release.{early, releaseAnswer, released, releaseOf}
+use Rattle.unit.specs.Start.{early}
+use Rattle.rack.specs.Release.{releaseAnswer, released, releaseOf}
 use Rattle.rack.specs.Release.Properties.{release-says, release-unit, release-others}
 use Rattle.rack.specs.Slice.{sliceAnswer, advanced, sliceOf}
 use Rattle.rack.specs.Slice.Properties.{slice-says}

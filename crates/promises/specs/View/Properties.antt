@@ -6,7 +6,7 @@ use native.Mathlib.Omega.{arith}
 use borrow.Author.Tests.{eqb-true}
 use Rattle.laws.specs.Where.{sumWhere}
 use Rattle.plan.specs.declared.Plan.{Plan}
-use Rattle.plan.specs.declared.answer.Answer.the-variants.{Good}
+use Rattle.answer.specs.declared.Answer.the-variants.{Good}
 use Rattle.plan.specs.Order.{kindOf}
 use Rattle.layout.specs.Layout.{held}
 use Rattle.supply.specs.Supply.{window}

@@ -1,74 +1,27 @@
 -- Laws of the form: what a good answer says of each place, and that nothing less is asked.
 -- Assumes nothing.
-use mathlib.Core.Path.{_≡_, refl, sym, _∙_}
-use mathlib.Core.Bool.{Bool, true, false, not, cond, _&&_, true≢false}
+use mathlib.Core.Path.{_≡_, sym, _∙_}
+use mathlib.Core.Bool.{true, not}
 use Prim.Native.Nat.{ℕ, _≤_, _<_}
 use native.Mathlib.Decide.{decLt}
 use native.Mathlib.Omega.{arith}
-use lib.Dec.{leb, eqb}
-use borrow.Author.Tests.{lt-ltb, le-ltb, le-leb, eq-eqb, leb-true, eqb-true, not-true, not-false}
+use lib.Dec.{leb}
+use borrow.Author.Tests.{lt-ltb, le-ltb, le-leb, leb-true, not-false}
 use Rattle.laws.specs.Tests.{and-left, and-right, and-both}
 use Rattle.laws.specs.All.{allTo}
 use Rattle.laws.specs.All.Properties.{all-at, all-of}
-use Rattle.plan.specs.declared.answer.Answer.{Answer}
-use Rattle.plan.specs.declared.answer.Answer.the-variants.{Good}
-use Rattle.plan.specs.declared.answer.Refusal.the-variants.{Bare}
-use Rattle.plan.specs.Answer.{refuse}
-use Rattle.plan.specs.Answer.Properties.{andThen-left, andThen-right, refuse-good}
+use Rattle.answer.specs.declared.Answer.{Answer}
+use Rattle.answer.specs.declared.Answer.the-variants.{Good}
+use Rattle.answer.specs.declared.Refusal.the-variants.{Bare}
+use Rattle.answer.specs.Answer.{refuse}
+use Rattle.answer.specs.Answer.Properties.{andThen-left, andThen-right, refuse-good}
 use Rattle.plan.specs.Order.{checked}
 use Rattle.plan.specs.Order.Properties.{InOrder, in-order, in-order-good}
-use Rattle.rack.specs.declared.Unit.{Unit}
+use Rattle.unit.specs.Form.Properties.{UnitInForm, unit-says, unit-of, empty-says, empty-of}
 use Rattle.rack.specs.declared.State.{State}
-use Rattle.rack.specs.State.{unitOf, kindAt, noUnit}
-use Rattle.rack.specs.Form.{untouched, underway, unitInForm, emptyUnit, placeInForm, inForm, ready}
-
--- ---- a kind's place
-
--- "a kind never released has release clock 0 and left 0; else release clock <= clock and left <= C"
-pub record UnitInForm (clock length : ℕ) (v : Unit) : Type 0 where
-  pub release-clock : v .at ≤ clock
-  pub left-most : v .left ≤ length
-  pub never : v .released ≡ false → (v .at ≡ 0) × (v .left ≡ 0)
-
-untouched-says : (v : Unit) → untouched v ≡ true → (v .at ≡ 0) × (v .left ≡ 0)
-unfolding untouched
-untouched-says v e = (eqb-true (v .at) 0 (and-left (eqb (v .at) 0) (eqb (v .left) 0) e), eqb-true (v .left) 0 (and-right (eqb (v .at) 0) (eqb (v .left) 0) e))
-
-untouched-of : (v : Unit) → (v .at ≡ 0) × (v .left ≡ 0) → untouched v ≡ true
-unfolding untouched
-untouched-of v e = and-both (eqb (v .at) 0) (eqb (v .left) 0) (eq-eqb (v .at) 0 (e .0)) (eq-eqb (v .left) 0 (e .1))
-
-pub unit-says : (clock length : ℕ) (v : Unit) → unitInForm clock length v ≡ true → UnitInForm clock length v
-unfolding unitInForm underway
-unit-says clock length v e = go (v .released) refl e
-  where
-    go : (b : Bool) → v .released ≡ b → cond b (leb (v .at) clock && leb (v .left) length) (untouched v) ≡ true → UnitInForm clock length v
-    go true p q = record {
-      release-clock = leb-true (v .at) clock (and-left (leb (v .at) clock) (leb (v .left) length) q);
-      left-most = leb-true (v .left) length (and-right (leb (v .at) clock) (leb (v .left) length) q);
-      never = λ n. absurd (true≢false (sym p ∙ n));
-    }
-    go false p q = let u = untouched-says v q in record { release-clock = omega arith; left-most = omega arith; never = λ n. u }
-
-pub unit-of : (clock length : ℕ) (v : Unit) → UnitInForm clock length v → unitInForm clock length v ≡ true
-unfolding unitInForm underway
-unit-of clock length v r = go (v .released) refl
-  where
-    go : (b : Bool) → v .released ≡ b → cond b (leb (v .at) clock && leb (v .left) length) (untouched v) ≡ true
-    go true p = and-both (leb (v .at) clock) (leb (v .left) length) (le-leb (v .at) clock (r .release-clock)) (le-leb (v .left) length (r .left-most))
-    go false p = untouched-of v (r .never p)
-
--- an empty place is the unit that never was
-pub empty-says : (v : Unit) → emptyUnit v ≡ true → v ≡ noUnit
-unfolding emptyUnit
-empty-says v e =
-    let u = untouched-says v (and-right (not (v .released)) (untouched v) e) in
-    let n = not-true (v .released) (and-left (not (v .released)) (untouched v) e) in
-    λ i. record { released = n i; at = u .0 i; left = u .1 i }
-
-pub empty-of : (v : Unit) → v ≡ noUnit → emptyUnit v ≡ true
-unfolding emptyUnit untouched
-empty-of v e = rw e
+use Rattle.unit.specs.Unit.{noUnit}
+use Rattle.rack.specs.State.{unitOf, kindAt}
+use Rattle.rack.specs.Form.{placeInForm, inForm, ready}
 
 -- ---- the whole state
 

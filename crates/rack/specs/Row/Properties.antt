@@ -2,7 +2,7 @@
 -- Assumes nothing.
 use mathlib.Core.Path.{_≡_, refl, sym, ap, _∙_}
 use mathlib.Core.Bool.{Bool, true, false, not, _&&_, false≢true}
-use Prim.Native.Nat.{ℕ, zero, suc, pred, _+_, _-_, _%_, _≤_, _<_, min}
+use Prim.Native.Nat.{ℕ, zero, suc, pred, _+_, _%_, _≤_, _<_, min}
 use native.Mathlib.Decide.{decLt}
 use native.Mathlib.Nat.{mod-lt}
 use native.Mathlib.Omega.{arith}
@@ -14,7 +14,7 @@ use Rattle.laws.specs.First.Properties.{first-le, first-holds, first-zero, firs
 use Rattle.plan.specs.declared.Plan.{Plan}
 use Rattle.plan.specs.Order.{projectOf}
 use Rattle.plan.specs.Order.Properties.{InOrder}
-use Rattle.layout.specs.Counts.{between-yes, between-low, between-high, count-between}
+use Rattle.laws.specs.Count.Properties.{between-yes, between-low, between-high, count-between}
 use Rattle.layout.specs.Layout.{firstCell, cellAt, held}
 use Rattle.layout.specs.Cards.Properties.{below-grows}
 use Rattle.layout.specs.Layout.Properties.{one-owner, card-owned, owned-from, owned-to, held-closed, held-ceiling, below-cards, first-next}

@@ -1,7 +1,7 @@
 -- Laws of seats: what the code counts is the rank, and what it stores is the row.
 -- Assumes nothing.
 use mathlib.Core.Path.{_≡_, refl, sym, ap, _∙_}
-use mathlib.Core.Bool.{Bool, true, false, not, cond, _&&_, _||_, true≢false}
+use mathlib.Core.Bool.{Bool, true, false, cond, true≢false}
 use mathlib.Core.List.{List}
 use Prim.Native.Nat.{ℕ, zero, suc, pred, _+_, _-_, _%_, _≤_, _<_}
 use native.Mathlib.Numerals.{add-one}
@@ -10,15 +10,13 @@ use native.Mathlib.Omega.{arith}
 use lib.Dec.{ltb, eqb}
 use native.Mathlib.Decide.{decLt}
 use lib.ListN.{length, set, replicate}
-use borrow.Author.Tests.{lt-ltb, le-ltb, eq-eqb, ne-eqb, eqb-true, eqb-false, not-true, not-false}
-use Rattle.laws.specs.Count.{countTo}
-use Rattle.laws.specs.Count.Properties.{count-stop}
+use borrow.Author.Tests.{lt-ltb, le-ltb, eq-eqb, ne-eqb, eqb-true, eqb-false}
 use Rattle.laws.specs.First.{firstTo}
-use Rattle.laws.specs.First.Properties.{first-none}
-use Rattle.laws.specs.Ranking.{rankIn, sooner}
+use Rattle.laws.specs.First.Properties.{first-none, first-cong, first-skip, first-new}
+use Rattle.laws.specs.Ranking.{sooner}
 use Rattle.laws.specs.Ranking.Properties.{rank-cong}
 use Rattle.laws.specs.Written.{written}
-use Rattle.laws.specs.Written.Properties.{written-none, written-suc, written-again}
+use Rattle.laws.specs.Written.Properties.{written-none, written-suc, written-again, written-cong, written-set, stored-at, stored-most}
 use Rattle.plan.specs.declared.Plan.{Plan}
 use Rattle.plan.specs.Order.{budgetOf}
 use Rattle.plan.specs.Order.Properties.{InOrder}
@@ -27,7 +25,7 @@ use Rattle.layout.specs.Cards.Properties.{below-start}
 use Rattle.layout.specs.Layout.{firstCell, held}
 use Rattle.layout.specs.Layout.Properties.{first-start, first-next, last-most}
 use Rattle.plan.specs.declared.Kind.{Kind}
-use Rattle.rack.specs.declared.Unit.{Unit}
+use Rattle.unit.specs.declared.Unit.{Unit}
 use Rattle.rack.specs.declared.State.{State}
 use Rattle.rack.specs.State.{unitOf, kindAt}
 use Rattle.rack.specs.Form.Properties.{Ready}
@@ -35,39 +33,9 @@ use Rattle.rack.specs.Rank.{due, working, active, outranks, rank, served
 use Rattle.rack.specs.Rank.Properties.{working-left, idle-left, active-is, active-idle, served-rank, idle-unserved, unserved-rank}
 use Rattle.rack.specs.Row.{takes, rowByte, rowOver}
 use Rattle.rack.specs.Row.Properties.{lowest-held, lowest-cards, takes-card, card-takes, takes-served, takes-below, one-kind}
-use Rattle.rack.specs.Picks.{second-no}
-use Rattle.rack.specs.Stores.{written-cong, written-set, stored-at, stored-most}
-use Rattle.rack.specs.Firsts.{first-cong, first-skip, first-new}
-use Rattle.rack.specs.Seat.{at, idle, seated, worksFor, worksOf, seatsOf, rankBy, aheadBy, seatAt, seatBy, lowest, seatOf}
-
--- ---- a rank counted: r is whether kind k, due then, goes before kind i
-
-module _ (works due : List ℕ) (i k : ℕ) where
-  pub other-project : (at works k ≡ at works i → ⊥) → aheadBy works due i k ≡ false
-  unfolding aheadBy
-  other-project h = rw (ne-eqb (at works k) (at works i) h)
-
-  pub not-ahead : (r : Bool) → r ≡ (ltb (at due k) (at due i) || (eqb (at due k) (at due i) && ltb k i)) → not r ≡ true → aheadBy works due i k ≡ false
-  unfolding aheadBy sooner
-  not-ahead r e t = sym (second-no (eqb (at works k) (at works i)) (sooner (at due) k i) (sym (not-true r t) ∙ e))
-
-  pub is-ahead : (r : Bool) → at works k ≡ at works i → r ≡ (ltb (at due k) (at due i) || (eqb (at due k) (at due i) && ltb k i)) → not r ≡ false → aheadBy works due i k ≡ true
-  unfolding aheadBy sooner
-  is-ahead r p e t = rw (eq-eqb (at works k) (at works i) p) (sym e ∙ not-false r t)
-
-pub rank-counted : (works due : List ℕ) (r n k i : ℕ) → r ≡ countTo k (aheadBy works due i) → k ≤ n → n ≤ k → r ≡ rankBy works due n i
-unfolding rankBy rankIn aheadBy
-rank-counted works due r n k i e p q = count-stop r k n (aheadBy works due i) e p q
-
--- ---- a seat found
-
-pub no-seat : (works due low : List ℕ) (n i : ℕ) → at works i ≡ 0 → 0 ≡ seatBy works due low n i
-unfolding seatBy
-no-seat works due low n i e = rw (eq-eqb (at works i) 0 e)
-
-pub a-seat : (works due low : List ℕ) (n i r x : ℕ) → (at works i ≡ 0 → ⊥) → r ≡ rankBy works due n i → x ≡ seatAt (at low (at works i - 1) + r) (at low (at works i)) → x ≡ seatBy works due low n i
-unfolding seatBy
-a-seat works due low n i r x h e q = rw (ne-eqb (at works i) 0 h, ← e) q
+use Rattle.seats.specs.Seats.{at, rankBy, seatAt, seatBy, seatsBy}
+use Rattle.seats.specs.Seats.Properties.{seats-found}
+use Rattle.rack.specs.Seat.{idle, seated, worksFor, worksOf, seatsOf, lowest, seatOf}
 
 -- ---- the walk over the projects of a plan in order: cell is the first cell of project j
 
@@ -183,7 +151,7 @@ module _ (s : State) (r : Ready s) where
         go : (b : Bool) → working s i ≡ b → seatBy works dues lows kinds i ≡ seatOf s i
         go true w =
             let p = its-project i l in
-            rw (works-working i l w, ne-eqb (project i + 1) 0 (λ z. omega arith), ranks-agree i l w, less-one (project i), el (project i) (omega arith), el (project i + 1) (omega arith))
+            rw (works-working i l w, ne-eqb (project i + 1) 0 (λ z. omega arith), le-ltb 8 (project i + 1) (omega (arith, r .order .counts .projects-most)), ranks-agree i l w, less-one (project i), el (project i) (omega arith), el (project i + 1) (omega arith))
             (seat-is s i (low (project i + 1)) w (lowest-held (s .plan) (r .order) (project i) (s .clock) p))
         go false w = rw (works-idle i l w) (sym (seat-unserved s i (idle-unserved s i w)))
 
@@ -195,21 +163,10 @@ module _ (s : State) (r : Ready s) where
   pub clock-small : (i : ℕ) → i < kinds → unitOf s i .at ≤ 1000000000
   clock-small i l = omega (arith, r .form .unit-at i (omega (arith, r .order .counts .kinds-most)) l .release-clock, r .form .clock-most)
 
-  pub works-most : (works : List ℕ) (n : ℕ) → works ≡ written n (worksOf s) (replicate 16 0) → n ≤ kinds → (k : ℕ) → at works k ≤ 8
-  works-most works n e l k =
-      rw e (stored-most n 16 8 (worksOf s) (λ i p. go i (omega arith) (working s i) refl) (omega (arith, r .order .counts .kinds-most)) k)
-    where
-      go : (i : ℕ) → i < kinds → (b : Bool) → working s i ≡ b → worksOf s i ≤ 8
-      go i m true w = omega (arith, works-something (unitOf s i) (kindAt s i) (λ z. omega (arith, working-left s i w)), project-small i m)
-      go i m false w = omega (arith, works-nothing (unitOf s i) (kindAt s i) (idle-left s i w))
-
-  pub lows-most : (lows : List ℕ) → lows ≡ written (s .plan .projects + 1) low (replicate 9 0) → (j : ℕ) → at lows j ≤ 8
-  lows-most lows e j = rw e (stored-most (s .plan .projects + 1) 9 8 low (λ i p. lowest-most (s .plan) (r .order) (s .clock) i (omega arith)) (omega (arith, r .order .counts .projects-most)) j)
-
-  pub seats-found : (works dues lows seats : List ℕ) (n : ℕ) → n ≤ kinds → kinds ≤ n → works ≡ written n (worksOf s) (replicate 16 0) → dues ≡ written n (due s) (replicate 16 0) → lows ≡ written (s .plan .projects + 1) low (replicate 9 0) → seats ≡ written kinds (seatBy works dues lows kinds) (replicate 16 0) → seats ≡ seatsOf s
+  pub seats-are : (works dues lows seats : List ℕ) (n : ℕ) → n ≤ kinds → kinds ≤ n → works ≡ written n (worksOf s) (replicate 16 0) → dues ≡ written n (due s) (replicate 16 0) → lows ≡ written (s .plan .projects + 1) low (replicate 9 0) → seats ≡ seatsBy works dues lows kinds → seats ≡ seatsOf s
   unfolding seatsOf
-  seats-found works dues lows seats n a b ew ed el es =
-      es ∙ written-cong kinds (seatBy works dues lows kinds) (seatOf s) (replicate 16 0) (seat-found works dues lows (λ k l. ap (λ (m : List ℕ). at m k) ew ∙ stored-at n 16 (worksOf s) k (omega arith) (omega (arith, r .order .counts .kinds-most))) (λ k l. ap (λ (m : List ℕ). at m k) ed ∙ stored-at n 16 (due s) k (omega arith) (omega (arith, r .order .counts .kinds-most))) (λ j l. ap (λ (m : List ℕ). at m j) el ∙ stored-at (s .plan .projects + 1) 9 low j (omega arith) (omega (arith, r .order .counts .projects-most))))
+  seats-are works dues lows seats n a b ew ed el es =
+      seats-found works dues lows seats kinds (r .order .counts .kinds-most) es ∙ written-cong kinds (seatBy works dues lows kinds) (seatOf s) (replicate 16 0) (seat-found works dues lows (λ k l. ap (λ (m : List ℕ). at m k) ew ∙ stored-at n 16 (worksOf s) k (omega arith) (omega (arith, r .order .counts .kinds-most))) (λ k l. ap (λ (m : List ℕ). at m k) ed ∙ stored-at n 16 (due s) k (omega arith) (omega (arith, r .order .counts .kinds-most))) (λ j l. ap (λ (m : List ℕ). at m j) el ∙ stored-at (s .plan .projects + 1) 9 low j (omega arith) (omega (arith, r .order .counts .projects-most))))
 
   pub seats-at : (i : ℕ) → i < kinds → at (seatsOf s) i ≡ seatOf s i
   unfolding seatsOf

@@ -9,25 +9,27 @@ use lib.Dec.{ltb, eqb}
 use lib.ListN.{length, getD, set}
 use borrow.Author.Tests.{le-ltb, ne-eqb, ltb-false, eqb-false}
 use Rattle.laws.specs.Written.{written}
-use Rattle.laws.specs.Written.Properties.{written-again, written-at, written-kept, written-length, written-stop}
-use Rattle.plan.specs.declared.answer.Answer.{Answer}
-use Rattle.plan.specs.declared.answer.Answer.the-variants.{Good, No}
-use Rattle.plan.specs.declared.answer.Refusal.{Refusal}
-use Rattle.plan.specs.declared.answer.Refusal.the-variants.{Bare}
-use Rattle.plan.specs.Answer.{refuse, _andThen_}
-use Rattle.plan.specs.Answer.Properties.{andThen-left, andThen-right, refuse-good}
-use Rattle.rack.specs.declared.Unit.{Unit}
+use Rattle.laws.specs.Written.Properties.{written-again, written-at, written-kept, written-length, written-stop, written-same}
+use Rattle.answer.specs.declared.Answer.{Answer}
+use Rattle.answer.specs.declared.Answer.the-variants.{Good, No}
+use Rattle.answer.specs.declared.Refusal.{Refusal}
+use Rattle.answer.specs.declared.Refusal.the-variants.{Bare}
+use Rattle.answer.specs.Answer.{refuse, _andThen_}
+use Rattle.answer.specs.Answer.Properties.{andThen-left, andThen-right, refuse-good}
+use Rattle.unit.specs.declared.Unit.{Unit}
 use Rattle.rack.specs.declared.State.{State}
 use Rattle.rack.specs.declared.Next.{Next}
-use Rattle.rack.specs.State.{noUnit, unitOf, kindAt}
+use Rattle.unit.specs.Unit.{noUnit}
+use Rattle.rack.specs.State.{unitOf, kindAt}
 use Rattle.rack.specs.State.Properties.{refused-keeps}
 use Rattle.rack.specs.Form.{ready}
-use Rattle.rack.specs.Form.Properties.{Ready, UnitInForm, ready-says, ready-of}
+use Rattle.unit.specs.Form.Properties.{UnitInForm}
+use Rattle.rack.specs.Form.Properties.{Ready, ready-says, ready-of}
 use Rattle.rack.specs.Rank.{served}
 use Rattle.rack.specs.Rank.Properties.{served-working, working-left}
-use Rattle.rack.specs.Seat.{at, idle, seated, seatsOf, seatOf}
+use Rattle.seats.specs.Seats.{at}
+use Rattle.rack.specs.Seat.{idle, seated, seatsOf, seatOf}
 use Rattle.rack.specs.Seat.Properties.{seat-served, seat-unserved, seats-at, seats-room, row-written}
-use Rattle.rack.specs.Stores.{written-same}
 use Rattle.rack.specs.Slice.{unitAfter, advanced, roomAndTime, sliceAnswer, sliceOf, bufferAfter, Sliced}
 
 -- ---- a kind's unit after the slice

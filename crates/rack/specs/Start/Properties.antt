@@ -1,25 +1,24 @@
 -- Laws of a fresh start: an accepted one gives the plan's fresh state, in form, and a refused one the all-zero state.
 -- Assumes nothing.
 use mathlib.Core.Path.{_≡_, refl, ap}
-use mathlib.Core.List.{List}
 use Prim.Native.Nat.{ℕ}
 use native.Mathlib.Omega.{arith}
 use lib.ListN.{length, length-replicate, getD-replicate}
 use Rattle.plan.specs.declared.Plan.{Plan}
-use Rattle.plan.specs.declared.answer.Answer.the-variants.{Good, No}
-use Rattle.plan.specs.declared.answer.Refusal.{Refusal}
-use Rattle.plan.specs.Answer.Properties.{andThen-left, andThen-right}
+use Rattle.answer.specs.declared.Answer.the-variants.{Good, No}
+use Rattle.answer.specs.declared.Refusal.{Refusal}
+use Rattle.answer.specs.Answer.Properties.{andThen-left, andThen-right}
 use Rattle.plan.specs.Order.{checked}
 use Rattle.plan.specs.Order.Properties.{InOrder, in-order}
 use Rattle.verdict.specs.declared.Verdict.{Verdict}
 use Rattle.verdict.specs.Verdict.{admitted, judged}
 use Rattle.rack.specs.declared.State.{State}
 use Rattle.rack.specs.declared.Next.{Next}
-use Rattle.rack.specs.State.{noUnit, kindAt, freshOf, noState}
+use Rattle.unit.specs.Unit.{noUnit}
+use Rattle.rack.specs.State.{kindAt, freshOf, noState}
 use Rattle.rack.specs.State.Properties.{next-kept, next-moved, refused-keeps, good-moves}
-use Rattle.rack.specs.Form.Properties.{UnitInForm}
-use Rattle.rack.specs.Run.{Call, runFrom, acceptedSlices}
-use Rattle.rack.specs.Run.Properties.{Sound, run-sound, run-clock}
+use Rattle.unit.specs.Form.Properties.{UnitInForm}
+use Rattle.rack.specs.Form.Properties.{Ready}
 use Rattle.rack.specs.Start.{startAnswer, startOf}
 
 -- the verdict's answer is the start's
@@ -56,31 +55,18 @@ unfolding startOf
 start-refused p w e = refused-keeps (startAnswer p) w (freshOf p) noState e
 
 -- the fresh state of a plan in order is in form
-pub fresh-sound : (p : Plan) → InOrder p → Sound (freshOf p)
-fresh-sound p o = record {
-  ready = record {
-    order = o;
-    form = record {
-      clock-most = omega arith;
-      unit-at = λ i l m. rw (getD-replicate 16 i noUnit noUnit l) (never (kindAt (freshOf p) i .length));
-      unused = λ i l m. getD-replicate 16 i noUnit noUnit l;
-    };
+pub fresh-form : (p : Plan) → InOrder p → Ready (freshOf p)
+fresh-form p o = record {
+  order = o;
+  form = record {
+    clock-most = omega arith;
+    unit-at = λ i l m. rw (getD-replicate 16 i noUnit noUnit l) (never (kindAt (freshOf p) i .length));
+    unused = λ i l m. getD-replicate 16 i noUnit noUnit l;
   };
-  places = length-replicate 16 noUnit;
 }
   where
     never : (n : ℕ) → UnitInForm 0 n noUnit
     never n = record { release-clock = omega arith; left-most = omega arith; never = λ e. (refl, refl) }
 
-pub start-sound : (p : Plan) → startOf p .answer ≡ Good → Sound (startOf p .state)
-unfolding startOf
-start-sound p e = rw (good-moves (startAnswer p) (freshOf p) noState e) (fresh-sound p (start-in-order p e))
-
--- ---- a run from it
-
-pub start-run-sound : (p : Plan) (xs : List Call) → startOf p .answer ≡ Good → Sound (runFrom (startOf p .state) xs)
-start-run-sound p xs e = run-sound (startOf p .state) xs (start-sound p e)
-
--- the clock equals the number of accepted slices
-pub start-run-clock : (p : Plan) (xs : List Call) → startOf p .answer ≡ Good → runFrom (startOf p .state) xs .clock ≡ acceptedSlices (startOf p .state) xs
-start-run-clock p xs e = rw (start-good p e) (omega (arith, run-clock (freshOf p) xs))
+pub fresh-places : (p : Plan) → length (freshOf p .unit) ≡ 16
+fresh-places p = length-replicate 16 noUnit

@@ -7,7 +7,7 @@ use Rattle.laws.specs.First.{firstTo}
 use Rattle.laws.specs.Count.{countTo}
 use Rattle.laws.specs.All.{allTo}
 use Rattle.laws.specs.Written.{written}
-use Rattle.plan.specs.Answer.{eachTo}
+use Rattle.answer.specs.Answer.{eachTo}
 use Rattle.plan.specs.Order.{within, sized, emptyProject, emptyKind, tidyProjects, tidyKinds, inRange, timed, budgets, sizes, unused, projectsInRange, kindInRange, kindsInRange, budgetsFit, ranges, checked}
 use Rattle.layout.specs.Layout.{cellAt, firstCell, owns, slotOf, held}
 use Rattle.supply.specs.Supply.{window, supply}

@@ -5,9 +5,9 @@ use borrow.Author.Needs.{needs}
 use lib.ListN.{replicate}
 use Rattle.laws.specs.Written.{written}
 use Rattle.laws.specs.Written.Properties.{written-none}
-use Rattle.plan.specs.declared.answer.Answer.the-variants.{Good}
-use Rattle.plan.specs.Answer.{eachTo}
-use Rattle.plan.specs.Answer.Properties.{each-none}
+use Rattle.answer.specs.declared.Answer.the-variants.{Good}
+use Rattle.answer.specs.Answer.{eachTo}
+use Rattle.answer.specs.Answer.Properties.{each-none}
 use Rattle.verdict.specs.Verdict.{widthOf, fitted}
 use Rattle.verdict.specs.Steps.Properties.{project-place, project-fits, project-scaled, row-at, excess-room, fits-no, fits-again, fits-all, width-again}
 use Rattle.verdict.proofs.fits.Statement.{statement}

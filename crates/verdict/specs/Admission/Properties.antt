@@ -10,12 +10,12 @@ use lib.ListN.{getD, replicate, length-replicate, getD-replicate, List·getD-eq-
 use borrow.Author.Tests.{eq-eqb, ne-eqb, eqb-false}
 use Rattle.laws.specs.Written.Properties.{written-at, written-kept}
 use Rattle.plan.specs.declared.Plan.{Plan}
-use Rattle.plan.specs.declared.answer.Answer.{Answer}
-use Rattle.plan.specs.declared.answer.Answer.the-variants.{Good, No}
-use Rattle.plan.specs.declared.answer.Refusal.{Refusal}
-use Rattle.plan.specs.declared.answer.Refusal.the-variants.{ByKind}
-use Rattle.plan.specs.Answer.{_andThen_, eachTo}
-use Rattle.plan.specs.Answer.Properties.{andThen-good, andThen-no, andThen-left, andThen-right, refuse-good, each-at, each-of, each-refused}
+use Rattle.answer.specs.declared.Answer.{Answer}
+use Rattle.answer.specs.declared.Answer.the-variants.{Good, No}
+use Rattle.answer.specs.declared.Refusal.{Refusal}
+use Rattle.answer.specs.declared.Refusal.the-variants.{ByKind}
+use Rattle.answer.specs.Answer.{_andThen_, eachTo}
+use Rattle.answer.specs.Answer.Properties.{andThen-good, andThen-no, andThen-left, andThen-right, refuse-good, each-at, each-of, each-refused}
 use Rattle.plan.specs.Order.{kindOf, checked}
 use Rattle.plan.specs.Order.Properties.{InOrder, in-order, in-order-good}
 use Rattle.layout.specs.Layout.Properties.{held-period}

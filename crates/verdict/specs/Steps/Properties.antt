@@ -10,12 +10,12 @@ use lib.ListN.{set, getD, replicate, length-replicate}
 use Rattle.laws.specs.Written.{written}
 use Rattle.laws.specs.Written.Properties.{written-again, written-at, written-stop}
 use Rattle.plan.specs.declared.Plan.{Plan}
-use Rattle.plan.specs.declared.answer.Answer.{Answer}
-use Rattle.plan.specs.declared.answer.Answer.the-variants.{Good, No}
-use Rattle.plan.specs.declared.answer.Refusal.{Refusal}
-use Rattle.plan.specs.declared.answer.Refusal.the-variants.{ByKind}
-use Rattle.plan.specs.Answer.{refuse, _andThen_, eachTo}
-use Rattle.plan.specs.Answer.Properties.{each-more, each-stop, each-opened, opened-no, opened-on}
+use Rattle.answer.specs.declared.Answer.{Answer}
+use Rattle.answer.specs.declared.Answer.the-variants.{Good, No}
+use Rattle.answer.specs.declared.Refusal.{Refusal}
+use Rattle.answer.specs.declared.Refusal.the-variants.{ByKind}
+use Rattle.answer.specs.Answer.{refuse, _andThen_, eachTo}
+use Rattle.answer.specs.Answer.Properties.{each-more, each-stop, each-opened, opened-no, opened-on}
 use Rattle.plan.specs.Order.{kindOf, budgetOf, checked}
 use Rattle.plan.specs.Order.Properties.{InOrder}
 use Rattle.layout.specs.Cards.{cardsBelow, heldFrom}

@@ -1,4 +1,4 @@
-use Rattle.plan.specs.Answer.Properties.{stages}
+use Rattle.answer.specs.Answer.Properties.{stages}
 use Rattle.laws.specs.Tests.{tests}
 use Rattle.plan.specs.Order.{kindInRange}
 use borrow.Author.Needs.{needs}

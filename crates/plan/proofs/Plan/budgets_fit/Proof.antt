@@ -1,4 +1,4 @@
-use Rattle.plan.specs.Answer.Properties.{above-refused, most-passed}
+use Rattle.answer.specs.Answer.Properties.{above-refused, most-passed}
 use native.Mathlib.Nat.{mul-le-mul}
 use native.Mathlib.Omega.{arith}
 use Prim.Native.Nat.{_≤_}

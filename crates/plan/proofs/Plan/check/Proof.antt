@@ -1,4 +1,4 @@
-use Rattle.plan.specs.Answer.Properties.{opened-no, opened-on}
+use Rattle.answer.specs.Answer.Properties.{opened-no, opened-on}
 use Rattle.plan.specs.Order.{checked}
 use Rattle.plan.specs.Order.Properties.{projects-opened, kinds-opened}
 use borrow.Author.Needs.{needs}

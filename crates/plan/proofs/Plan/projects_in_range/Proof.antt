@@ -2,9 +2,9 @@ use mathlib.Core.Path.{_≡_, refl}
 use Prim.Native.Nat.{_≤_, _-_}
 use native.Mathlib.Omega.{arith}
 use borrow.Author.Needs.{needs}
-use Rattle.plan.specs.declared.answer.Answer.the-variants.{Good}
-use Rattle.plan.specs.Answer.{eachTo}
-use Rattle.plan.specs.Answer.Properties.{each-none, each-more, each-stop, each-refused, refused, passed}
+use Rattle.answer.specs.declared.Answer.the-variants.{Good}
+use Rattle.answer.specs.Answer.{eachTo}
+use Rattle.answer.specs.Answer.Properties.{each-none, each-more, each-stop, each-refused, refused, passed}
 use Rattle.plan.specs.Order.{projectInRange, projectsInRange}
 use Rattle.plan.proofs.Plan.projects_in_range.Statement.{statement}
 use Rattle.plan.proofs.Plan.projects_in_range.Tie as tie

@@ -1,4 +1,4 @@
-use Rattle.plan.specs.Answer.Properties.{opened-no, opened-on}
+use Rattle.answer.specs.Answer.Properties.{opened-no, opened-on}
 use Rattle.plan.specs.Order.{ranges}
 use borrow.Author.Needs.{needs}
 use Rattle.plan.proofs.Plan.ranges.Statement.{statement}

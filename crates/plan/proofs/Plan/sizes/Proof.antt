@@ -1,4 +1,4 @@
-use Rattle.plan.specs.Answer.Properties.{stages}
+use Rattle.answer.specs.Answer.Properties.{stages}
 use Rattle.plan.specs.Order.{sizes}
 use borrow.Author.Needs.{needs}
 use Rattle.plan.proofs.Plan.sizes.Statement.{statement}

@@ -1,10 +1,9 @@
-use Rattle.plan_bytes.specs.Bytes.Properties.{number-end}
+use Rattle.plan_bytes.specs.Bytes.Properties.{number-end, number-none, number-again, number-stop, number-more, number-room}
 use mathlib.Core.Path.{_≡_}
 use Prim.Native.Nat.{_≤_, _<_, _-_, _^_}
 use native.Mathlib.Omega.{arith}
 use borrow.Author.Needs.{needs}
 use Rattle.plan_bytes.specs.Bytes.{numberTo}
-use Rattle.plan_bytes.specs.Bytes.Properties.{number-none, number-again, number-stop, number-more, number-room}
 use Rattle.plan_bytes.proofs.part.number.Statement.{statement}
 use Rattle.plan_bytes.proofs.part.number.Tie as tie
 use Rattle.plan_bytes.proofs.part.number.Reads as reads

@@ -1,4 +1,4 @@
-use Rattle.plan.specs.Answer.Properties.{opened-is}
+use Rattle.answer.specs.Answer.Properties.{opened-is}
 use Rattle.plan_bytes.specs.Reading.{readOf}
 use Rattle.plan_bytes.specs.Reading.Properties.{refused-reading, told-reading, read-short, read-sizes, read-body}
 use borrow.Author.Needs.{needs}

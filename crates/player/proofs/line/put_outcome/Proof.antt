@@ -5,7 +5,7 @@ use Rattle.player.proofs.line.put_outcome.Statement.{statement}
 use Rattle.player.proofs.line.put_outcome.Tie as tie
 use Rattle.player.proofs.line.put_outcome.Reads as reads
 use Rattle.player.proofs.line.put_outcome.Lts as lts
-use Rattle.plan.proofs.answer.Answer.number.Reads as number-reads
+use Rattle.answer.proofs.Answer.number.Reads as number-reads
 use Rattle.player.proofs.line.put_both.Reads as put-both-reads
 use Rattle.player.proofs.text.put.Reads as put-reads
 

@@ -5,8 +5,8 @@ use Rattle.player.proofs.line.put_plan.Statement.{statement}
 use Rattle.player.proofs.line.put_plan.Tie as tie
 use Rattle.player.proofs.line.put_plan.Reads as reads
 use Rattle.player.proofs.line.put_plan.Lts as lts
-use Rattle.plan.proofs.answer.Answer.number.Reads as number-reads
-use Rattle.plan.proofs.answer.Answer.place.Reads as place-reads
+use Rattle.answer.proofs.Answer.number.Reads as number-reads
+use Rattle.answer.proofs.Answer.place.Reads as place-reads
 use Rattle.player.proofs.line.put_both.Reads as put-both-reads
 use Rattle.player.proofs.text.put.Reads as put-reads
 

@@ -4,7 +4,7 @@ use Rattle.player.proofs.session.waits.Statement.{statement}
 use Rattle.player.proofs.session.waits.Tie as tie
 use Rattle.player.proofs.session.waits.Reads as reads
 use Rattle.player.proofs.session.waits.Lts as lts
-use Rattle.plan.proofs.answer.Answer.number.Reads as number-reads
+use Rattle.answer.proofs.Answer.number.Reads as number-reads
 
 -- src/session.rt:49:9
 returns : tie.Need-returns

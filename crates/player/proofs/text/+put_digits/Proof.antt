@@ -1,7 +1,6 @@
-use Rattle.player.specs.Text.Properties.{room-after}
+use Rattle.player.specs.Text.Properties.{room-after, digits-first, digits-last, decimal-one, decimal-more, room-first, room-tenth, room-last}
 use native.Mathlib.Omega.{arith}
 use borrow.Author.Needs.{needs}
-use Rattle.player.specs.Text.Properties.{digits-first, digits-last, decimal-one, decimal-more, room-first, room-tenth, room-last}
 use Prim.Native.Nat.{ℕ, _<_}
 use borrow.Fn.Kinds.{In}
 use borrow.Fn.PlainCycle.{Measures, is, falls, and}

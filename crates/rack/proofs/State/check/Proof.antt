@@ -1,4 +1,4 @@
-use Rattle.plan.specs.Answer.Properties.{opened-no, opened-on, refused, passed}
+use Rattle.answer.specs.Answer.Properties.{opened-no, opened-on, refused, passed}
 use Rattle.rack.specs.Form.{ready}
 use borrow.Author.Needs.{needs}
 use Rattle.rack.proofs.State.check.Statement.{statement}

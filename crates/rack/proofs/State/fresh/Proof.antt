@@ -3,7 +3,7 @@ use Rattle.rack.proofs.State.fresh.Statement.{statement}
 use Rattle.rack.proofs.State.fresh.Tie as tie
 use Rattle.rack.proofs.State.fresh.Reads as reads
 use Rattle.rack.proofs.State.fresh.Lts as lts
-use Rattle.rack.proofs.Unit.empty.Reads as empty-reads
+use Rattle.unit.proofs.Unit.empty.Reads as empty-reads
 
 -- src/lib.rt:47:20
 empty-requires : tie.Need-empty-requires

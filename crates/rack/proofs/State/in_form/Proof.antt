@@ -6,14 +6,13 @@ use borrow.Author.Needs.{needs}
 use borrow.Author.Tests.{le-leb}
 use Rattle.laws.specs.All.{allTo}
 use Rattle.laws.specs.All.Properties.{all-none, all-more, all-stop, all-fails}
-use Rattle.laws.specs.Tests.{tests}
-use Rattle.rack.specs.Picks.{told-no, told-yes, second-no, second-yes}
+use Rattle.laws.specs.Tests.{tests, told-no, told-yes, second-no, second-yes}
 use Rattle.rack.specs.Form.{placeInForm, inForm}
 use Rattle.rack.proofs.State.in_form.Statement.{statement}
 use Rattle.rack.proofs.State.in_form.Tie as tie
 use Rattle.rack.proofs.State.in_form.Reads as reads
 use Rattle.rack.proofs.State.in_form.Lts as lts
-use Rattle.rack.proofs.Unit.fits_place.Reads as fits-place-reads
+use Rattle.unit.proofs.Unit.fits_place.Reads as fits-place-reads
 
 abbrev Inv-loop : tie.InvT-loop
 Inv-loop self plan used i₀ i = (i ≤ 16) × (true ≡ allTo i (placeInForm self))

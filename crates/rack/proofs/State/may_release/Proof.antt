@@ -1,5 +1,5 @@
 use Rattle.laws.specs.Tests.{tests}
-use Rattle.plan.specs.Answer.Properties.{stages, opened-no, opened-on}
+use Rattle.answer.specs.Answer.Properties.{stages, opened-no, opened-on}
 use Rattle.rack.specs.Rank.{gone}
 use Rattle.rack.specs.Form.Properties.{ready-place, ready-clock}
 use Rattle.rack.specs.Release.{releaseAnswer}
@@ -9,7 +9,7 @@ use Rattle.rack.proofs.State.may_release.Tie as tie
 use Rattle.rack.proofs.State.may_release.Reads as reads
 use Rattle.rack.proofs.State.may_release.Lts as lts
 use Rattle.rack.proofs.State.check.Reads as check-reads
-use Rattle.rack.proofs.Unit.may_start.Reads as may-start-reads
+use Rattle.unit.proofs.Unit.may_start.Reads as may-start-reads
 
 -- src/release.rt:47:13
 check-requires : tie.Need-check-requires

@@ -1,5 +1,5 @@
 use Rattle.laws.specs.Tests.{tests}
-use Rattle.plan.specs.Answer.Properties.{stages, opened-no, opened-on}
+use Rattle.answer.specs.Answer.Properties.{stages, opened-no, opened-on}
 use Rattle.rack.specs.Slice.{roomAndTime, sliceAnswer}
 use borrow.Author.Needs.{needs}
 use Rattle.rack.proofs.State.may_slice.Statement.{statement}

@@ -4,8 +4,7 @@ use native.Mathlib.Omega.{arith}
 use borrow.Author.Needs.{needs}
 use lib.ListN.{replicate}
 use Rattle.laws.specs.Written.{written}
-use Rattle.laws.specs.Written.Properties.{written-again}
-use Rattle.rack.specs.Stores.{written-ahead}
+use Rattle.laws.specs.Written.Properties.{written-again, written-ahead}
 use Rattle.layout.specs.Layout.{firstCell}
 use Rattle.layout.specs.Layout.Properties.{first-start}
 use Rattle.rack.specs.Seat.{lowest}

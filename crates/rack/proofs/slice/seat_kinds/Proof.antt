@@ -3,7 +3,8 @@ use Prim.Native.Nat.{_≤_, _-_}
 use native.Mathlib.Omega.{arith}
 use borrow.Author.Needs.{needs}
 use lib.ListN.{length}
-use Rattle.rack.specs.Seat.{at, seated}
+use Rattle.seats.specs.Seats.{at}
+use Rattle.rack.specs.Seat.{seated}
 use Rattle.rack.specs.Seat.Properties.{seated-none, seated-idle, seated-more, seated-stop}
 use Rattle.rack.proofs.slice.seat_kinds.Statement.{statement}
 use Rattle.rack.proofs.slice.seat_kinds.Tie as tie

@@ -1,0 +1,4 @@
+-- Where each kind sits in a slice.
+-- Assumes nothing.
+pub mod Seats
+pub mod OneOutcome

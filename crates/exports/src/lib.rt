@@ -53,7 +53,7 @@ pub extern "C" fn parchbeetle_check(plan: &[u8]) -> u64
 pub extern "C" fn parchbeetle_read(bytes: &[u8], plan: &mut [u8]) -> u64
     ensures { λ r. ⌜ Reads (now (bytes .entry)) (now (plan .entry)) r (now (plan .exit)) ⌝ }
 {
-    let reading = plan_bytes::read(bytes);
+    let reading = plan_reader::read(bytes);
     let answer = reading.answer;
     let Answer::Good = answer else {
         return told(answer, 0);
@@ -74,7 +74,7 @@ pub extern "C" fn parchbeetle_write(plan: &[u8], out: &mut [u8]) -> u64
         return told(Answer::No(Refusal::Bare(9)), 0);
     }
     let given = image::plan_from(plan);
-    let done = plan_bytes::write(given, out);
+    let done = plan_writer::write(given, out);
     let answer = done.answer;
     told(answer, done.count)
 }

@@ -1,18 +1,10 @@
 -- Each public operation's contract admits one outcome.
 -- Assumes nothing.
 use mathlib.Core.Path.{_≡_, sym, _∙_}
-use mathlib.Core.List.{List}
 use Prim.Native.Nat.{ℕ}
 use Rattle.plan.specs.declared.Plan.{Plan}
-use Rattle.plan_bytes.specs.declared.Reading.{Reading}
-use Rattle.plan_bytes.specs.declared.Written.{Written}
-use Rattle.plan_bytes.specs.Reading.{readOf}
-use Rattle.plan_bytes.specs.Writing.{Writes}
+use Rattle.plan_bytes.specs.Parts.{size}
 
--- `read`
-pub read-one-outcome : (bytes : List ℕ) (a b : Reading) → a ≡ readOf bytes → b ≡ readOf bytes → a ≡ b
-read-one-outcome bytes a b p q = p ∙ sym q
-
--- `write`
-pub write-one-outcome : (p : Plan) (out : List ℕ) (r s : Written) (after later : List ℕ) → Writes p out r after → Writes p out s later → (r ≡ s) × (after ≡ later)
-write-one-outcome p out r s after later a b = (a .result ∙ sym (b .result), a .buffer ∙ sym (b .buffer))
+-- `size`
+pub size-one-outcome : (p : Plan) (a b : ℕ) → a ≡ size p → b ≡ size p → a ≡ b
+size-one-outcome p a b e q = e ∙ sym q

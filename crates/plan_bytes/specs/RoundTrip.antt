@@ -1,9 +1,9 @@
 -- Reading and writing are inverse, so that each plan in order has exactly one encoding, and reading looks at nothing past it.
 -- Assumes nothing.
-use mathlib.Core.Path.{_≡_, refl, sym, ap, ap₂, _∙_}
+use mathlib.Core.Path.{_≡_, sym, ap, _∙_}
 use mathlib.Core.List.{List, _++_}
 use Prim.Native.Nat.{ℕ}
-use lib.ListN.{length, take}
+use lib.ListN.{take}
 use Rattle.plan.specs.declared.Plan.{Plan}
 use Rattle.answer.specs.declared.Answer.the-variants.{Good}
 use Rattle.plan.specs.Order.{checked}

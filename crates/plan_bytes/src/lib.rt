@@ -1,10 +1,5 @@
-// Plan bytes: document 01, "Plan bytes". One layout, specs/Parts.antt, states both directions.
-mod part;
-mod reader;
-mod writer;
-
-pub use reader::read;
-pub use writer::write;
+// Plan bytes: document 01, "Plan bytes". One layout, specs/Parts.antt, states both directions:
+// `plan_reader` reads by it and `plan_writer` writes by it.
 ghost use mathlib.Core.Path.{_≡_};
 ghost use Rattle.plan_bytes.specs.Parts.{size};
 use answer::Answer;
@@ -25,7 +20,7 @@ pub struct Written {
 }
 
 // The bytes that a plan with these counts takes.
-fn size(plan: Plan) -> usize
+pub fn size(plan: Plan) -> usize
     ensures { λ r. ⌜ r ≡ size plan ⌝ }
 {
     3 + 2 * plan.projects as usize + 5 * plan.kinds as usize

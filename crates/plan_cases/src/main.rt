@@ -15,7 +15,7 @@ fn answered(case: &[u8], answer: Answer, count: usize) {
 }
 
 fn read(case: &[u8], bytes: &[u8]) -> Plan {
-    let reading = plan_bytes::read(bytes);
+    let reading = plan_reader::read(bytes);
     let answer = reading.answer;
     answered(case, answer, reading.taken);
     reading.plan
@@ -39,7 +39,7 @@ fn print_bytes(bytes: &[u8]) {
 
 // Writes into the bytes lent, and prints them as they are then.
 fn write(case: &[u8], plan: Plan, out: &mut [u8]) {
-    let written = plan_bytes::write(plan, out);
+    let written = plan_writer::write(plan, out);
     let answer = written.answer;
     answered(case, answer, written.count);
     print_bytes(out);

@@ -120,7 +120,7 @@ impl Session {
         requires { ⌜ at + 128 ≤ length (now out) ⌝ }
         ensures { λ r. ⌜ Steps (openOf self last (now (bytes .entry))) (now (out .entry)) at r (now (out .exit)) ⌝ }
     {
-        let reading = plan_bytes::read(bytes);
+        let reading = plan_reader::read(bytes);
         let answer = reading.answer;
         if waits(answer, last) {
             return Step {

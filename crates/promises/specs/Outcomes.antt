@@ -14,7 +14,7 @@ use Rattle.plan_bytes.specs.declared.Written.{Written}
 use Rattle.plan_bytes.specs.Parts.{encoded, size}
 use Rattle.plan_bytes.specs.Reading.{readOf}
 use Rattle.plan_bytes.specs.Writing.{writeAnswer, counted, Writes}
-use Rattle.plan_bytes.specs.OneOutcome.{write-one-outcome}
+use Rattle.plan_writer.specs.OneOutcome.{write-one-outcome}
 use Rattle.layout.specs.declared.table.TableWritten.{TableWritten}
 use Rattle.layout.specs.Table.{tableAnswer, tableLength, tableOver, Tabled}
 use Rattle.layout.specs.OneOutcome.{slot-table-one-outcome}

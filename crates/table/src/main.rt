@@ -116,7 +116,7 @@ fn held(first: u8, second: u8, third: u8, fourth: u8) -> [u8; 64] {
 }
 
 fn bytes_of_a() {
-    let reading = plan_bytes::read(
+    let reading = plan_reader::read(
         b"\x22\x18\x40\x10\x0c\x20\x14\x00\x10\x01\x00\x0c\x20\x08\x00\x80\x04\x20\x10\x01\x00\x04",
     );
     let answer = reading.answer;
@@ -127,7 +127,7 @@ fn bytes_of_a() {
     end_line();
     let mut out = [0u8; 22];
     let plan = reading.plan;
-    plan_bytes::write(plan, &mut out);
+    plan_writer::write(plan, &mut out);
     io::write_all(1, b"P1 written");
     print_bytes(&out);
 }

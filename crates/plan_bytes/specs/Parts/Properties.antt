@@ -1,15 +1,15 @@
 -- Laws of the layout: each part's fields as the code takes them off a number n, and each part's bytes as the code stores them.
 -- Assumes nothing.
-use mathlib.Core.Path.{_≡_, refl, sym, ap, ap₂, _∙_}
-use mathlib.Core.List.{List, [], _∷_, _++_}
-use Prim.Native.Nat.{ℕ, _+_, _*_, _-_, _/_, _%_, _≤_, _<_}
+use mathlib.Core.Path.{_≡_, ap, _∙_}
+use mathlib.Core.List.{List, [], _∷_}
+use Prim.Native.Nat.{ℕ, _+_, _*_, _-_, _/_, _%_, _≤_}
 use native.Mathlib.Nat.{div-one}
 use native.Mathlib.Numerals.{add-one, add-two, add-three, add-four}
 use native.Mathlib.Omega.{arith}
-use lib.ListN.{length, take, drop, set, getD, length-drop, replicate}
+use lib.ListN.{length, take, drop, set, length-drop, replicate}
 use lib.Seq.{sets, take-all}
 use Rattle.laws.specs.Written.Properties.{written-none, written-again, written-stop}
-use Rattle.plan.specs.Record.{noProject, noKind, noPlan}
+use Rattle.plan.specs.Record.{noProject, noKind}
 use Rattle.plan.specs.declared.Project.{Project}
 use Rattle.plan.specs.declared.Kind.{Kind}
 use Rattle.plan.specs.declared.Plan.{Plan}

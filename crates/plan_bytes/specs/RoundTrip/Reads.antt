@@ -1,14 +1,14 @@
 -- Reading what was written gives the same plan.
 -- Assumes nothing.
 use mathlib.Core.Path.{_≡_, refl, sym, ap, ap₂, _∙_}
-use mathlib.Core.Bool.{Bool, true, false, not, _&&_, _||_}
+use mathlib.Core.Bool.{Bool, true, _&&_, _||_}
 use mathlib.Core.List.{List, [], _∷_, _++_, append-assoc}
 use Prim.Native.Nat.{ℕ, zero, suc, _+_, _*_, _^_, _≤_, _<_}
 use native.Mathlib.Nat.{mul-le-mul}
 use native.Mathlib.Decide.{decLt}
 use native.Mathlib.Omega.{arith}
 use lib.Dec.{ltb, eqb}
-use lib.ListN.{length, getD, take, drop, replicate, length-replicate, length-append, getD-replicate}
+use lib.ListN.{length, getD, drop, replicate, length-replicate, length-append, getD-replicate}
 use lib.Seq.{drop-at, ext-getD}
 use borrow.Author.Tests.{le-ltb, eq-eqb, eqb-true}
 use Rattle.laws.specs.Tests.{and-left, and-right, and-both}
@@ -19,9 +19,8 @@ use Rattle.plan.specs.declared.Project.{Project}
 use Rattle.plan.specs.declared.Kind.{Kind}
 use Rattle.plan.specs.declared.Plan.{Plan}
 use Rattle.answer.specs.declared.Answer.the-variants.{Good}
-use Rattle.answer.specs.declared.Refusal.the-variants.{Bare}
 use Rattle.plan.specs.Record.{noProject, noKind}
-use Rattle.answer.specs.Answer.{refuse, _andThen_, ifGood}
+use Rattle.answer.specs.Answer.{_andThen_}
 use Rattle.answer.specs.Answer.Properties.{andThen-left, andThen-right}
 use Rattle.plan.specs.Order.{projectOf, kindOf, emptyProject, emptyKind, sized, sizes, unused, ranges, checked}
 use Rattle.plan.specs.Order.Properties.{InOrder, in-order, ProjectInRange, KindInRange}

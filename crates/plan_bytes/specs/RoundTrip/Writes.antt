@@ -1,35 +1,31 @@
 -- Writing what was read gives the same bytes.
 -- Assumes nothing.
 use mathlib.Core.Path.{_≡_, refl, sym, ap, ap₂, _∙_}
-use mathlib.Core.Bool.{Bool, true, false, not, _&&_}
+use mathlib.Core.Bool.{true, not}
 use mathlib.Core.List.{List, [], _∷_, _++_}
 use Prim.Native.Nat.{ℕ, zero, suc, _+_, _*_, _%_, _^_, _≤_, _<_}
 use native.Mathlib.Nat.{mod-eq-of-lt, mul-suc, mul-zero}
 use native.Mathlib.Omega.{arith}
 use lib.Dec.{ltb, eqb}
 use lib.ListN.{length, getD, take, drop, replicate, length-replicate, length-drop}
-use lib.Seq.{getD-drop, take-add, drop-drop}
+use lib.Seq.{getD-drop, take-add}
 use borrow.Author.Tests.{eqb-true, ltb-false, not-false}
 use Rattle.laws.specs.Tests.{and-left, and-right}
 use Rattle.laws.specs.All.Properties.{all-at}
 use Rattle.laws.specs.Written.Properties.{written-at, written-length}
-use Rattle.plan.specs.declared.Project.{Project}
-use Rattle.plan.specs.declared.Kind.{Kind}
-use Rattle.plan.specs.declared.Plan.{Plan}
-use Rattle.answer.specs.declared.Answer.{Answer}
-use Rattle.answer.specs.declared.Answer.the-variants.{Good, No}
+use Rattle.answer.specs.declared.Answer.the-variants.{Good}
 use Rattle.answer.specs.declared.Refusal.the-variants.{Bare}
-use Rattle.plan.specs.Record.{noProject, noKind, noPlan}
-use Rattle.answer.specs.Answer.{refuse, _andThen_, ifGood}
+use Rattle.plan.specs.Record.{noProject, noKind}
+use Rattle.answer.specs.Answer.{refuse, _andThen_}
 use Rattle.answer.specs.Answer.Properties.{andThen-left, andThen-right, refuse-good}
-use Rattle.plan.specs.Order.{projectOf, kindOf, sizes, ranges, checked}
+use Rattle.plan.specs.Order.{sizes, ranges, checked}
 use Rattle.plan.specs.Order.Properties.{Sized, sizes-says}
 use Rattle.plan_bytes.specs.Pack.{bits, pack, unpack}
 use Rattle.plan_bytes.specs.Pack.Properties.{pack-unpack}
 use Rattle.plan_bytes.specs.Bytes.{numberTo, bytesOf, AreBytes}
 use Rattle.plan_bytes.specs.Bytes.Properties.{number-bound, bytes-number}
 use Rattle.plan_bytes.specs.Parts.{Shaped, headerWidths, projectWidths, kindWidths, headerBytes, projectBytes, kindBytes, projectBytesAt, kindBytesAt, partsTo, encoded, headerFields, projectFields, kindFields, projectFrom, kindFrom, projectAt, kindAt, projectsFrom, kindsFrom, headed, afterHeader, afterProjects, decoded, size}
-use Rattle.plan_bytes.specs.Reading.{headerSpare, projectSpare, kindSpare, projectsSpare, kindsSpare, placesSpare, spareZero, bodyAnswer, readAnswer, reading, readOf}
+use Rattle.plan_bytes.specs.Reading.{headerSpare, projectSpare, kindSpare, projectsSpare, kindsSpare, placesSpare, spareZero, bodyAnswer, readAnswer, readOf}
 use Rattle.plan_bytes.specs.Reading.Properties.{decoded-checked}
 
 -- ---- what a good answer says, stage by stage

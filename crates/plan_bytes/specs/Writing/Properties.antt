@@ -1,6 +1,6 @@
 -- Laws of writing.
 -- Assumes nothing.
-use mathlib.Core.Path.{_≡_, refl, sym, ap, ap₂, _∙_}
+use mathlib.Core.Path.{_≡_, refl, sym, _∙_}
 use mathlib.Core.List.{List, _++_}
 use Prim.Native.Nat.{ℕ, _≤_, _<_}
 use lib.ListN.{length, drop}
@@ -12,12 +12,11 @@ use Rattle.answer.specs.declared.Answer.{Answer}
 use Rattle.answer.specs.declared.Answer.the-variants.{Good, No}
 use Rattle.answer.specs.declared.Refusal.{Refusal}
 use Rattle.answer.specs.declared.Refusal.the-variants.{Bare}
-use Rattle.answer.specs.Answer.{refuse, _andThen_, ifGood}
+use Rattle.answer.specs.Answer.{refuse}
 use Rattle.answer.specs.Answer.Properties.{opened-no, opened-on}
 use Rattle.plan.specs.Order.{checked}
-use Rattle.plan_bytes.specs.declared.Written.{Written}
 use Rattle.plan_bytes.specs.Parts.{encoded, size}
-use Rattle.plan_bytes.specs.Writing.{writeAnswer, counted, Writes}
+use Rattle.plan_bytes.specs.Writing.{writeAnswer, Writes}
 
 -- a refusal: no byte is counted, and none is written
 refused-writes : (p : Plan) (out : List ℕ) (a : Answer) (w : Refusal) → a ≡ No w → a ≡ writeAnswer p out → Writes p out (record { answer = a; count = 0 }) out

@@ -9,8 +9,8 @@ ghost use Rattle.layout.specs.Layout.{cellAt, slotOf};
 ghost use Rattle.layout.specs.Table.{tableLength, tableOver, Tabled};
 ghost use Rattle.layout.specs.Walk.{firstCells, slotAfter, rowOf};
 use answer::Answer;
-use plan::Plan;
 use answer::Refusal;
+use plan::Plan;
 
 // What writing a table answers: the record order, then 9; and the count of bytes written.
 pub struct TableWritten {

@@ -12,7 +12,6 @@ use Rattle.plan.specs.Record.{noProject, noKind}
 use Rattle.answer.specs.Answer.{number, place, excess}
 use Rattle.layout.specs.Layout.{slotOf, held}
 use Rattle.supply.specs.Supply.{supply}
-use Rattle.plan_bytes.specs.declared.Reading.{Reading}
 use Rattle.plan_bytes.specs.Parts.{encoded}
 use Rattle.plan_bytes.specs.Reading.{readOf}
 use Rattle.verdict.specs.declared.Verdict.{Verdict}

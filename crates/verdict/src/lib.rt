@@ -11,8 +11,8 @@ ghost use Rattle.verdict.specs.Workload.{workload};
 ghost use Rattle.verdict.specs.Verdict.{admitted, verdictOf, judged};
 ghost use Rattle.verdict.specs.Steps.{runCards, projectCards, allCards, fitOn};
 use answer::Answer;
-use plan::Plan;
 use answer::Refusal;
+use plan::Plan;
 use supply::Fit;
 
 // The answer, and beside it document 01's k for each kind: the most cards that count at one

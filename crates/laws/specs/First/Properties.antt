@@ -7,7 +7,7 @@ use native.Mathlib.Decide.{decLe, decLt}
 use native.Mathlib.Numerals.{add-one}
 use native.Mathlib.Omega.{arith}
 use lib.Dec.{eqb}
-use borrow.Author.Tests.{eq-eqb, ne-eqb, eqb-true, eqb-false}
+use borrow.Author.Tests.{eq-eqb, ne-eqb}
 use Rattle.laws.specs.First.{firstTo}
 
 pub first-none : (f : ℕ → Bool) → 0 ≡ firstTo 0 f

@@ -4,7 +4,7 @@
 ghost use mathlib.Core.Path.{_≡_};
 ghost use Prim.Native.Nat.{_-_, _<_, _≤_};
 ghost use lib.ListN.{length};
-ghost use Rattle.plan.specs.Order.Properties.{InOrder};
+ghost use Rattle.plan.specs.Order.{InOrder};
 ghost use Rattle.layout.specs.Layout.{cellAt, slotOf};
 ghost use Rattle.layout.specs.Table.{tableLength, tableOver, Tabled};
 ghost use Rattle.layout.specs.Walk.{firstCells, slotAfter, rowOf};

@@ -1,7 +1,8 @@
 -- Document 01, "What the base holds" and the refusals 2 to 7: when a plan's record is in order, and what is said where it is not.
 -- Assumes nothing.
-use Prim.Native.Nat.{ℕ, _*_}
-use mathlib.Core.Bool.{Bool, not, _&&_, _||_}
+use Prim.Native.Nat.{ℕ, _*_, _≤_, _<_}
+use mathlib.Core.Path.{_≡_}
+use mathlib.Core.Bool.{Bool, true, not, _&&_, _||_}
 use lib.Dec.{leb, ltb, eqb}
 use lib.ListN.{getD}
 use Rattle.laws.specs.Sum.{sumTo}
@@ -116,3 +117,40 @@ ranges p = projectsInRange p andThen (kindsInRange p andThen budgetsFit p)
 -- "Records: 2, 3, 4, 5/6, 7"
 unfoldable pub checked : Plan → Answer
 checked p = sizes p andThen (unused p andThen ranges p)
+
+-- ---- what a good answer says, field by field
+
+-- "cards m 1..8; projects p 1..8; unit kinds n 1..16; frame length F 1..64"
+pub record Sized (p : Plan) : Type 0 where
+  pub some-card : 0 < p .cards
+  pub cards-most : p .cards ≤ 8
+  pub some-project : 0 < p .projects
+  pub projects-most : p .projects ≤ 8
+  pub some-kind : 0 < p .kinds
+  pub kinds-most : p .kinds ≤ 16
+  pub some-slice : 0 < p .frame
+  pub frame-most : p .frame ≤ 64
+
+-- "A project has a ceiling q (1..m) and a budget B (1..qF)"
+pub record ProjectInRange (p : Plan) (v : Project) : Type 0 where
+  pub some-ceiling : 0 < v .ceiling
+  pub ceiling-most : v .ceiling ≤ p .cards
+  pub some-budget : 0 < v .budget
+  pub budget-most : v .budget ≤ v .ceiling * p .frame
+
+-- "A unit kind names its project and has a separation T, deadline D and length C with 1 <= C <= D <= T <= 4095"
+pub record KindInRange (p : Plan) (v : Kind) : Type 0 where
+  pub its-project : v .project < p .projects
+  pub some-length : 0 < v .length
+  pub length-most : v .length ≤ v .deadline
+  pub deadline-most : v .deadline ≤ v .separation
+  pub separation-most : v .separation ≤ 4095
+
+-- what a plan in order is, field by field
+pub record InOrder (p : Plan) : Type 0 where
+  pub counts : Sized p
+  pub projects-tidy : (j : ℕ) → j < 8 → tidyProject p j ≡ true
+  pub kinds-tidy : (i : ℕ) → i < 16 → tidyKind p i ≡ true
+  pub project-at : (j : ℕ) → j < p .projects → ProjectInRange p (projectOf p j)
+  pub kind-at : (i : ℕ) → i < p .kinds → KindInRange p (kindOf p i)
+  pub cells : budgets p ≤ p .cards * p .frame

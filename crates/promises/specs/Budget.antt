@@ -9,8 +9,7 @@ use lib.ListN.{length, getD, take, drop, length-drop}
 use lib.Seq.{length-take-le, getD-take, getD-drop}
 use Rattle.laws.specs.Sum.{sumTo}
 use Rattle.laws.specs.Sum.Properties.{sum-cong, sum-le}
-use Rattle.plan.specs.Order.{budgetOf}
-use Rattle.plan.specs.Order.Properties.{InOrder}
+use Rattle.plan.specs.Order.{budgetOf, InOrder}
 use Rattle.layout.specs.Layout.{held}
 use Rattle.layout.specs.Layout.Properties.{held-frame}
 use Rattle.rack.specs.declared.State.{State}

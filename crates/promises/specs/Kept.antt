@@ -11,8 +11,7 @@ use Rattle.plan.specs.declared.Plan.{Plan}
 use Rattle.plan.specs.declared.Kind.{Kind}
 use Rattle.answer.specs.declared.Answer.the-variants.{Good}
 use Rattle.answer.specs.Answer.{number}
-use Rattle.plan.specs.Order.{budgetOf, kindOf, within}
-use Rattle.plan.specs.Order.Properties.{InOrder}
+use Rattle.plan.specs.Order.{budgetOf, kindOf, within, InOrder}
 use Rattle.layout.specs.Layout.{held}
 use Rattle.unit.specs.declared.Unit.{Unit}
 use Rattle.rack.specs.declared.State.{State}

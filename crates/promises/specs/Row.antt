@@ -10,7 +10,7 @@ use Rattle.laws.specs.Count.{countTo}
 use Rattle.laws.specs.Count.Properties.{count-never, count-one, count-some}
 use Rattle.layout.specs.Layout.{held}
 use Rattle.rack.specs.declared.State.{State}
-use Rattle.rack.specs.Form.Properties.{Ready}
+use Rattle.rack.specs.Form.{Ready}
 use Rattle.rack.specs.Rank.{activeKinds, served}
 use Rattle.rack.specs.Row.{rowByte, ofProject, cardsTaken}
 use Rattle.rack.specs.Row.Properties.{served-stands, stands-served, stands-once, taken-cards}

@@ -6,7 +6,7 @@ use lib.ListN.{length}
 use Rattle.answer.specs.declared.Answer.the-variants.{Good}
 use Rattle.verdict.specs.Verdict.{judged}
 use Rattle.rack.specs.declared.State.{State}
-use Rattle.rack.specs.Form.Properties.{Ready}
+use Rattle.rack.specs.Form.{Ready}
 use Rattle.promises.specs.OnTrack.{OnTrack}
 use Rattle.promises.specs.View.{setupOf, momentOf}
 pub mod Properties

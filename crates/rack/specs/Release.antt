@@ -1,17 +1,17 @@
 -- Document 01, "Release", and the refusals 12 to 15.
 -- Assumes nothing.
-use Prim.Native.Nat.{ℕ}
+use Prim.Native.Nat.{ℕ, _<_}
 use mathlib.Core.Bool.{true, not}
 use lib.Dec.{ltb}
 use lib.ListN.{set}
 use Rattle.answer.specs.declared.Answer.{Answer}
 use Rattle.answer.specs.declared.Refusal.the-variants.{Bare}
 use Rattle.answer.specs.Answer.{refuse, _andThen_}
-use Rattle.unit.specs.Start.{startable}
+use Rattle.unit.specs.Start.{Startable, startable}
 use Rattle.rack.specs.declared.State.{State}
 use Rattle.rack.specs.declared.Next.{Next}
 use Rattle.rack.specs.State.{unitOf, kindAt, nextOf}
-use Rattle.rack.specs.Form.{ready}
+use Rattle.rack.specs.Form.{Ready, ready}
 use Rattle.rack.specs.Rank.{gone}
 pub mod Properties
 
@@ -26,3 +26,11 @@ released s i e = record { plan = s .plan; clock = s .clock; unit = set (s .unit)
 -- what a release answers and hands back
 unfoldable pub releaseOf : State → ℕ → ℕ → Next
 releaseOf s i e = nextOf (releaseAnswer s i e) (released s i e) s
+
+-- ---- what a good answer says
+
+-- none of the record order, 10, 12, 13, 14 and 15
+pub record Releasable (s : State) (i e : ℕ) : Type 0 where
+  pub ready : Ready s
+  pub its-kind : i < s .plan .kinds
+  pub start : Startable (kindAt s i) (unitOf s i) (gone s i) e

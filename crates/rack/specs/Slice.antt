@@ -1,7 +1,7 @@
 -- Document 01, "Slice", and the refusals 9 and 11: the row that a state shows, and the state that follows.
 -- Assumes nothing.
 use mathlib.Core.Path.{_≡_}
-use Prim.Native.Nat.{ℕ, _+_, _-_}
+use Prim.Native.Nat.{ℕ, _+_, _-_, _≤_, _<_}
 use mathlib.Core.Bool.{cond}
 use mathlib.Core.List.{List}
 use lib.Dec.{ltb, eqb}
@@ -14,7 +14,7 @@ use Rattle.unit.specs.declared.Unit.{Unit}
 use Rattle.rack.specs.declared.State.{State}
 use Rattle.rack.specs.declared.Next.{Next}
 use Rattle.rack.specs.State.{unitOf, nextOf}
-use Rattle.rack.specs.Form.{ready}
+use Rattle.rack.specs.Form.{Ready, ready}
 use Rattle.rack.specs.Rank.{served}
 use Rattle.rack.specs.Row.{rowOver}
 pub mod Properties
@@ -53,3 +53,11 @@ bufferAfter s bytes = ifGood (sliceAnswer s (length bytes)) (rowOver s bytes) by
 pub record Sliced (s : State) (bytes : List ℕ) (next : Next) (after : List ℕ) : Type 0 where
   pub result : next ≡ sliceOf s (length bytes)
   pub buffer : after ≡ bufferAfter s bytes
+
+-- ---- what a good answer says
+
+-- none of the record order, 10, 9 and 11
+pub record Sliceable (s : State) (room : ℕ) : Type 0 where
+  pub ready : Ready s
+  pub enough : s .plan .cards ≤ room
+  pub time : s .clock < 1000000000

@@ -1,7 +1,8 @@
 -- Document 01, "In form": when a kind's unit is in form.
 -- Assumes nothing.
-use Prim.Native.Nat.{ℕ}
-use mathlib.Core.Bool.{Bool, not, cond, _&&_}
+use Prim.Native.Nat.{ℕ, _≤_}
+use mathlib.Core.Path.{_≡_}
+use mathlib.Core.Bool.{Bool, false, not, cond, _&&_}
 use lib.Dec.{leb, eqb}
 use Rattle.unit.specs.declared.Unit.{Unit}
 pub mod Properties
@@ -25,3 +26,11 @@ emptyUnit v = not (v .released) && untouched v
 -- a unit at its place: in form where the plan has that kind, and else "places beyond n zero"
 abbrev pub fitsPlace : Bool → ℕ → ℕ → Unit → Bool
 fitsPlace used clock length v = cond used (unitInForm clock length v) (emptyUnit v)
+
+-- ---- what the test says, field by field
+
+-- "a kind never released has release clock 0 and left 0; else release clock <= clock and left <= C"
+pub record UnitInForm (clock length : ℕ) (v : Unit) : Type 0 where
+  pub release-clock : v .at ≤ clock
+  pub left-most : v .left ≤ length
+  pub never : v .released ≡ false → (v .at ≡ 0) × (v .left ≡ 0)

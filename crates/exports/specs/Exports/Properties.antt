@@ -18,8 +18,8 @@ use Rattle.answer.specs.declared.Refusal.{Refusal}
 use Rattle.answer.specs.declared.Refusal.the-variants.{Bare}
 use Rattle.answer.specs.Answer.{refuse, _andThen_, ifGood}
 use Rattle.answer.specs.Answer.Properties.{andThen-left, andThen-right, andThen-good, opened-no, opened-on, refuse-good, refused, passed}
-use Rattle.plan.specs.Order.{checked, within}
-use Rattle.plan.specs.Order.Properties.{InOrder, in-order}
+use Rattle.plan.specs.Order.{checked, within, InOrder}
+use Rattle.plan.specs.Order.Properties.{in-order}
 use Rattle.plan_bytes.specs.declared.Reading.{Reading}
 use Rattle.plan_bytes.specs.declared.Written.{Written}
 use Rattle.plan_bytes.specs.Parts.{encoded, size}

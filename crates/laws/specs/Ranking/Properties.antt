@@ -11,13 +11,7 @@ use borrow.Author.Tests.{ltb-true, eqb-true, lt-ltb, le-ltb, eq-eqb, ne-eqb}
 use Rattle.laws.specs.Count.{countTo}
 use Rattle.laws.specs.Tests.{and-left, and-right, and-both}
 use Rattle.laws.specs.Count.Properties.{count-le-count, count-cong, count-lt-count, count-some, count-extra, count-never, count-one, count-parts}
-use Rattle.laws.specs.Ranking.{rankIn, firstIn, sooner}
-
--- an order: nothing is above itself, what is above is so onward, and of two one is above the other
-pub record Order (above : ℕ → ℕ → Bool) : Type 0 where
-  pub never-itself : (i : ℕ) → above i i ≡ false
-  pub onward : (i j k : ℕ) → above i j ≡ true → above j k ≡ true → above i k ≡ true
-  pub total : (i j : ℕ) → above i j ≡ false → above j i ≡ false → i ≡ j
+use Rattle.laws.specs.Ranking.{Order, rankIn, firstIn, sooner}
 
 -- the rank sees only the members, and what is above them
 module _ (n : ℕ) (member member' : ℕ → Bool) (above above' : ℕ → ℕ → Bool) (i : ℕ) where

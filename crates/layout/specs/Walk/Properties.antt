@@ -11,8 +11,7 @@ use borrow.Author.Tests.{lt-ltb, le-ltb, ne-eqb}
 use Rattle.laws.specs.Written.{written}
 use Rattle.laws.specs.Written.Properties.{written-none, written-suc, written-again, written-stop, written-at}
 use Rattle.plan.specs.declared.Plan.{Plan}
-use Rattle.plan.specs.Order.{budgetOf}
-use Rattle.plan.specs.Order.Properties.{InOrder}
+use Rattle.plan.specs.Order.{budgetOf, InOrder}
 use Rattle.layout.specs.Cards.Properties.{card-cells, card-next}
 use Rattle.layout.specs.Layout.{cellAt, firstCell, slotOf}
 use Rattle.layout.specs.Layout.Properties.{first-suc, first-next, first-start, cells-most, last-most, owns-yes, owns-from, owns-to, slot-owner, slot-owned, slot-free, free-slot, slot-most}

@@ -8,8 +8,6 @@ use lib.Dec.{leb, ltb, eqb}
 use borrow.Author.Tests.{lt-ltb, le-ltb, le-leb, ne-eqb, ltb-true, leb-true, eqb-false, not-true, not-false}
 use Rattle.laws.specs.Tests.{and-left, and-right}
 use Rattle.laws.specs.All.Properties.{all-at, all-of}
-use Rattle.plan.specs.declared.Project.{Project}
-use Rattle.plan.specs.declared.Kind.{Kind}
 use Rattle.plan.specs.declared.Plan.{Plan}
 use Rattle.answer.specs.declared.Answer.{Answer}
 use Rattle.answer.specs.declared.Answer.the-variants.{Good}
@@ -17,7 +15,7 @@ use Rattle.answer.specs.declared.Refusal.the-variants.{Bare, ByProject, ByKind}
 use Rattle.plan.specs.Record.{noProject, noKind}
 use Rattle.answer.specs.Answer.{refuse, _andThen_}
 use Rattle.answer.specs.Answer.Properties.{andThen-left, andThen-right, refuse-good, each-at, each-of}
-use Rattle.plan.specs.Order.{within, sized, emptyProject, emptyKind, tidyProject, tidyKind, tidyProjects, tidyKinds, inRange, timed, budgets, projectOf, kindOf, sizes, unused, projectInRange, projectsInRange, kindInRange, kindInRangeAt, kindsInRange, budgetsFit, ranges, checked}
+use Rattle.plan.specs.Order.{Sized, ProjectInRange, KindInRange, InOrder, within, sized, emptyProject, emptyKind, tidyProject, tidyKind, tidyProjects, tidyKinds, inRange, timed, budgets, projectOf, kindOf, sizes, unused, projectInRange, projectsInRange, kindInRange, kindInRangeAt, kindsInRange, budgetsFit, ranges, checked}
 
 -- ---- "1..most"
 
@@ -34,17 +32,6 @@ unfolding within
 within-of most x p q = rw (ne-eqb x 0 (λ e. omega arith), le-leb x most q)
 
 -- ---- the counts
-
--- "cards m 1..8; projects p 1..8; unit kinds n 1..16; frame length F 1..64"
-pub record Sized (p : Plan) : Type 0 where
-  pub some-card : 0 < p .cards
-  pub cards-most : p .cards ≤ 8
-  pub some-project : 0 < p .projects
-  pub projects-most : p .projects ≤ 8
-  pub some-kind : 0 < p .kinds
-  pub kinds-most : p .kinds ≤ 16
-  pub some-slice : 0 < p .frame
-  pub frame-most : p .frame ≤ 64
 
 pub sized-says : (p : Plan) → sized p ≡ true → Sized p
 unfolding sized
@@ -116,21 +103,6 @@ full-place j used n e false q l p t = rw (le-ltb j n (omega arith), ← p)
 
 -- ---- a project and a kind in range
 
--- "A project has a ceiling q (1..m) and a budget B (1..qF)"
-pub record ProjectInRange (p : Plan) (v : Project) : Type 0 where
-  pub some-ceiling : 0 < v .ceiling
-  pub ceiling-most : v .ceiling ≤ p .cards
-  pub some-budget : 0 < v .budget
-  pub budget-most : v .budget ≤ v .ceiling * p .frame
-
--- "A unit kind names its project and has a separation T, deadline D and length C with 1 <= C <= D <= T <= 4095"
-pub record KindInRange (p : Plan) (v : Kind) : Type 0 where
-  pub its-project : v .project < p .projects
-  pub some-length : 0 < v .length
-  pub length-most : v .length ≤ v .deadline
-  pub deadline-most : v .deadline ≤ v .separation
-  pub separation-most : v .separation ≤ 4095
-
 pub project-says : (p : Plan) (j : ℕ) → projectInRange p j ≡ Good → ProjectInRange p (projectOf p j)
 unfolding inRange
 project-says p j e =
@@ -181,15 +153,6 @@ kind-of p i r =
     rw (lt-ltb (v .project) (p .projects) (r .its-project), ne-eqb (v .length) 0 (λ e. omega (arith, r .some-length)), le-leb (v .length) (v .deadline) (r .length-most), le-leb (v .deadline) (v .separation) (r .deadline-most), le-leb (v .separation) 4095 (r .separation-most))
 
 -- ---- the whole record
-
--- what a plan in order is, field by field
-pub record InOrder (p : Plan) : Type 0 where
-  pub counts : Sized p
-  pub projects-tidy : (j : ℕ) → j < 8 → tidyProject p j ≡ true
-  pub kinds-tidy : (i : ℕ) → i < 16 → tidyKind p i ≡ true
-  pub project-at : (j : ℕ) → j < p .projects → ProjectInRange p (projectOf p j)
-  pub kind-at : (i : ℕ) → i < p .kinds → KindInRange p (kindOf p i)
-  pub cells : budgets p ≤ p .cards * p .frame
 
 -- a good answer says that the plan is in order
 pub in-order : (p : Plan) → checked p ≡ Good → InOrder p

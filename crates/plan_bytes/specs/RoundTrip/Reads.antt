@@ -22,8 +22,8 @@ use Rattle.answer.specs.declared.Answer.the-variants.{Good}
 use Rattle.plan.specs.Record.{noProject, noKind}
 use Rattle.answer.specs.Answer.{_andThen_}
 use Rattle.answer.specs.Answer.Properties.{andThen-left, andThen-right}
-use Rattle.plan.specs.Order.{projectOf, kindOf, emptyProject, emptyKind, sized, sizes, unused, ranges, checked}
-use Rattle.plan.specs.Order.Properties.{InOrder, in-order, ProjectInRange, KindInRange}
+use Rattle.plan.specs.Order.{projectOf, kindOf, emptyProject, emptyKind, sized, sizes, unused, ranges, checked, InOrder, ProjectInRange, KindInRange}
+use Rattle.plan.specs.Order.Properties.{in-order}
 use Rattle.plan_bytes.specs.Pack.{bits, pack, unpack, Fitting}
 use Rattle.plan_bytes.specs.Pack.Properties.{pack-bound, unpack-pack}
 use Rattle.plan_bytes.specs.Bytes.{numberTo, bytesOf}

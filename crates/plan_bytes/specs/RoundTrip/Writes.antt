@@ -18,8 +18,8 @@ use Rattle.answer.specs.declared.Refusal.the-variants.{Bare}
 use Rattle.plan.specs.Record.{noProject, noKind}
 use Rattle.answer.specs.Answer.{refuse, _andThen_}
 use Rattle.answer.specs.Answer.Properties.{andThen-left, andThen-right, refuse-good}
-use Rattle.plan.specs.Order.{sizes, ranges, checked}
-use Rattle.plan.specs.Order.Properties.{Sized, sizes-says}
+use Rattle.plan.specs.Order.{sizes, ranges, checked, Sized}
+use Rattle.plan.specs.Order.Properties.{sizes-says}
 use Rattle.plan_bytes.specs.Pack.{bits, pack, unpack}
 use Rattle.plan_bytes.specs.Pack.Properties.{pack-unpack}
 use Rattle.plan_bytes.specs.Bytes.{numberTo, bytesOf, AreBytes}

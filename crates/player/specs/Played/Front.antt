@@ -20,8 +20,8 @@ use Rattle.answer.specs.declared.Refusal.the-variants.{Bare, ByProject, ByKind}
 use Rattle.plan.specs.Record.{noProject, noKind}
 use Rattle.answer.specs.Answer.{number, refuse, _andThen_, eachTo}
 use Rattle.answer.specs.Answer.Properties.{andThen-good, andThen-no}
-use Rattle.plan.specs.Order.{sized, sizes, inRange, timed, projectOf, kindOf, projectInRange, projectsInRange, kindInRange, kindInRangeAt, kindsInRange, budgets, budgetsFit, ranges}
-use Rattle.plan.specs.Order.Properties.{Sized, sizes-says}
+use Rattle.plan.specs.Order.{sized, sizes, inRange, timed, projectOf, kindOf, projectInRange, projectsInRange, kindInRange, kindInRangeAt, kindsInRange, budgets, budgetsFit, ranges, Sized}
+use Rattle.plan.specs.Order.Properties.{sizes-says}
 use Rattle.plan_bytes.specs.declared.Reading.{Reading}
 use Rattle.plan_bytes.specs.Pack.{unpack}
 use Rattle.plan_bytes.specs.Bytes.{numberTo}

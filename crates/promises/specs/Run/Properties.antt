@@ -11,7 +11,7 @@ use Rattle.plan.specs.declared.Plan.{Plan}
 use Rattle.answer.specs.declared.Answer.{Answer}
 use Rattle.answer.specs.declared.Answer.the-variants.{Good, No}
 use Rattle.rack.specs.declared.State.{State}
-use Rattle.rack.specs.Form.Properties.{Ready}
+use Rattle.rack.specs.Form.{Ready}
 use Rattle.rack.specs.Row.{rowByte, rowOver}
 use Rattle.rack.specs.Release.{released, releaseAnswer, releaseOf}
 use Rattle.rack.specs.Slice.{advanced, sliceAnswer, sliceOf, bufferAfter}

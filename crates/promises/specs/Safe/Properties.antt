@@ -15,7 +15,7 @@ use Rattle.unit.specs.declared.Unit.{Unit}
 use Rattle.rack.specs.declared.State.{State}
 use Rattle.unit.specs.Unit.{noUnit}
 use Rattle.rack.specs.State.{unitOf, kindAt, freshOf}
-use Rattle.unit.specs.Form.Properties.{UnitInForm}
+use Rattle.unit.specs.Form.{UnitInForm}
 use Rattle.rack.specs.Rank.{gone, until, served}
 use Rattle.rack.specs.Start.{startAnswer, startOf}
 use Rattle.rack.specs.Start.Properties.{start-good, fresh-form, fresh-places}

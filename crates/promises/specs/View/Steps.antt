@@ -10,10 +10,10 @@ use Rattle.unit.specs.declared.Unit.{Unit}
 use Rattle.rack.specs.declared.State.{State}
 use Rattle.rack.specs.State.{unitOf, kindAt}
 use Rattle.rack.specs.Rank.{gone, due, until, served}
-use Rattle.rack.specs.Release.{released}
-use Rattle.rack.specs.Release.Properties.{Releasable, release-unit, release-others}
-use Rattle.rack.specs.Slice.{unitAfter, advanced}
-use Rattle.rack.specs.Slice.Properties.{Sliceable, unit-after}
+use Rattle.rack.specs.Release.{released, Releasable}
+use Rattle.rack.specs.Release.Properties.{release-unit, release-others}
+use Rattle.rack.specs.Slice.{unitAfter, advanced, Sliceable}
+use Rattle.rack.specs.Slice.Properties.{unit-after}
 use Rattle.promises.specs.Step.{Slice, Release}
 use Rattle.promises.specs.View.{setupOf, waitOf, momentOf}
 use Rattle.promises.specs.View.Ranks.{view-serves}

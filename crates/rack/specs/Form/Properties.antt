@@ -16,20 +16,13 @@ use Rattle.answer.specs.declared.Refusal.the-variants.{Bare}
 use Rattle.answer.specs.Answer.{refuse}
 use Rattle.answer.specs.Answer.Properties.{andThen-left, andThen-right, refuse-good}
 use Rattle.plan.specs.Order.{checked}
-use Rattle.plan.specs.Order.Properties.{InOrder, in-order, in-order-good}
-use Rattle.unit.specs.Form.Properties.{UnitInForm, unit-says, unit-of, empty-says, empty-of}
+use Rattle.plan.specs.Order.Properties.{in-order, in-order-good}
+use Rattle.unit.specs.Form.Properties.{unit-says, unit-of, empty-says, empty-of}
 use Rattle.rack.specs.declared.State.{State}
-use Rattle.unit.specs.Unit.{noUnit}
 use Rattle.rack.specs.State.{unitOf, kindAt}
-use Rattle.rack.specs.Form.{placeInForm, inForm, ready}
+use Rattle.rack.specs.Form.{InForm, Ready, placeInForm, inForm, ready}
 
 -- ---- the whole state
-
--- what a state in form is, place by place
-pub record InForm (s : State) : Type 0 where
-  pub clock-most : s .clock ≤ 1000000000
-  pub unit-at : (i : ℕ) → i < 16 → i < s .plan .kinds → UnitInForm (s .clock) (kindAt s i .length) (unitOf s i)
-  pub unused : (i : ℕ) → i < 16 → s .plan .kinds ≤ i → unitOf s i ≡ noUnit
 
 pub form-says : (s : State) → inForm s ≡ true → InForm s
 unfolding inForm
@@ -47,11 +40,6 @@ form-of s f = and-both (leb (s .clock) 1000000000) (allTo 16 (placeInForm s)) (l
   where
     place : (i : ℕ) → i < 16 → placeInForm s i ≡ true
     place i l = elim (decLt i (s .plan .kinds)) [ yes m ↦ rw (lt-ltb i (s .plan .kinds) m) (unit-of (s .clock) (kindAt s i .length) (unitOf s i) (f .unit-at i l m)) | no m ↦ rw (le-ltb i (s .plan .kinds) (omega arith)) (empty-of (unitOf s i) (f .unused i l (omega arith))) ]
-
--- "the record order, 10": a good answer says both, and nothing else is refused
-pub record Ready (s : State) : Type 0 where
-  pub order : InOrder (s .plan)
-  pub form : InForm s
 
 pub ready-says : (s : State) → ready s ≡ Good → Ready s
 unfolding ready

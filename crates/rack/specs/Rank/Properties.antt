@@ -10,8 +10,8 @@ use borrow.Author.Tests.{lt-ltb, le-ltb, eq-eqb, ne-eqb, eqb-true, eqb-false, no
 use Rattle.laws.specs.Tests.{and-left, and-right, and-both}
 use Rattle.laws.specs.Count.{countTo}
 use Rattle.laws.specs.Count.Properties.{count-cong}
-use Rattle.laws.specs.Ranking.{rankIn, firstIn, sooner}
-use Rattle.laws.specs.Ranking.Properties.{Order, first-of, first-member, first-rank, not-first, rank-distinct, rank-at, rank-lt-members, above-of-rank, first-count, sooner-le, sooner-tie, sooner-order}
+use Rattle.laws.specs.Ranking.{rankIn, firstIn, sooner, Order}
+use Rattle.laws.specs.Ranking.Properties.{first-of, first-member, first-rank, not-first, rank-distinct, rank-at, rank-lt-members, above-of-rank, first-count, sooner-le, sooner-tie, sooner-order}
 use Rattle.layout.specs.Layout.{held}
 use Rattle.rack.specs.declared.State.{State}
 use Rattle.rack.specs.State.{unitOf, kindAt}

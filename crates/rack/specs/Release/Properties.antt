@@ -16,25 +16,19 @@ use Rattle.answer.specs.declared.Refusal.{Refusal}
 use Rattle.answer.specs.declared.Refusal.the-variants.{Bare}
 use Rattle.answer.specs.Answer.{refuse, _andThen_}
 use Rattle.answer.specs.Answer.Properties.{andThen-left, andThen-right, refuse-good}
-use Rattle.unit.specs.Start.Properties.{Startable, start-says, start-of}
+use Rattle.unit.specs.Start.{startable}
+use Rattle.unit.specs.Start.Properties.{start-says, start-of}
 use Rattle.rack.specs.declared.State.{State}
 use Rattle.unit.specs.Unit.{noUnit}
 use Rattle.rack.specs.State.{unitOf, kindAt}
 use Rattle.rack.specs.State.Properties.{refused-keeps}
-use Rattle.rack.specs.Form.{ready}
-use Rattle.unit.specs.Form.Properties.{UnitInForm}
-use Rattle.rack.specs.Form.Properties.{Ready, ready-says, ready-of}
+use Rattle.rack.specs.Form.{ready, Ready}
+use Rattle.unit.specs.Form.{UnitInForm}
+use Rattle.rack.specs.Form.Properties.{ready-says, ready-of}
 use Rattle.rack.specs.Rank.{gone}
-use Rattle.unit.specs.Start.{startable}
-use Rattle.rack.specs.Release.{releaseAnswer, released, releaseOf}
+use Rattle.rack.specs.Release.{Releasable, releaseAnswer, released, releaseOf}
 
 -- ---- the whole answer
-
--- none of the record order, 10, 12, 13, 14 and 15
-pub record Releasable (s : State) (i e : ℕ) : Type 0 where
-  pub ready : Ready s
-  pub its-kind : i < s .plan .kinds
-  pub start : Startable (kindAt s i) (unitOf s i) (gone s i) e
 
 pub release-says : (s : State) (i e : ℕ) → releaseAnswer s i e ≡ Good → Releasable s i e
 unfolding releaseAnswer

@@ -9,18 +9,16 @@ use native.Mathlib.Omega.{arith}
 use lib.Dec.{leb, ltb, eqb}
 use borrow.Author.Tests.{eq-eqb, ne-eqb, eqb-true, eqb-false, not-true}
 use Rattle.laws.specs.Tests.{and-left, and-right}
-use Rattle.laws.specs.Count.Properties.{count-cong}
+use Rattle.laws.specs.Count.Properties.{count-cong, between-yes, between-low, between-high, count-between}
 use Rattle.laws.specs.First.Properties.{first-le, first-holds, first-zero, first-some}
 use Rattle.plan.specs.declared.Plan.{Plan}
-use Rattle.plan.specs.Order.{projectOf}
-use Rattle.plan.specs.Order.Properties.{InOrder}
-use Rattle.laws.specs.Count.Properties.{between-yes, between-low, between-high, count-between}
+use Rattle.plan.specs.Order.{projectOf, InOrder}
 use Rattle.layout.specs.Layout.{firstCell, cellAt, held}
 use Rattle.layout.specs.Cards.Properties.{below-grows}
 use Rattle.layout.specs.Layout.Properties.{one-owner, card-owned, owned-from, owned-to, held-closed, held-ceiling, below-cards, first-next}
 use Rattle.rack.specs.declared.State.{State}
 use Rattle.rack.specs.State.{kindAt}
-use Rattle.rack.specs.Form.Properties.{Ready}
+use Rattle.rack.specs.Form.{Ready}
 use Rattle.rack.specs.Rank.{working, activeKinds, outranks, rank, served}
 use Rattle.rack.specs.Rank.Properties.{active-project, active-working, served-of, served-working, served-rank, served-first, ranks-distinct, rank-taken, rank-most, rank-above}
 use Rattle.rack.specs.Seat.{lowest}

@@ -18,8 +18,7 @@ use Rattle.laws.specs.Ranking.Properties.{rank-cong}
 use Rattle.laws.specs.Written.{written}
 use Rattle.laws.specs.Written.Properties.{written-none, written-suc, written-again, written-cong, written-set, stored-at, stored-most}
 use Rattle.plan.specs.declared.Plan.{Plan}
-use Rattle.plan.specs.Order.{budgetOf}
-use Rattle.plan.specs.Order.Properties.{InOrder}
+use Rattle.plan.specs.Order.{budgetOf, InOrder}
 use Rattle.layout.specs.Cards.{cardsBelow}
 use Rattle.layout.specs.Cards.Properties.{below-start}
 use Rattle.layout.specs.Layout.{firstCell, held}
@@ -28,7 +27,7 @@ use Rattle.plan.specs.declared.Kind.{Kind}
 use Rattle.unit.specs.declared.Unit.{Unit}
 use Rattle.rack.specs.declared.State.{State}
 use Rattle.rack.specs.State.{unitOf, kindAt}
-use Rattle.rack.specs.Form.Properties.{Ready}
+use Rattle.rack.specs.Form.{Ready}
 use Rattle.rack.specs.Rank.{due, working, active, outranks, rank, served}
 use Rattle.rack.specs.Rank.Properties.{working-left, idle-left, active-is, active-idle, served-rank, idle-unserved, unserved-rank}
 use Rattle.rack.specs.Row.{takes, rowByte, rowOver}

@@ -22,15 +22,15 @@ use Rattle.rack.specs.declared.Next.{Next}
 use Rattle.unit.specs.Unit.{noUnit}
 use Rattle.rack.specs.State.{unitOf, kindAt}
 use Rattle.rack.specs.State.Properties.{refused-keeps}
-use Rattle.rack.specs.Form.{ready}
-use Rattle.unit.specs.Form.Properties.{UnitInForm}
-use Rattle.rack.specs.Form.Properties.{Ready, ready-says, ready-of}
+use Rattle.rack.specs.Form.{ready, Ready}
+use Rattle.unit.specs.Form.{UnitInForm}
+use Rattle.rack.specs.Form.Properties.{ready-says, ready-of}
 use Rattle.rack.specs.Rank.{served}
 use Rattle.rack.specs.Rank.Properties.{served-working, working-left}
 use Rattle.seats.specs.Seats.{at}
 use Rattle.rack.specs.Seat.{idle, seated, seatsOf, seatOf}
 use Rattle.rack.specs.Seat.Properties.{seat-served, seat-unserved, seats-at, seats-room, row-written}
-use Rattle.rack.specs.Slice.{unitAfter, advanced, roomAndTime, sliceAnswer, sliceOf, bufferAfter, Sliced}
+use Rattle.rack.specs.Slice.{Sliceable, unitAfter, advanced, roomAndTime, sliceAnswer, sliceOf, bufferAfter, Sliced}
 
 -- ---- a kind's unit after the slice
 
@@ -87,12 +87,6 @@ unfolding advanced
 advanced-is s t n p q u a b = λ k. record { plan = p k; clock = q k + 1; unit = written-stop n (s .plan .kinds) (unitAfter s) (s .unit) (t .unit) u a b k }
 
 -- ---- the answer
-
--- none of the record order, 10, 9 and 11
-pub record Sliceable (s : State) (room : ℕ) : Type 0 where
-  pub ready : Ready s
-  pub enough : s .plan .cards ≤ room
-  pub time : s .clock < 1000000000
 
 pub slice-says : (s : State) (room : ℕ) → sliceAnswer s room ≡ Good → Sliceable s room
 unfolding sliceAnswer roomAndTime

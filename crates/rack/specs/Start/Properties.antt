@@ -8,8 +8,8 @@ use Rattle.plan.specs.declared.Plan.{Plan}
 use Rattle.answer.specs.declared.Answer.the-variants.{Good, No}
 use Rattle.answer.specs.declared.Refusal.{Refusal}
 use Rattle.answer.specs.Answer.Properties.{andThen-left, andThen-right}
-use Rattle.plan.specs.Order.{checked}
-use Rattle.plan.specs.Order.Properties.{InOrder, in-order}
+use Rattle.plan.specs.Order.{checked, InOrder}
+use Rattle.plan.specs.Order.Properties.{in-order}
 use Rattle.verdict.specs.declared.Verdict.{Verdict}
 use Rattle.verdict.specs.Verdict.{admitted, judged}
 use Rattle.rack.specs.declared.State.{State}
@@ -17,8 +17,8 @@ use Rattle.rack.specs.declared.Next.{Next}
 use Rattle.unit.specs.Unit.{noUnit}
 use Rattle.rack.specs.State.{kindAt, freshOf, noState}
 use Rattle.rack.specs.State.Properties.{next-kept, next-moved, refused-keeps, good-moves}
-use Rattle.unit.specs.Form.Properties.{UnitInForm}
-use Rattle.rack.specs.Form.Properties.{Ready}
+use Rattle.unit.specs.Form.{UnitInForm}
+use Rattle.rack.specs.Form.{Ready}
 use Rattle.rack.specs.Start.{startAnswer, startOf}
 
 -- the verdict's answer is the start's

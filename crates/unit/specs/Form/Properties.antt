@@ -2,20 +2,14 @@
 -- Assumes nothing.
 use mathlib.Core.Path.{_≡_, refl, sym, _∙_}
 use mathlib.Core.Bool.{Bool, true, false, not, cond, _&&_, true≢false}
-use Prim.Native.Nat.{ℕ, _≤_}
+use Prim.Native.Nat.{ℕ}
 use native.Mathlib.Omega.{arith}
 use lib.Dec.{leb, eqb}
 use borrow.Author.Tests.{le-leb, eq-eqb, leb-true, eqb-true, not-true}
 use Rattle.laws.specs.Tests.{and-left, and-right, and-both}
 use Rattle.unit.specs.declared.Unit.{Unit}
 use Rattle.unit.specs.Unit.{noUnit}
-use Rattle.unit.specs.Form.{untouched, underway, unitInForm, emptyUnit}
-
--- "a kind never released has release clock 0 and left 0; else release clock <= clock and left <= C"
-pub record UnitInForm (clock length : ℕ) (v : Unit) : Type 0 where
-  pub release-clock : v .at ≤ clock
-  pub left-most : v .left ≤ length
-  pub never : v .released ≡ false → (v .at ≡ 0) × (v .left ≡ 0)
+use Rattle.unit.specs.Form.{UnitInForm, untouched, underway, unitInForm, emptyUnit}
 
 untouched-says : (v : Unit) → untouched v ≡ true → (v .at ≡ 0) × (v .left ≡ 0)
 unfolding untouched

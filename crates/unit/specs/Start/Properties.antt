@@ -2,7 +2,7 @@
 -- Assumes nothing.
 use mathlib.Core.Path.{_≡_, refl}
 use mathlib.Core.Bool.{Bool, true, false, not, _&&_}
-use Prim.Native.Nat.{ℕ, _≤_, _<_}
+use Prim.Native.Nat.{ℕ, _≤_}
 use lib.Dec.{ltb, eqb}
 use borrow.Author.Tests.{le-ltb, eq-eqb, ltb-false, eqb-true, not-false}
 use Rattle.answer.specs.declared.Answer.the-variants.{Good}
@@ -13,7 +13,7 @@ use Rattle.plan.specs.declared.Kind.{Kind}
 use Rattle.plan.specs.Order.{within}
 use Rattle.plan.specs.Order.Properties.{within-low, within-high, within-of}
 use Rattle.unit.specs.declared.Unit.{Unit}
-use Rattle.unit.specs.Start.{early, startable}
+use Rattle.unit.specs.Start.{Startable, early, startable}
 
 -- ---- "fewer than T slices ago"
 
@@ -30,13 +30,6 @@ early-of separation v ago h = go (v .released) refl
     go false p = refl
 
 -- ---- a kind that may start a unit
-
--- none of 13, 14 and 15
-pub record Startable (k : Kind) (v : Unit) (ago e : ℕ) : Type 0 where
-  pub some : 0 < e
-  pub length-most : e ≤ k .length
-  pub separated : v .released ≡ true → k .separation ≤ ago
-  pub nothing-left : v .left ≡ 0
 
 pub start-says : (k : Kind) (v : Unit) (ago e : ℕ) → startable k v ago e ≡ Good → Startable k v ago e
 unfolding startable

@@ -16,8 +16,8 @@ use Rattle.answer.specs.declared.Refusal.{Refusal}
 use Rattle.answer.specs.declared.Refusal.the-variants.{ByKind}
 use Rattle.answer.specs.Answer.{_andThen_, eachTo}
 use Rattle.answer.specs.Answer.Properties.{andThen-good, andThen-no, andThen-left, andThen-right, refuse-good, each-at, each-of, each-refused}
-use Rattle.plan.specs.Order.{kindOf, checked}
-use Rattle.plan.specs.Order.Properties.{InOrder, in-order, in-order-good}
+use Rattle.plan.specs.Order.{kindOf, checked, InOrder}
+use Rattle.plan.specs.Order.Properties.{in-order, in-order-good}
 use Rattle.layout.specs.Layout.Properties.{held-period}
 use Rattle.supply.specs.Supply.{window}
 use Rattle.supply.specs.Supply.Properties.{supply-everywhere}

@@ -16,8 +16,7 @@ use Rattle.answer.specs.declared.Refusal.{Refusal}
 use Rattle.answer.specs.declared.Refusal.the-variants.{ByKind}
 use Rattle.answer.specs.Answer.{refuse, _andThen_, eachTo}
 use Rattle.answer.specs.Answer.Properties.{each-more, each-stop, each-opened, opened-no, opened-on}
-use Rattle.plan.specs.Order.{kindOf, budgetOf, checked}
-use Rattle.plan.specs.Order.Properties.{InOrder}
+use Rattle.plan.specs.Order.{kindOf, budgetOf, checked, InOrder}
 use Rattle.layout.specs.Cards.{cardsBelow, heldFrom}
 use Rattle.layout.specs.Cards.Properties.{below-grows, run-closed, run-ceiling}
 use Rattle.layout.specs.Layout.{firstCell}

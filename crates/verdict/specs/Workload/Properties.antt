@@ -8,8 +8,7 @@ use borrow.Author.Tests.{eq-eqb, ne-eqb}
 use Rattle.laws.specs.Sum.{sumTo}
 use Rattle.laws.specs.Sum.Properties.{sum-again, sum-bound}
 use Rattle.plan.specs.declared.Plan.{Plan}
-use Rattle.plan.specs.Order.{kindOf}
-use Rattle.plan.specs.Order.Properties.{InOrder}
+use Rattle.plan.specs.Order.{kindOf, InOrder}
 use Rattle.supply.specs.Workload.{workloadPart}
 use Rattle.supply.specs.Workload.Properties.{part-most}
 use Rattle.verdict.specs.Workload.{besides, partOf, workload}

@@ -102,7 +102,14 @@ fn row_cards(cards: u8) -> u8
 }
 
 // `t CLOCK:` and the row's bytes, or `t refused N`.
-fn put_slice(out: &mut [u8], at: usize, answer: Answer, clock: u32, row: &[u8; 8], cards: u8) -> usize
+fn put_slice(
+    out: &mut [u8],
+    at: usize,
+    answer: Answer,
+    clock: u32,
+    row: &[u8; 8],
+    cards: u8,
+) -> usize
     requires { ⌜ at + 128 ≤ length (now out) ⌝ }
     ensures { λ r. ⌜ (Puts (now (out .entry)) at (sliceLine answer clock (min cards 8) (λ (card : ℕ). getD (now (row .entry)) card 0)) r (now (out .exit))) × (r ≤ at + 128) ⌝ }
 {

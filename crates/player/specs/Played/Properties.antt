@@ -6,9 +6,9 @@ use Prim.Native.Nat.{ℕ, _<_}
 use native.Mathlib.Omega.{arith}
 use lib.ListN.{length, drop}
 use Rattle.rack.specs.declared.State.{State}
-use Rattle.player.specs.Line.{endLine}
-use Rattle.player.specs.Command.{commandOf}
-use Rattle.player.specs.Command.Properties.{command-short}
+use Rattle.lines.specs.Line.{endLine}
+use Rattle.commands.specs.Command.{commandOf}
+use Rattle.commands.specs.Command.Properties.{command-short}
 use Rattle.player.specs.Turn.{lineOf, after}
 use Rattle.player.specs.Played.{onward, turns}
 

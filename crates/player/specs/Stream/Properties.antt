@@ -21,19 +21,19 @@ use Rattle.plan_bytes.specs.Pack.{unpack}
 use Rattle.plan_bytes.specs.Reading.{readOf}
 use Rattle.rack.specs.declared.State.{State}
 use Rattle.rack.specs.Start.{startOf}
-use Rattle.player.specs.declared.command.Command.{Command}
-use Rattle.player.specs.declared.command.Command.the-variants.{Slice, Release, Bad}
+use Rattle.commands.specs.declared.command.Command.{Command}
+use Rattle.commands.specs.declared.command.Command.the-variants.{Slice, Release, Bad}
 use Rattle.player.specs.declared.session.Stage.{Stage}
 use Rattle.player.specs.declared.session.Stage.the-variants.{Opening, Running, Over}
 use Rattle.player.specs.declared.session.Session.{Session}
-use Rattle.player.specs.Line.{planLine, badLine, endLine}
-use Rattle.player.specs.Command.{commandWidths, commandFields, fieldsSay, commandOf}
-use Rattle.player.specs.Command.Properties.{command-short}
+use Rattle.lines.specs.Line.{planLine, badLine, endLine, lineRoom}
+use Rattle.commands.specs.Command.{commandWidths, commandFields, fieldsSay, commandOf}
+use Rattle.commands.specs.Command.Properties.{command-short}
 use Rattle.player.specs.Turn.{lineOf, after}
 use Rattle.player.specs.Played.{onward, turns, opening, played}
 use Rattle.player.specs.Played.Properties.{turns-end, turns-command}
 use Rattle.player.specs.Played.Front.{read-more}
-use Rattle.player.specs.Session.{unopened, running, over, atStage, remaining, Move, stay, firstLine, openOf, commandMove, lastLine, runOf, stepOf, lineRoom, onto, linesOf, playOf}
+use Rattle.player.specs.Session.{unopened, running, over, atStage, remaining, Move, stay, firstLine, openOf, commandMove, lastLine, runOf, stepOf, onto, linesOf, playOf}
 use Rattle.player.specs.Session.Properties.{at-opening, at-running, at-over, read-whole, step-most, play-idle, idle-over}
 use Rattle.player.specs.Stream.{Reached, starts, reads, plays}
 

@@ -4,7 +4,7 @@ use Rattle.player.proofs.session.start.Statement.{statement}
 use Rattle.player.proofs.session.start.Tie as tie
 use Rattle.player.proofs.session.start.Reads as reads
 use Rattle.player.proofs.session.start.Lts as lts
-use Rattle.player.proofs.line.put_plan.Reads as put-plan-reads
+use Rattle.lines.proofs.line.Line.put.Reads as put-reads
 use Rattle.player.proofs.session.Session.over.Reads as over-reads
 use Rattle.player.proofs.session.Session.running.Reads as running-reads
 use Rattle.rack.proofs.State.empty.Reads as empty-reads
@@ -15,8 +15,8 @@ start-requires : tie.Need-start-requires
 start-requires c κs = search needs
 
 -- src/session.rt:62:9
-put-plan-requires : tie.Need-put-plan-requires
-put-plan-requires c κs = search needs
+put-requires : tie.Need-put-requires
+put-requires c κs = search needs
 
 enum-told : tie.Need-enum-told
 enum-told c = search needs
@@ -58,7 +58,7 @@ start-spec =
     tie.close
     (tie.spec
     start-requires
-    put-plan-requires
+    put-requires
     enum-told
     enum-told-2
     empty-requires

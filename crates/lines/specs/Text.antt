@@ -1,6 +1,6 @@
 -- Text as bytes: numbers in decimal, and text stored in a buffer.
 -- Assumes nothing.
-use Prim.Native.Nat.{ℕ, zero, suc, _+_, _/_, _%_}
+use Prim.Native.Nat.{ℕ, zero, suc, _+_, _-_, _*_, _/_, _%_, _≤_, _<_}
 use mathlib.Core.Path.{_≡_}
 use mathlib.Core.Bool.{cond}
 use mathlib.Core.List.{List, [], _∷_, _++_}
@@ -23,6 +23,19 @@ decimalIn (suc steps) n = cond (ltb n 10) (digit n ∷ []) (decimalIn steps (n /
 -- n in decimal, with no leading zeros
 unfoldable pub decimal : ℕ → List ℕ
 decimal n = decimalIn (suc n) n
+
+-- one of the ten digits' bytes
+abbrev pub IsDigit : ℕ → Type 0
+IsDigit byte = (48 ≤ byte) × (byte < 58)
+
+-- the number that digits say, behind those that said m: each is one more place
+unfoldable pub saysBehind : ℕ → List ℕ → ℕ
+saysBehind m [] = m
+saysBehind m (d ∷ digits) = saysBehind (m * 10 + (d - 48)) digits
+
+-- the number that digits say
+abbrev pub says : List ℕ → ℕ
+says digits = saysBehind 0 digits
 
 -- ---- text in a buffer
 

@@ -4,7 +4,6 @@ use Prim.Native.Nat.{ℕ, _+_, _≤_}
 use mathlib.Core.Path.{_≡_}
 use mathlib.Core.List.{List}
 use Rattle.rack.specs.declared.State.{State}
-use Rattle.rack.specs.declared.Next.{Next}
 use Rattle.rack.specs.Release.{releaseOf}
 use Rattle.rack.specs.Slice.{sliceOf}
 use Rattle.rack.specs.Row.{rowByte}

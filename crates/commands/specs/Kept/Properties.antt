@@ -1,12 +1,12 @@
 -- Laws of a part moved to the front: the steps of the loop, and each way out.
 -- Assumes nothing.
 use mathlib.Core.Path.{_≡_, refl, sym, ap, ap₂, _∙_}
-use mathlib.Core.List.{List, [], _∷_, _++_}
+use mathlib.Core.List.{List, _++_}
 use Prim.Native.Nat.{ℕ, suc, _+_, _-_, _≤_, _<_}
 use native.Mathlib.Numerals.{add-one}
 use native.Mathlib.Omega.{arith}
 use lib.ListN.{length, take, drop, set, getD, length-drop}
-use lib.Seq.{take-suc, drop-cons, getD-drop, set-at, append-snoc, length-take-le, drop-append-add, getD-append-add}
+use lib.Seq.{take-suc, drop-cons, getD-drop, set-at, append-snoc, length-take-le, getD-append-add}
 use borrow.Author.Tests.{le-leb, lt-leb}
 use Rattle.commands.specs.Kept.{within, inFront, Keeps}
 

@@ -2,15 +2,15 @@
 -- Assumes nothing.
 use mathlib.Core.Path.{_≡_, refl, sym, ap, ap₂, _∙_}
 use mathlib.Core.List.{List, [], _∷_, _++_}
-use Prim.Native.Nat.{ℕ, zero, suc, _+_, _*_, _/_, _%_, _^_, _≤_, _<_}
+use Prim.Native.Nat.{ℕ, zero, suc, _+_, _-_, _*_, _/_, _%_, _^_, _≤_, _<_}
 use native.Mathlib.Nat.{add-zero, pow-suc, div-lt-iff-lt-mul}
 use native.Mathlib.Decide.{decLt}
 use native.Mathlib.Numerals.{add-one}
 use native.Mathlib.Omega.{arith}
-use lib.ListN.{length, take, getD, set, length-append}
-use lib.Seq.{sets, length-sets, length-take-le, take-suc, take-all}
+use lib.ListN.{length, take, getD, set, length-append, List·getD-append}
+use lib.Seq.{sets, length-sets, length-take-le, take-suc, take-all, getD-append-seam}
 use borrow.Author.Tests.{lt-ltb, le-ltb}
-use Rattle.lines.specs.Text.{digit, decimalIn, decimal, Puts}
+use Rattle.lines.specs.Text.{digit, decimalIn, decimal, IsDigit, saysBehind, says, Puts}
 
 -- ---- stores one behind the other
 
@@ -130,3 +130,69 @@ room-ten at n len h l = omega (arith, decimal-ten n h)
 
 pub ends-ten : (at n next : ℕ) (out after : List ℕ) → n < 2 ^ 32 → Puts out at (decimal n) next after → next ≤ at + 10
 ends-ten at n next out after h p = omega (arith, decimal-ten n h, p .end)
+
+-- ---- what the digits say
+
+alone : (d i : ℕ) → d < 10 → i < length (digit d ∷ []) → IsDigit (getD (digit d ∷ []) i 0)
+alone d zero p l = (omega arith, omega arith)
+alone d (suc i) p l = absurd (omega arith)
+
+behind : (xs : List ℕ) (d i : ℕ) → d < 10 → ((k : ℕ) → k < length xs → IsDigit (getD xs k 0)) → i < length (xs ++ (digit d ∷ [])) → IsDigit (getD (xs ++ (digit d ∷ [])) i 0)
+behind xs d i p h l =
+    elim (decLt i (length xs)) [
+      | yes q ↦ rw (List·getD-append xs (digit d ∷ []) 0 i q) (h i q)
+      | no q ↦
+          let e : i ≡ length xs = omega (arith, length-append xs (digit d ∷ [])) in
+          rw (e, getD-append-seam xs (digit d) [] 0) (omega arith, omega arith)
+    ]
+
+digits-in : (steps n i : ℕ) → i < length (decimalIn steps n) → IsDigit (getD (decimalIn steps n) i 0)
+unfolding decimalIn
+digits-in zero n i = λ l. absurd (omega arith)
+digits-in (suc steps) n i =
+    elim (decLt n 10) [
+      | yes p ↦ rw (lt-ltb n 10 p) (λ l. alone n i p l)
+      | no p ↦ rw (le-ltb n 10 (omega arith)) (λ l. behind (decimalIn steps (n / 10)) (n % 10) i (omega arith) (digits-in steps (n / 10)) l)
+    ]
+
+-- each byte is a digit
+pub decimal-digits : (n i : ℕ) → i < length (decimal n) → IsDigit (getD (decimal n) i 0)
+unfolding decimal
+decimal-digits n = digits-in (suc n) n
+
+says-append : (m : ℕ) (xs ys : List ℕ) → saysBehind m (xs ++ ys) ≡ saysBehind (saysBehind m xs) ys
+unfolding saysBehind
+says-append m [] ys = refl
+says-append m (x ∷ xs) ys = says-append (m * 10 + (x - 48)) xs ys
+
+says-in : (steps n : ℕ) → n < steps → says (decimalIn steps n) ≡ n
+unfolding decimalIn saysBehind
+says-in zero n l = absurd (omega arith)
+says-in (suc steps) n l =
+    elim (decLt n 10) [
+      | yes p ↦ rw (lt-ltb n 10 p) (omega arith)
+      | no p ↦
+          rw (le-ltb n 10 (omega arith), says-append 0 (decimalIn steps (n / 10)) (digit (n % 10) ∷ []), says-in steps (n / 10) (omega arith)) (omega arith)
+    ]
+
+-- the digits of n say n
+pub decimal-says : (n : ℕ) → says (decimal n) ≡ n
+unfolding decimal
+decimal-says n = says-in (suc n) n (omega arith)
+
+first-in : (steps n : ℕ) → n < steps → (0 < length (decimalIn steps n)) × (getD (decimalIn steps n) 0 0 ≡ 48 → n ≡ 0)
+unfolding decimalIn
+first-in zero n l = absurd (omega arith)
+first-in (suc steps) n l =
+    elim (decLt n 10) [
+      | yes p ↦ rw (lt-ltb n 10 p) (omega arith, λ e. omega arith)
+      | no p ↦
+          let tenth = first-in steps (n / 10) (omega arith) in
+          let same : getD (decimalIn steps (n / 10) ++ (digit (n % 10) ∷ [])) 0 0 ≡ getD (decimalIn steps (n / 10)) 0 0 = List·getD-append (decimalIn steps (n / 10)) (digit (n % 10) ∷ []) 0 0 (tenth .0) in
+          rw (le-ltb n 10 (omega arith)) (omega (arith, length-append (decimalIn steps (n / 10)) (digit (n % 10) ∷ [])), λ e. absurd (omega (arith, tenth .1 (sym same ∙ e))))
+    ]
+
+-- no leading zero: the first digit is 0 only where n is
+pub decimal-first : (n : ℕ) → getD (decimal n) 0 0 ≡ 48 → n ≡ 0
+unfolding decimal
+decimal-first n = first-in (suc n) n (omega arith) .1

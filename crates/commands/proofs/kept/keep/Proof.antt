@@ -1,5 +1,5 @@
 use mathlib.Core.Path.{_≡_, refl}
-use Prim.Native.Nat.{_≤_, _-_, _+_}
+use Prim.Native.Nat.{_≤_, _-_}
 use native.Mathlib.Omega.{arith}
 use lib.ListN.{length, length-set}
 use borrow.Author.Needs.{needs}
@@ -15,47 +15,36 @@ Inv-loop bytes₀ from to count i₀ bytes i = (i ≤ count) × (count ≡ to - 
 abbrev μ-loop : tie.MeasureT-loop
 μ-loop bytes₀ from to count i₀ bytes i = count - i
 
--- src/kept.rt:10:9
 returns : tie.Need-returns Inv-loop μ-loop
 returns c = search keeps-none
 
--- src/kept.rt:13:9
 returns-2 : tie.Need-returns-2 Inv-loop μ-loop
 returns-2 c = search keeps-outside
 
--- src/kept.rt:16:5
 loop-holds : tie.Need-loop-holds Inv-loop μ-loop
 loop-holds c = (omega arith, refl, omega arith, omega arith, moved-none _ _, refl)
 
--- src/kept.rt:17:26
 add-bytes : tie.Need-add-bytes Inv-loop μ-loop
 add-bytes c = search needs
 
--- src/kept.rt:17:20
 slice-read-bytes : tie.Need-slice-read-bytes Inv-loop μ-loop
 slice-read-bytes c = search needs
 
--- src/kept.rt:17:9
 slice-write-bytes : tie.Need-slice-write-bytes Inv-loop μ-loop
 slice-write-bytes c = search needs
 
--- src/kept.rt:16:9
 add-i : tie.Need-add-i Inv-loop μ-loop
 add-i c = search needs
 
--- src/kept.rt:16:5
 loop-less : tie.Need-loop-less Inv-loop μ-loop
 loop-less c = search needs
 
--- src/kept.rt:16:5
 loop-again : tie.Need-loop-again Inv-loop μ-loop
 loop-again c = (omega arith, search, search, search, search moved-again, simp length-set (omega arith))
 
--- src/kept.rt:6:1
 same-length : tie.Need-same-length Inv-loop μ-loop
 same-length c = search needs
 
--- src/kept.rt:6:1
 returns-3 : tie.Need-returns-3 Inv-loop μ-loop
 returns-3 c = search keeps-part
 

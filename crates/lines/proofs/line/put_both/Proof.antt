@@ -8,19 +8,15 @@ use Rattle.lines.proofs.line.put_both.Lts as lts
 use Rattle.lines.proofs.text.put.Reads as put-reads
 use Rattle.lines.proofs.text.put_number.Reads as put-number-reads
 
--- src/line.rt:18:9
 put-requires : tie.Need-put-requires
 put-requires c κs = search needs
 
--- src/line.rt:19:5
 put-number-requires : tie.Need-put-number-requires
 put-number-requires c κs = search needs
 
--- src/line.rt:14:1
 same-length : tie.Need-same-length
 same-length c = search needs
 
--- src/line.rt:14:1
 returns : tie.Need-returns
 returns c = (search puts-then, omega arith)
 

@@ -9,27 +9,21 @@ use Rattle.lines.proofs.line.put_end.Lts as lts
 use Rattle.lines.proofs.line.put_both.Reads as put-both-reads
 use Rattle.lines.proofs.text.put.Reads as put-reads
 
--- src/line.rt:94:32
 slice-aggregate-put-both : tie.Need-slice-aggregate-put-both
 slice-aggregate-put-both c = search needs
 
--- src/line.rt:94:9
 put-both-requires : tie.Need-put-both-requires
 put-both-requires c κs = search needs
 
--- src/line.rt:95:18
 slice-aggregate-put : tie.Need-slice-aggregate-put
 slice-aggregate-put c = search needs
 
--- src/line.rt:95:5
 put-requires : tie.Need-put-requires
 put-requires c κs = search needs
 
--- src/line.rt:90:1
 same-length : tie.Need-same-length
 same-length c = search needs
 
--- src/line.rt:90:1
 returns : tie.Need-returns
 unfolding endLine
 returns c = (search puts-then, omega arith)

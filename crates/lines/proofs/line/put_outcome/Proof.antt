@@ -12,55 +12,42 @@ use Rattle.lines.proofs.text.put.Reads as put-reads
 enum-told : tie.Need-enum-told
 enum-told c = search needs
 
--- src/line.rt:41:20
 enum-told-2 : tie.Need-enum-told-2
 enum-told-2 c = search needs
 
--- src/line.rt:41:29
 slice-aggregate-put : tie.Need-slice-aggregate-put
 slice-aggregate-put c = search needs
 
--- src/line.rt:41:9
 put-requires : tie.Need-put-requires
 put-requires c κs = search needs
 
--- src/line.rt:41:9
 same-length : tie.Need-same-length
 same-length c = search needs
 
--- src/line.rt:41:9
 returns : tie.Need-returns
 returns c = (search outcome-good, omega arith)
 
--- src/line.rt:43:32
 slice-aggregate-put-both : tie.Need-slice-aggregate-put-both
 slice-aggregate-put-both c = search needs
 
--- src/line.rt:43:46
 number-requires : tie.Need-number-requires
 number-requires c κs = search needs
 
--- src/line.rt:43:46
 cast-put-both : tie.Need-cast-put-both
 cast-put-both c = search needs
 
--- src/line.rt:43:9
 put-both-requires : tie.Need-put-both-requires
 put-both-requires c κs = search needs
 
--- src/line.rt:44:18
 slice-aggregate-put-2 : tie.Need-slice-aggregate-put-2
 slice-aggregate-put-2 c = search needs
 
--- src/line.rt:44:5
 put-requires-2 : tie.Need-put-requires-2
 put-requires-2 c κs = search needs
 
--- src/line.rt:36:1
 same-length-2 : tie.Need-same-length-2
 same-length-2 c = search needs
 
--- src/line.rt:36:1
 returns-2 : tie.Need-returns-2
 returns-2 c = (search outcome-no, omega arith)
 

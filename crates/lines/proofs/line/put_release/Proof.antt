@@ -9,31 +9,24 @@ use Rattle.lines.proofs.line.put_release.Lts as lts
 use Rattle.lines.proofs.line.put_both.Reads as put-both-reads
 use Rattle.lines.proofs.line.put_outcome.Reads as put-outcome-reads
 
--- src/line.rt:52:32
 slice-aggregate-put-both : tie.Need-slice-aggregate-put-both
 slice-aggregate-put-both c = search needs
 
--- src/line.rt:52:9
 put-both-requires : tie.Need-put-both-requires
 put-both-requires c κs = search needs
 
--- src/line.rt:53:32
 slice-aggregate-put-both-2 : tie.Need-slice-aggregate-put-both-2
 slice-aggregate-put-both-2 c = search needs
 
--- src/line.rt:53:9
 put-both-requires-2 : tie.Need-put-both-requires-2
 put-both-requires-2 c κs = search needs
 
--- src/line.rt:54:5
 put-outcome-requires : tie.Need-put-outcome-requires
 put-outcome-requires c κs = search needs
 
--- src/line.rt:48:1
 same-length : tie.Need-same-length
 same-length c = search needs
 
--- src/line.rt:48:1
 returns : tie.Need-returns
 unfolding releaseLine
 returns c = (search puts-three, omega arith)

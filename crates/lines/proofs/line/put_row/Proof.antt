@@ -1,5 +1,4 @@
 use mathlib.Core.Path.{_≡_, refl}
-use mathlib.Core.List.{_∷_, []}
 use Prim.Native.Nat.{ℕ, _≤_, _-_, _+_, _*_}
 use native.Mathlib.Omega.{arith}
 use lib.ListN.{length, getD}
@@ -19,43 +18,33 @@ Inv-loop out₀ at cards row next₀ card₀ t8 card-end out next card = (card �
 abbrev μ-loop : tie.MeasureT-loop
 μ-loop out₀ at cards row next₀ card₀ t8 card-end out next card = card-end - card
 
--- src/line.rt:63:5
 loop-holds : tie.Need-loop-holds Inv-loop μ-loop
 loop-holds c = (omega arith, refl, row-none _ _ _, omega arith, refl)
 
--- src/line.rt:64:36
 slice-aggregate-put-both : tie.Need-slice-aggregate-put-both Inv-loop μ-loop
 slice-aggregate-put-both c = search needs
 
--- src/line.rt:64:42
 array-read-put-both : tie.Need-array-read-put-both Inv-loop μ-loop
 array-read-put-both c = search needs
 
--- src/line.rt:64:42
 cast-put-both : tie.Need-cast-put-both Inv-loop μ-loop
 cast-put-both c = search needs
 
--- src/line.rt:64:9
 put-both-requires : tie.Need-put-both-requires Inv-loop μ-loop
 put-both-requires c κs = search needs
 
--- src/line.rt:63:9
 add-card : tie.Need-add-card Inv-loop μ-loop
 add-card c = search needs
 
--- src/line.rt:63:5
 loop-less : tie.Need-loop-less Inv-loop μ-loop
 loop-less c = search needs
 
--- src/line.rt:63:5
 loop-again : tie.Need-loop-again Inv-loop μ-loop
 loop-again c = (omega arith, search, search row-again, omega arith, omega arith)
 
--- src/line.rt:58:1
 same-length : tie.Need-same-length Inv-loop μ-loop
 same-length c = search needs
 
--- src/line.rt:58:1
 returns : tie.Need-returns Inv-loop μ-loop
 returns c = (search row-stop, omega arith)
 

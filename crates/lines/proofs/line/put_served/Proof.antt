@@ -10,39 +10,30 @@ use Rattle.lines.proofs.line.put_both.Reads as put-both-reads
 use Rattle.lines.proofs.line.put_row.Reads as put-row-reads
 use Rattle.lines.proofs.text.put.Reads as put-reads
 
--- src/line.rt:74:32
 slice-aggregate-put-both : tie.Need-slice-aggregate-put-both
 slice-aggregate-put-both c = search needs
 
--- src/line.rt:74:9
 put-both-requires : tie.Need-put-both-requires
 put-both-requires c κs = search needs
 
--- src/line.rt:75:27
 slice-aggregate-put : tie.Need-slice-aggregate-put
 slice-aggregate-put c = search needs
 
--- src/line.rt:75:9
 put-requires : tie.Need-put-requires
 put-requires c κs = search needs
 
--- src/line.rt:76:9
 put-row-requires : tie.Need-put-row-requires
 put-row-requires c κs = search needs
 
--- src/line.rt:77:18
 slice-aggregate-put-2 : tie.Need-slice-aggregate-put-2
 slice-aggregate-put-2 c = search needs
 
--- src/line.rt:77:5
 put-requires-2 : tie.Need-put-requires-2
 put-requires-2 c κs = search needs
 
--- src/line.rt:70:1
 same-length : tie.Need-same-length
 same-length c = search needs
 
--- src/line.rt:70:1
 returns : tie.Need-returns
 unfolding sliceLine
 returns c = (search puts-four, omega arith)

@@ -13,43 +13,33 @@ use Rattle.lines.proofs.text.put.Reads as put-reads
 enum-told : tie.Need-enum-told
 enum-told c = search needs
 
--- src/line.rt:110:27
 enum-told-2 : tie.Need-enum-told-2
 enum-told-2 c = search needs
 
--- src/line.rt:110:48
 row-cards-requires : tie.Need-row-cards-requires
 row-cards-requires c κs = search needs
 
--- src/line.rt:110:9
 put-served-requires : tie.Need-put-served-requires
 put-served-requires c κs = search needs
 
--- src/line.rt:110:9
 same-length : tie.Need-same-length
 same-length c = search needs
 
--- src/line.rt:110:9
 returns : tie.Need-returns
 returns c = (search slice-good, omega arith)
 
--- src/line.rt:112:27
 slice-aggregate-put : tie.Need-slice-aggregate-put
 slice-aggregate-put c = search needs
 
--- src/line.rt:112:9
 put-requires : tie.Need-put-requires
 put-requires c κs = search needs
 
--- src/line.rt:113:5
 put-outcome-requires : tie.Need-put-outcome-requires
 put-outcome-requires c κs = search needs
 
--- src/line.rt:105:1
 same-length-2 : tie.Need-same-length-2
 same-length-2 c = search needs
 
--- src/line.rt:105:1
 returns-2 : tie.Need-returns-2
 returns-2 c = (search slice-no, omega arith)
 

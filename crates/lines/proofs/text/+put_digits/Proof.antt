@@ -1,7 +1,7 @@
 use Rattle.lines.specs.Text.Properties.{room-after}
 use native.Mathlib.Omega.{arith}
 use borrow.Author.Needs.{needs}
-use Rattle.lines.specs.Text.Properties.{digits-first, digits-last, decimal-one, decimal-more, room-first, room-tenth, room-last}
+use Rattle.lines.specs.Text.Properties.{digits-first, digits-last, decimal-one, room-first, room-tenth, room-last}
 use Prim.Native.Nat.{ℕ, _<_}
 use borrow.Fn.Kinds.{In}
 use borrow.Fn.PlainCycle.{Measures, is, falls, and}
@@ -22,7 +22,6 @@ abbrev put-digits-below : ℕ → In 1 put-digits-kinds.ps
 put-digits-below t =
     and 1 put-digits-kinds.ps (falls 1 put-digits-kinds.ps _<_ μ-put-digits t) put-digits.Pre
 
--- src/text.rt:23:20
 put-digits-add-out :
     (t : ℕ) →
     put-digits-lts.Need-add-out
@@ -31,7 +30,6 @@ put-digits-add-out :
     put-digits.Post
 put-digits-add-out t c = search needs
 
--- src/text.rt:23:19
 put-digits-cast-out :
     (t : ℕ) →
     put-digits-lts.Need-cast-out
@@ -40,28 +38,24 @@ put-digits-cast-out :
     put-digits.Post
 put-digits-cast-out t c = search needs
 
--- src/text.rt:23:9
 put-digits-slice-write-out : (t : ℕ) → put-digits-lts.Need-slice-write-out (
   put-digits-below t,
   put-digits.Post,
 ) (put-digits-at t) put-digits.Post
 put-digits-slice-write-out t c = search room-first
 
--- src/text.rt:24:16
 put-digits-add-result : (t : ℕ) → put-digits-lts.Need-add-result (
   put-digits-below t,
   put-digits.Post,
 ) (put-digits-at t) put-digits.Post
 put-digits-add-result t c = omega (arith, decimal-one (c .before .before .args .n) (c .if1 .taken))
 
--- src/text.rt:24:9
 put-digits-same-length : (t : ℕ) → put-digits-lts.Need-same-length (
   put-digits-below t,
   put-digits.Post,
 ) (put-digits-at t) put-digits.Post
 put-digits-same-length t c = search needs
 
--- src/text.rt:24:9
 put-digits-returns :
     (t : ℕ) →
     put-digits-lts.Need-returns
@@ -70,49 +64,42 @@ put-digits-returns :
     put-digits.Post
 put-digits-returns t c = search digits-first
 
--- src/text.rt:26:9
 put-digits-put-digits-requires : (t : ℕ) → put-digits-lts.Need-put-digits-requires (
   put-digits-below t,
   put-digits.Post,
 ) (put-digits-at t) put-digits.Post
 put-digits-put-digits-requires t c κs = (omega arith, search room-tenth)
 
--- src/text.rt:27:18
 put-digits-add-out-2 : (t : ℕ) → put-digits-lts.Need-add-out-2 (
   put-digits-below t,
   put-digits.Post,
 ) (put-digits-at t) put-digits.Post
 put-digits-add-out-2 t c = search needs
 
--- src/text.rt:27:17
 put-digits-cast-out-2 : (t : ℕ) → put-digits-lts.Need-cast-out-2 (
   put-digits-below t,
   put-digits.Post,
 ) (put-digits-at t) put-digits.Post
 put-digits-cast-out-2 t c = search needs
 
--- src/text.rt:27:5
 put-digits-slice-write-out-2 : (t : ℕ) → put-digits-lts.Need-slice-write-out-2 (
   put-digits-below t,
   put-digits.Post,
 ) (put-digits-at t) put-digits.Post
 put-digits-slice-write-out-2 t c = search room-last
 
--- src/text.rt:28:5
 put-digits-add-result-2 : (t : ℕ) → put-digits-lts.Need-add-result-2 (
   put-digits-below t,
   put-digits.Post,
 ) (put-digits-at t) put-digits.Post
 put-digits-add-result-2 t c = record { fits = search room-after }
 
--- src/text.rt:18:1
 put-digits-same-length-2 : (t : ℕ) → put-digits-lts.Need-same-length-2 (
   put-digits-below t,
   put-digits.Post,
 ) (put-digits-at t) put-digits.Post
 put-digits-same-length-2 t c = search needs
 
--- src/text.rt:18:1
 put-digits-returns-2 : (t : ℕ) → put-digits-lts.Need-returns-2 (
   put-digits-below t,
   put-digits.Post,

@@ -6,15 +6,12 @@ use Rattle.lines.proofs.text.put_number.Reads as reads
 use Rattle.lines.proofs.text.put_number.Lts as lts
 use Rattle.lines.proofs.text.put_digits.Reads as put-digits-reads
 
--- src/text.rt:36:5
 put-digits-requires : tie.Need-put-digits-requires
 put-digits-requires c κs = search room-ten
 
--- src/text.rt:32:1
 same-length : tie.Need-same-length
 same-length c = search needs
 
--- src/text.rt:32:1
 returns : tie.Need-returns
 returns c = (search, search ends-ten)
 

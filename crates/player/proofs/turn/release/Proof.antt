@@ -7,19 +7,15 @@ use Rattle.player.proofs.turn.release.Lts as lts
 use Rattle.lines.proofs.line.Line.put.Reads as put-reads
 use Rattle.rack.proofs.State.release.Reads as release-reads
 
--- src/turn.rt:37:9
 release-requires : tie.Need-release-requires
 release-requires c κs = search needs
 
--- src/turn.rt:43:15
 put-requires : tie.Need-put-requires
 put-requires c κs = search needs
 
--- src/turn.rt:33:1
 same-length : tie.Need-same-length
 same-length c = search needs
 
--- src/turn.rt:33:1
 returns : tie.Need-returns
 returns c = search release-told
 

@@ -7,23 +7,18 @@ use Rattle.player.proofs.turn.slice.Lts as lts
 use Rattle.lines.proofs.line.Line.put.Reads as put-reads
 use Rattle.rack.proofs.State.slice.Reads as slice-reads
 
--- src/turn.rt:21:27
 slice-aggregate-slice : tie.Need-slice-aggregate-slice
 slice-aggregate-slice c = search needs
 
--- src/turn.rt:21:9
 slice-requires : tie.Need-slice-requires
 slice-requires c κs = search needs
 
--- src/turn.rt:28:15
 put-requires : tie.Need-put-requires
 put-requires c κs = search needs
 
--- src/turn.rt:16:1
 same-length : tie.Need-same-length
 same-length c = search needs
 
--- src/turn.rt:16:1
 returns : tie.Need-returns
 returns c = search slice-told
 

@@ -5,27 +5,22 @@ use Rattle.commands.proofs.command.Command.of_fields.Tie as tie
 use Rattle.commands.proofs.command.Command.of_fields.Reads as reads
 use Rattle.commands.proofs.command.Command.of_fields.Lts as lts
 
--- src/command.rt:25:13
 returns : tie.Need-returns
 unfolding fieldsSay
 returns c = search tests
 
--- src/command.rt:28:13
 returns-2 : tie.Need-returns-2
 unfolding fieldsSay
 returns-2 c = search tests
 
--- src/command.rt:31:13
 returns-3 : tie.Need-returns-3
 unfolding fieldsSay
 returns-3 c = search tests
 
--- src/command.rt:34:13
 returns-4 : tie.Need-returns-4
 unfolding fieldsSay
 returns-4 c = search tests
 
--- src/command.rt:21:5
 returns-5 : tie.Need-returns-5
 unfolding fieldsSay
 returns-5 c = search tests

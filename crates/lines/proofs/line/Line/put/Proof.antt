@@ -1,4 +1,3 @@
-use native.Mathlib.Omega.{arith}
 use Rattle.lines.specs.Line.Properties.{prints-short, prints-late, prints-plan, prints-release, prints-slice, prints-bad, prints-end}
 use borrow.Author.Needs.{needs}
 use Rattle.lines.proofs.line.Line.put.Statement.{statement}
@@ -11,95 +10,72 @@ use Rattle.lines.proofs.line.put_plan.Reads as put-plan-reads
 use Rattle.lines.proofs.line.put_release.Reads as put-release-reads
 use Rattle.lines.proofs.line.put_slice.Reads as put-slice-reads
 
--- src/line.rt:141:13
 returns : tie.Need-returns
 returns c = search prints-short
 
--- src/line.rt:143:12
 sub-if2 : tie.Need-sub-if2
 sub-if2 c = search needs
 
--- src/line.rt:144:13
 returns-2 : tie.Need-returns-2
 returns-2 c = search prints-late
 
--- src/line.rt:147:24
 enum-known-self : tie.Need-enum-known-self
 enum-known-self c = search needs
 
--- src/line.rt:147:35
 put-plan-requires : tie.Need-put-plan-requires
 put-plan-requires c κs = search needs
 
--- src/line.rt:148:27
 enum-known-self-2 : tie.Need-enum-known-self-2
 enum-known-self-2 c = search needs
 
--- src/line.rt:148:47
 put-release-requires : tie.Need-put-release-requires
 put-release-requires c κs = search needs
 
--- src/line.rt:149:25
 enum-known-self-3 : tie.Need-enum-known-self-3
 enum-known-self-3 c = search needs
 
--- src/line.rt:149:50
 put-slice-requires : tie.Need-put-slice-requires
 put-slice-requires c κs = search needs
 
--- src/line.rt:150:23
 enum-known-self-4 : tie.Need-enum-known-self-4
 enum-known-self-4 c = search needs
 
--- src/line.rt:150:33
 put-bad-requires : tie.Need-put-bad-requires
 put-bad-requires c κs = search needs
 
--- src/line.rt:151:23
 enum-known-self-5 : tie.Need-enum-known-self-5
 enum-known-self-5 c = search needs
 
--- src/line.rt:151:33
 put-end-requires : tie.Need-put-end-requires
 put-end-requires c κs = search needs
 
--- src/line.rt:137:5
 same-length : tie.Need-same-length
 same-length c = search needs
 
--- src/line.rt:137:5
 returns-3 : tie.Need-returns-3
 returns-3 c = search prints-plan
 
--- src/line.rt:137:5
 same-length-2 : tie.Need-same-length-2
 same-length-2 c = search needs
 
--- src/line.rt:137:5
 returns-4 : tie.Need-returns-4
 returns-4 c = search prints-release
 
--- src/line.rt:137:5
 same-length-3 : tie.Need-same-length-3
 same-length-3 c = search needs
 
--- src/line.rt:137:5
 returns-5 : tie.Need-returns-5
 returns-5 c = search prints-slice
 
--- src/line.rt:137:5
 same-length-4 : tie.Need-same-length-4
 same-length-4 c = search needs
 
--- src/line.rt:137:5
 returns-6 : tie.Need-returns-6
 returns-6 c = search prints-bad
 
--- src/line.rt:137:5
 same-length-5 : tie.Need-same-length-5
 same-length-5 c = search needs
 
--- src/line.rt:137:5
 returns-7 : tie.Need-returns-7
 returns-7 c = search prints-end
 

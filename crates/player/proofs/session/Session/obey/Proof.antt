@@ -10,63 +10,48 @@ use Rattle.player.proofs.session.Session.running.Reads as running-reads
 use Rattle.player.proofs.turn.release.Reads as release-reads
 use Rattle.player.proofs.turn.slice.Reads as slice-reads
 
--- src/session.rt:152:47
 enum-told : tie.Need-enum-told
 enum-told c = search needs
 
--- src/session.rt:152:21
 slice-requires : tie.Need-slice-requires
 slice-requires c κs = search needs
 
--- src/session.rt:155:30
 running-requires : tie.Need-running-requires
 running-requires c κs = search needs
 
--- src/session.rt:160:30
 enum-known-command : tie.Need-enum-known-command
 enum-known-command c = search needs
 
--- src/session.rt:161:21
 release-requires : tie.Need-release-requires
 release-requires c κs = search needs
 
--- src/session.rt:164:30
 running-requires-2 : tie.Need-running-requires-2
 running-requires-2 c κs = search needs
 
--- src/session.rt:170:28
 enum-told-2 : tie.Need-enum-told-2
 enum-told-2 c = search needs
 
--- src/session.rt:170:21
 put-requires : tie.Need-put-requires
 put-requires c κs = search needs
 
--- src/session.rt:172:30
 over-requires : tie.Need-over-requires
 over-requires c κs = search needs
 
--- src/session.rt:145:5
 same-length : tie.Need-same-length
 same-length c = search needs
 
--- src/session.rt:145:5
 returns : tie.Need-returns
 returns c = search obey-slice
 
--- src/session.rt:145:5
 same-length-2 : tie.Need-same-length-2
 same-length-2 c = search needs
 
--- src/session.rt:145:5
 returns-2 : tie.Need-returns-2
 returns-2 c = search obey-release
 
--- src/session.rt:145:5
 same-length-3 : tie.Need-same-length-3
 same-length-3 c = search needs
 
--- src/session.rt:145:5
 returns-3 : tie.Need-returns-3
 returns-3 c = search obey-bad
 

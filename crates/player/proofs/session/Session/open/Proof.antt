@@ -11,54 +11,42 @@ use Rattle.player.proofs.session.start.Reads as start-reads
 use Rattle.player.proofs.session.waits.Reads as waits-reads
 use Rattle.rack.proofs.State.empty.Reads as empty-reads
 
--- src/session.rt:123:13
 read-requires : tie.Need-read-requires
 read-requires c κs = search needs
 
--- src/session.rt:125:12
 waits-requires : tie.Need-waits-requires
 waits-requires c κs = search needs
 
--- src/session.rt:126:13
 returns : tie.Need-returns
 returns c = search open-waits
 
 enum-told : tie.Need-enum-told
 enum-told c = search needs
 
--- src/session.rt:133:24
 enum-told-2 : tie.Need-enum-told-2
 enum-told-2 c = search needs
 
--- src/session.rt:133:17
 put-requires : tie.Need-put-requires
 put-requires c κs = search needs
 
--- src/session.rt:135:40
 empty-requires : tie.Need-empty-requires
 empty-requires c κs = search needs
 
--- src/session.rt:135:26
 over-requires : tie.Need-over-requires
 over-requires c κs = search needs
 
--- src/session.rt:134:13
 same-length : tie.Need-same-length
 same-length c = search needs
 
--- src/session.rt:134:13
 returns-2 : tie.Need-returns-2
 returns-2 c = search open-refused
 
--- src/session.rt:141:9
 start-requires : tie.Need-start-requires
 start-requires c κs = search needs
 
--- src/session.rt:119:5
 same-length-2 : tie.Need-same-length-2
 same-length-2 c = search needs
 
--- src/session.rt:119:5
 returns-3 : tie.Need-returns-3
 returns-3 c = search open-started
 

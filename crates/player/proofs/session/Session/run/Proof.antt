@@ -9,55 +9,42 @@ use Rattle.lines.proofs.line.Line.put.Reads as put-reads
 use Rattle.player.proofs.session.Session.obey.Reads as obey-reads
 use Rattle.player.proofs.session.Session.over.Reads as over-reads
 
--- src/session.rt:188:21
 put-requires : tie.Need-put-requires
 put-requires c κs = search needs
 
--- src/session.rt:190:30
 over-requires : tie.Need-over-requires
 over-requires c κs = search needs
 
--- src/session.rt:189:17
 same-length : tie.Need-same-length
 same-length c = search needs
 
--- src/session.rt:189:17
 returns : tie.Need-returns
 returns c = search run-ends
 
--- src/session.rt:195:30
 decode-requires : tie.Need-decode-requires
 decode-requires c κs = search needs
 
--- src/session.rt:195:13
 obey-requires : tie.Need-obey-requires
 obey-requires c κs = search needs
 
--- src/session.rt:195:13
 same-length-2 : tie.Need-same-length-2
 same-length-2 c = search needs
 
--- src/session.rt:195:13
 returns-2 : tie.Need-returns-2
 returns-2 c = search run-left
 
--- src/session.rt:198:13
 returns-3 : tie.Need-returns-3
 returns-3 c = search run-waits
 
--- src/session.rt:204:19
 decode-requires-2 : tie.Need-decode-requires-2
 decode-requires-2 c κs = search needs
 
--- src/session.rt:204:9
 obey-requires-2 : tie.Need-obey-requires-2
 obey-requires-2 c κs = search needs
 
--- src/session.rt:181:5
 same-length-3 : tie.Need-same-length-3
 same-length-3 c = search needs
 
--- src/session.rt:181:5
 returns-4 : tie.Need-returns-4
 returns-4 c = search run-obeys
 

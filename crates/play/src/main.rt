@@ -46,7 +46,7 @@ fn listen(session: Session, from: usize, to: usize, input: &mut [u8]) -> Desk
     requires { ⌜ (from ≤ to) × (to ≤ length (now input)) × (to - from < length (now input)) ⌝ }
     ensures { λ r. ⌜ (r .from ≤ r .to) × (r .to ≤ length (now (input .entry))) ⌝ }
 {
-    let held = player::keep(input, from, to);
+    let held = commands::keep(input, from, to);
     let got = read_more(input, held);
     if got < 0 {
         return close(session);

@@ -8,10 +8,10 @@ use Rattle.answer.specs.Answer.{_andThen_, ifGood}
 use Rattle.plan_bytes.specs.Reading.{readOf}
 use Rattle.rack.specs.declared.State.{State}
 use Rattle.rack.specs.Start.{startOf}
-use Rattle.player.specs.declared.command.Command.{Command}
-use Rattle.player.specs.declared.command.Command.the-variants.{Slice, Release, Bad}
-use Rattle.player.specs.Line.{planLine, badLine, endLine}
-use Rattle.player.specs.Command.{commandOf}
+use Rattle.commands.specs.declared.command.Command.{Command}
+use Rattle.commands.specs.declared.command.Command.the-variants.{Slice, Release, Bad}
+use Rattle.lines.specs.Line.{planLine, badLine, endLine}
+use Rattle.commands.specs.Command.{commandOf}
 use Rattle.player.specs.Turn.{lineOf, after}
 pub mod Properties
 pub mod Front

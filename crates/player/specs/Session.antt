@@ -12,16 +12,16 @@ use Rattle.plan_bytes.specs.Reading.{readOf}
 use Rattle.rack.specs.declared.State.{State}
 use Rattle.rack.specs.State.{noState}
 use Rattle.rack.specs.Start.{startOf}
-use Rattle.player.specs.declared.command.Command.{Command}
-use Rattle.player.specs.declared.command.Command.the-variants.{Slice, Release, Bad}
+use Rattle.commands.specs.declared.command.Command.{Command}
+use Rattle.commands.specs.declared.command.Command.the-variants.{Slice, Release, Bad}
 use Rattle.player.specs.declared.session.Stage.{Stage}
 use Rattle.player.specs.declared.session.Stage.the-variants.{Opening, Running, Over}
 use Rattle.player.specs.declared.session.Session.{Session}
 use Rattle.player.specs.declared.session.Step.{Step}
 use Rattle.player.specs.declared.session.Progress.{Progress}
-use Rattle.player.specs.Text.{Puts}
-use Rattle.player.specs.Line.{planLine, badLine, endLine}
-use Rattle.player.specs.Command.{commandOf}
+use Rattle.lines.specs.Text.{Puts}
+use Rattle.lines.specs.Line.{planLine, badLine, endLine, lineRoom}
+use Rattle.commands.specs.Command.{commandOf}
 use Rattle.player.specs.Turn.{lineOf, after}
 use Rattle.player.specs.Played.{opening, turns, played}
 pub mod Properties
@@ -97,13 +97,9 @@ pub record Steps (m : Move) (out : List ℕ) (at : ℕ) (r : Step) (held : List 
   pub session : r .session ≡ m .session
   pub taken : r .taken ≡ m .taken
   pub text : Puts out at (m .text) (r .next) held
-  pub room : r .next ≤ at + 128
+  pub room : r .next ≤ at + lineRoom
 
 -- ---- as many lines as there are, while there is room
-
--- what a line may take of a buffer
-abbrev pub lineRoom : ℕ
-lineRoom = 128
 
 -- these bytes and this text, and then a move
 abbrev pub onto : ℕ → List ℕ → Move → Move

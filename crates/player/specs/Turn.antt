@@ -4,15 +4,14 @@ use Prim.Native.Nat.{ℕ, _+_, _≤_}
 use mathlib.Core.Path.{_≡_}
 use mathlib.Core.List.{List}
 use Rattle.rack.specs.declared.State.{State}
-use Rattle.rack.specs.declared.Next.{Next}
 use Rattle.rack.specs.Release.{releaseOf}
 use Rattle.rack.specs.Slice.{sliceOf}
 use Rattle.rack.specs.Row.{rowByte}
-use Rattle.player.specs.declared.command.Command.{Command}
-use Rattle.player.specs.declared.command.Command.the-variants.{Slice, Release, Bad}
+use Rattle.commands.specs.declared.command.Command.{Command}
+use Rattle.commands.specs.declared.command.Command.the-variants.{Slice, Release, Bad}
 use Rattle.player.specs.declared.turn.Turn.{Turn}
-use Rattle.player.specs.Text.{Puts}
-use Rattle.player.specs.Line.{releaseLine, sliceLine, badLine}
+use Rattle.lines.specs.Text.{Puts}
+use Rattle.lines.specs.Line.{releaseLine, sliceLine, badLine, lineRoom}
 pub mod Properties
 
 -- the bytes that a slice is lent for its row: as many as a plan can have cards
@@ -35,4 +34,4 @@ after s Bad = s
 pub record Turns (s : State) (k : Command) (out : List ℕ) (at : ℕ) (r : Turn) (held : List ℕ) : Type 0 where
   pub state : r .state ≡ after s k
   pub line : Puts out at (lineOf s k) (r .next) held
-  pub room : r .next ≤ at + 128
+  pub room : r .next ≤ at + lineRoom

@@ -7,9 +7,9 @@ ghost use lib.ListN.{length};
 ghost use Rattle.answer.specs.Answer.{number};
 ghost use Rattle.rack.specs.Start.{startOf};
 ghost use Rattle.player.specs.Session.{unopened, running, over, atStage, firstLine, openOf, commandMove, runOf, stepOf, Steps, Plays};
-use crate::command::Command;
-use crate::line;
 use crate::turn;
+use commands::Command;
+use lines::Line;
 use answer::Answer;
 use plan::Plan;
 use rack::State;
@@ -59,7 +59,7 @@ fn start(plan: Plan, taken: usize, out: &mut [u8], at: usize) -> Step
     let start = State::start(plan);
     let answer = start.answer;
     let state = start.state;
-    let next = line::put_plan(out, at, answer);
+    let next = Line::Plan(answer).put(&[0u8; 8], out, at);
     let Answer::Good = answer else {
         return Step {
             session: Session::over(State::empty()),
@@ -130,7 +130,7 @@ impl Session {
             };
         }
         let Answer::Good = answer else {
-            let next = line::put_plan(out, at, answer);
+            let next = Line::Plan(answer).put(&[0u8; 8], out, at);
             return Step {
                 session: Session::over(State::empty()),
                 taken: 0,
@@ -167,7 +167,7 @@ impl Session {
                 }
             }
             Command::Bad => {
-                let next = line::put_bad(out, at, state.clock);
+                let next = Line::Bad(state.clock).put(&[0u8; 8], out, at);
                 Step {
                     session: Session::over(state),
                     taken: 0,
@@ -185,7 +185,7 @@ impl Session {
         if last {
             if bytes.len() == 0 {
                 let state = self.state;
-                let next = line::put_end(out, at, state.clock);
+                let next = Line::End(state.clock).put(&[0u8; 8], out, at);
                 return Step {
                     session: Session::over(state),
                     taken: 0,

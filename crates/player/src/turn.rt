@@ -2,9 +2,8 @@
 ghost use Prim.Native.Nat.{_+_, _≤_};
 ghost use lib.ListN.{length};
 ghost use Rattle.player.specs.Turn.{Turns};
-use crate::command::Command;
-use crate::line;
-use answer::Answer;
+use commands::Command;
+use lines::Line;
 use rack::State;
 
 // The state after a command, and the index after its line.
@@ -22,16 +21,11 @@ pub fn slice(state: State, out: &mut [u8], at: usize) -> Turn
     let run = state.slice(&mut row);
     let answer = run.answer;
     let after = run.state;
-    let Answer::Good = answer else {
-        return Turn {
-            state: after,
-            next: line::put_slice_refused(out, at, answer),
-        };
-    };
     let plan = state.plan;
+    let line = Line::Slice(answer, state.clock, plan.cards);
     Turn {
         state: after,
-        next: line::put_slice(out, at, state.clock, row, plan.cards),
+        next: line.put(&row, out, at),
     }
 }
 
@@ -43,8 +37,9 @@ pub fn release(state: State, kind: u8, e: u16, out: &mut [u8], at: usize) -> Tur
     let run = state.release(kind as usize, e as u32);
     let answer = run.answer;
     let after = run.state;
+    let line = Line::Release(kind, e, answer);
     Turn {
         state: after,
-        next: line::put_release(out, at, kind, e, answer),
+        next: line.put(&[0u8; 8], out, at),
     }
 }

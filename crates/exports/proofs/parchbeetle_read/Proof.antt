@@ -6,7 +6,7 @@ use Rattle.exports.proofs.parchbeetle_read.Reads as reads
 use Rattle.exports.proofs.parchbeetle_read.Lts as lts
 use Rattle.exports.proofs.image.put_plan.Reads as put-plan-reads
 use Rattle.exports.proofs.told.Reads as told-reads
-use Rattle.plan_bytes.proofs.read.Reads as read-reads
+use Rattle.plan_reader.proofs.read.Reads as read-reads
 
 -- src/lib.rt:55:9
 read-requires : tie.Need-read-requires

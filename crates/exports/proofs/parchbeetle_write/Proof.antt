@@ -6,7 +6,7 @@ use Rattle.exports.proofs.parchbeetle_write.Reads as reads
 use Rattle.exports.proofs.parchbeetle_write.Lts as lts
 use Rattle.exports.proofs.image.plan_from.Reads as plan-from-reads
 use Rattle.exports.proofs.told.Reads as told-reads
-use Rattle.plan_bytes.proofs.write.Reads as write-reads
+use Rattle.plan_writer.proofs.write.Reads as write-reads
 
 -- src/lib.rt:73:9
 told-requires : tie.Need-told-requires

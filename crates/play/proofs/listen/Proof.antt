@@ -2,7 +2,7 @@ use mathlib.Core.Path.{ap}
 use native.Mathlib.Omega.{arith}
 use lib.ListN.{length, length-drop}
 use Rattle.plan_bytes.specs.Parts.Properties.{handed-on}
-use Rattle.player.specs.Kept.Properties.{keeps-within}
+use Rattle.commands.specs.Kept.Properties.{keeps-within}
 use borrow.Author.Needs.{needs}
 use Rattle.play.proofs.listen.Statement.{statement}
 use Rattle.play.proofs.listen.Tie as tie
@@ -11,7 +11,7 @@ use Rattle.play.proofs.listen.Lts as lts
 use Rattle.io.proofs.count.Reads as count-reads
 use Rattle.play.proofs.close.Reads as close-reads
 use Rattle.play.proofs.read_more.Reads as read-more-reads
-use Rattle.player.proofs.keep.Reads as keep-reads
+use Rattle.commands.proofs.keep.Reads as keep-reads
 
 -- src/main.rt:49:9
 keep-requires : tie.Need-keep-requires

@@ -2,7 +2,7 @@
 -- Assumes nothing.
 use mathlib.Core.Path.{_≡_, refl, sym, ap, ap₂, _∙_}
 use mathlib.Core.Bool.{Bool, true, false, not, _&&_}
-use mathlib.Core.List.{List, [], _∷_, _++_}
+use mathlib.Core.List.{List, _++_}
 use Prim.Native.Nat.{ℕ, zero, suc, _+_, _*_, _≤_, _<_}
 use native.Mathlib.Decide.{decLt}
 use native.Mathlib.Omega.{arith}
@@ -19,15 +19,13 @@ use Rattle.answer.specs.declared.Refusal.{Refusal}
 use Rattle.answer.specs.declared.Refusal.the-variants.{Bare, ByProject, ByKind}
 use Rattle.plan.specs.Record.{noProject, noKind}
 use Rattle.answer.specs.Answer.{number, refuse, _andThen_, eachTo}
-use Rattle.answer.specs.Answer.Properties.{andThen-good, andThen-no}
-use Rattle.plan.specs.Order.{sized, sizes, inRange, timed, projectOf, kindOf, projectInRange, projectsInRange, kindInRange, kindInRangeAt, kindsInRange, budgets, budgetsFit, ranges, Sized}
+use Rattle.plan.specs.Order.{sized, sizes, inRange, timed, projectOf, kindOf, projectInRange, projectsInRange, kindInRange, kindInRangeAt, kindsInRange, budgets, budgetsFit, ranges}
 use Rattle.plan.specs.Order.Properties.{sizes-says}
-use Rattle.plan_bytes.specs.declared.Reading.{Reading}
 use Rattle.plan_bytes.specs.Pack.{unpack}
 use Rattle.plan_bytes.specs.Bytes.{numberTo}
 use Rattle.plan_bytes.specs.Bytes.Properties.{number-append}
 use Rattle.plan_bytes.specs.Parts.{headerWidths, projectWidths, kindWidths, headerFields, projectFields, kindFields, projectFrom, kindFrom, projectAt, kindAt, projectsFrom, kindsFrom, afterHeader, afterProjects, headed, decoded, size}
-use Rattle.plan_bytes.specs.Reading.{headerSpare, projectSpare, kindSpare, projectsSpare, kindsSpare, placesSpare, spareZero, bodyAnswer, readAnswer, reading, readOf}
+use Rattle.plan_bytes.specs.Reading.{headerSpare, projectSpare, kindSpare, projectsSpare, kindsSpare, placesSpare, spareZero, bodyAnswer, readAnswer, readOf}
 use Rattle.plan_bytes.specs.Reading.Properties.{read-short}
 
 -- ---- folds that agree

@@ -2,19 +2,19 @@
 -- Assumes nothing.
 use mathlib.Core.Path.{_≡_, refl, sym, ap, ap₂, _∙_}
 use mathlib.Core.Bool.{Bool, true, false, true≢false, cond, not, _&&_, _||_}
-use mathlib.Core.List.{List, [], _∷_, _++_, append-assoc, append-nil}
+use mathlib.Core.List.{List, [], _++_, append-assoc, append-nil}
 use Prim.Native.Nat.{ℕ, zero, suc, _+_, _-_, _≤_, _<_}
 use native.Mathlib.Decide.{decLt}
 use native.Mathlib.Omega.{arith}
 use lib.Dec.{ltb, eqb}
 use lib.ListN.{length, take, drop, length-append, length-drop, take-append-drop}
-use lib.Seq.{sets, sets-eq, take-at, drop-at, drop-drop, length-take-le, length-sets}
+use lib.Seq.{sets-eq, take-at, drop-at, drop-drop, length-take-le, length-sets}
 use borrow.Author.Tests.{lt-ltb, le-ltb, eq-eqb, ne-eqb, eqb-true}
 use Rattle.plan.specs.declared.Plan.{Plan}
 use Rattle.answer.specs.declared.Answer.{Answer}
 use Rattle.answer.specs.declared.Answer.the-variants.{Good, No}
 use Rattle.answer.specs.declared.Refusal.{Refusal}
-use Rattle.answer.specs.Answer.{number, _andThen_, ifGood}
+use Rattle.answer.specs.Answer.{number, _andThen_}
 use Rattle.answer.specs.Answer.Properties.{andThen-good, andThen-no, andThen-left}
 use Rattle.plan_bytes.specs.declared.Reading.{Reading}
 use Rattle.plan_bytes.specs.Reading.{readOf}
@@ -26,23 +26,25 @@ use Rattle.rack.specs.State.{noState}
 use Rattle.rack.specs.Start.{startOf}
 use Rattle.rack.specs.Slice.{sliceOf}
 use Rattle.rack.specs.Row.{rowByte}
-use Rattle.player.specs.declared.command.Command.{Command}
-use Rattle.player.specs.declared.command.Command.the-variants.{Slice, Release, Bad}
+use Rattle.lines.specs.declared.line.Line.the-variants as line
+use Rattle.commands.specs.declared.command.Command.{Command}
+use Rattle.commands.specs.declared.command.Command.the-variants.{Slice, Release, Bad}
 use Rattle.player.specs.declared.turn.Turn.{Turn}
 use Rattle.player.specs.declared.session.Stage.{Stage}
 use Rattle.player.specs.declared.session.Stage.the-variants.{Opening, Running, Over}
 use Rattle.player.specs.declared.session.Session.{Session}
 use Rattle.player.specs.declared.session.Step.{Step}
 use Rattle.player.specs.declared.session.Progress.{Progress}
-use Rattle.player.specs.Text.{Puts}
-use Rattle.player.specs.Text.Properties.{puts-none, sets-nothing}
-use Rattle.player.specs.Line.{planLine, releaseLine, sliceLine, badLine, endLine}
-use Rattle.player.specs.Command.{commandOf}
-use Rattle.player.specs.Command.Properties.{command-short}
+use Rattle.lines.specs.Text.{Puts}
+use Rattle.lines.specs.Text.Properties.{puts-none, sets-nothing}
+use Rattle.lines.specs.Line.{planLine, releaseLine, sliceLine, endLine, lineText, lineRoom, Prints}
+use Rattle.lines.specs.Line.Properties.{prints-all}
+use Rattle.commands.specs.Command.{commandOf}
+use Rattle.commands.specs.Command.Properties.{command-short}
 use Rattle.player.specs.Turn.{rowRoom, lineOf, Turns}
 use Rattle.player.specs.Played.{opening}
 use Rattle.player.specs.Played.Front.{one-short}
-use Rattle.player.specs.Session.{unopened, running, over, atStage, Move, stay, firstLine, openOf, commandMove, lastLine, runOf, stepOf, Steps, lineRoom, onto, linesOf, playOf, progressOf, Plays}
+use Rattle.player.specs.Session.{unopened, running, over, atStage, Move, stay, firstLine, openOf, commandMove, lastLine, runOf, stepOf, Steps, onto, linesOf, playOf, Plays}
 
 -- ---- where a play stands
 
@@ -70,17 +72,21 @@ module _ (out held : List ℕ) (at next : ℕ) where
   stays m x e = rw e (record { session = refl; taken = refl; text = puts-none out at; room = omega arith })
 
   -- the first line
-  pub first-no : (m : Move) (a : Answer) (w : Refusal) (s z : State) (v : Session) (n : ℕ) → m ≡ firstLine a s n → a ≡ No w → z ≡ noState → v ≡ over z → Puts out at (planLine a) next held → next ≤ at + 128
+  plan-text : (a : Answer) (row : List ℕ) → at + 128 ≤ length out → Prints (line.Plan a) row out at next held → Puts out at (planLine a) next held
+  unfolding lineText
+  plan-text a row l p = prints-all (line.Plan a) row out at next held l p
+
+  first-no : (m : Move) (a : Answer) (w : Refusal) (s z : State) (v : Session) (n : ℕ) (row : List ℕ) → m ≡ firstLine a s n → a ≡ No w → z ≡ noState → v ≡ over z → at + 128 ≤ length out → Prints (line.Plan a) row out at next held
       → Steps m out at (record { session = v; taken = 0; next = next }) held
-  first-no m a w s z v n q e f g p l = rw (q, e) (record { session = g ∙ ap over f; taken = refl; text = rw e at p; room = l })
+  first-no m a w s z v n row q e f g l p = rw (q, e) (record { session = g ∙ ap over f; taken = refl; text = rw e at (plan-text a row l p); room = p .room })
 
-  pub start-no : (p : Plan) (x : Next) (w : Refusal) (z : State) (v : Session) (n : ℕ) → x ≡ startOf p → x .answer ≡ No w → z ≡ noState → v ≡ over z → Puts out at (planLine (x .answer)) next held → next ≤ at + 128
+  pub start-no : (p : Plan) (x : Next) (w : Refusal) (z : State) (v : Session) (n : ℕ) (row : List ℕ) → x ≡ startOf p → x .answer ≡ No w → z ≡ noState → v ≡ over z → at + 128 ≤ length out → Prints (line.Plan (x .answer)) row out at next held
       → Steps (firstLine (startOf p .answer) (startOf p .state) n) out at (record { session = v; taken = 0; next = next }) held
-  start-no p x w z v n q e f g t l = rw (← q) (first-no (firstLine (x .answer) (x .state) n) (x .answer) w (x .state) z v n refl e f g t l)
+  start-no p x w z v n row q e f g l t = rw (← q) (first-no (firstLine (x .answer) (x .state) n) (x .answer) w (x .state) z v n row refl e f g l t)
 
-  pub start-good : (p : Plan) (x : Next) (v : Session) (n : ℕ) → x ≡ startOf p → x .answer ≡ Good → v ≡ running (x .state) → Puts out at (planLine (x .answer)) next held → next ≤ at + 128
+  pub start-good : (p : Plan) (x : Next) (v : Session) (n : ℕ) (row : List ℕ) → x ≡ startOf p → x .answer ≡ Good → v ≡ running (x .state) → at + 128 ≤ length out → Prints (line.Plan (x .answer)) row out at next held
       → Steps (firstLine (startOf p .answer) (startOf p .state) n) out at (record { session = v; taken = n; next = next }) held
-  start-good p x v n q e g t l = rw (← q, e) (record { session = g; taken = refl; text = rw e at t; room = l })
+  start-good p x v n row q e g l t = rw (← q, e) (record { session = g; taken = refl; text = rw e at (plan-text (x .answer) row l t); room = t .room })
 
   module _ (x : Session) (last : Bool) (bytes : List ℕ) (r : Reading) (b : Bool) (reading-is : r ≡ readOf bytes) (waits-is : b ≡ (not last && eqb (number (r .answer)) 1)) where
     pub open-waits : b ≡ true → Steps (openOf x last bytes) out at (record { session = x; taken = 0; next = at }) out
@@ -91,11 +97,11 @@ module _ (out held : List ℕ) (at next : ℕ) where
     unfolding openOf opening
     opens t = rw (← reading-is, ← waits-is, t)
 
-    pub open-refused : (w : Refusal) (z : State) (v : Session) → b ≡ false → r .answer ≡ No w → z ≡ noState → v ≡ over z → Puts out at (planLine (r .answer)) next held → next ≤ at + 128
+    pub open-refused : (w : Refusal) (z : State) (v : Session) (row : List ℕ) → b ≡ false → r .answer ≡ No w → z ≡ noState → v ≡ over z → at + 128 ≤ length out → Prints (line.Plan (r .answer)) row out at next held
         → Steps (openOf x last bytes) out at (record { session = v; taken = 0; next = next }) held
-    open-refused w z v t e f g p l =
+    open-refused w z v row t e f g l p =
         let a : (r .answer andThen startOf (r .plan) .answer) ≡ r .answer = andThen-no (r .answer) (startOf (r .plan) .answer) w e ∙ sym e in
-        first-no (openOf x last bytes) (r .answer) w (startOf (r .plan) .state) z v (r .taken) (opens t ∙ ap (λ (y : Answer). firstLine y (startOf (r .plan) .state) (r .taken)) a) e f g p l
+        first-no (openOf x last bytes) (r .answer) w (startOf (r .plan) .state) z v (r .taken) row (opens t ∙ ap (λ (y : Answer). firstLine y (startOf (r .plan) .state) (r .taken)) a) e f g l p
 
     pub open-started : (step : Step) → b ≡ false → r .answer ≡ Good → Steps (firstLine (startOf (r .plan) .answer) (startOf (r .plan) .state) (r .taken)) out at step held → Steps (openOf x last bytes) out at step held
     open-started step t e p =
@@ -113,16 +119,16 @@ module _ (out held : List ℕ) (at next : ℕ) where
   unfolding commandMove
   obey-release s k kind n t v e p g = rw e (record { session = g ∙ ap running (p .state); taken = refl; text = p .line; room = p .room })
 
-  pub obey-bad : (s : State) (k : Command) (v : Session) → k ≡ Bad → Puts out at (badLine ++ endLine (s .clock)) next held → next ≤ at + 128 → v ≡ over s
+  pub obey-bad : (s : State) (k : Command) (v : Session) (row : List ℕ) → k ≡ Bad → at + 128 ≤ length out → Prints (line.Bad (s .clock)) row out at next held → v ≡ over s
       → Steps (commandMove s k) out at (record { session = v; taken = 0; next = next }) held
-  unfolding commandMove
-  obey-bad s k v e p l g = rw e (record { session = g; taken = refl; text = p; room = l })
+  unfolding commandMove lineText
+  obey-bad s k v row e l p g = rw e (record { session = g; taken = refl; text = prints-all (line.Bad (s .clock)) row out at next held l p; room = p .room })
 
   module _ (x : Session) (last : Bool) (bytes : List ℕ) where
-    pub run-ends : (v : Session) → last ≡ true → length bytes ≡ 0 → Puts out at (endLine (x .state .clock)) next held → next ≤ at + 64 → v ≡ over (x .state)
+    pub run-ends : (v : Session) (row : List ℕ) → last ≡ true → length bytes ≡ 0 → at + 128 ≤ length out → Prints (line.End (x .state .clock)) row out at next held → v ≡ over (x .state)
         → Steps (runOf x last bytes) out at (record { session = v; taken = 0; next = next }) held
-    unfolding runOf
-    run-ends v e n p l g = rw (e, eq-eqb (length bytes) 0 n) (record { session = g; taken = refl; text = p; room = omega arith })
+    unfolding runOf lineText
+    run-ends v row e n l p g = rw (e, eq-eqb (length bytes) 0 n) (record { session = g; taken = refl; text = prints-all (line.End (x .state .clock)) row out at next held l p; room = p .room })
 
     pub run-left : (k : Command) (step : Step) → last ≡ true → (length bytes ≡ 0 → ⊥) → k ≡ commandOf bytes → Steps (commandMove (x .state) k) out at step held → Steps (runOf x last bytes) out at step held
     unfolding runOf
@@ -438,14 +444,3 @@ pub part-short : (x : Session) (last b : Bool) (input out held : List ℕ) (from
 part-short x last b input out held from to r p a c e f g h l k =
     let n : length (take (to - from) (drop from input)) ≡ to - from = length-take-le (to - from) (drop from input) (omega (arith, length-drop from input)) in
     omega (arith, idle-short x last b (take (to - from) (drop from input)) out held r p e f g h l)
-
--- ---- each operation admits one outcome
-
-pub new-one-outcome : (a b : Session) → a ≡ unopened → b ≡ unopened → a ≡ b
-new-one-outcome a b e f = e ∙ sym f
-
-pub over-one-outcome : (x : Session) (a b : Bool) → a ≡ atStage (x .stage) false false true → b ≡ atStage (x .stage) false false true → a ≡ b
-over-one-outcome x a b e f = e ∙ sym f
-
-pub play-one-outcome : (x : Session) (last : Bool) (bytes out : List ℕ) (r s : Progress) (held later : List ℕ) → Plays x last bytes out r held → Plays x last bytes out s later → (r ≡ s) × (held ≡ later)
-play-one-outcome x last bytes out r s held later a b = (a .result ∙ sym (b .result), a .buffer ∙ sym (b .buffer))

@@ -1,40 +1,38 @@
 -- What a play of an input has printed at each moment, and at its end.
 -- Assumes nothing.
-use mathlib.Core.Path.{_≡_, refl, sym, ap, ap₂, _∙_}
+use mathlib.Core.Path.{_≡_, refl, sym, ap, _∙_}
 use mathlib.Core.Bool.{Bool, true, false, cond, not, _&&_, _||_}
-use mathlib.Core.List.{List, [], _∷_, _++_, append-assoc, append-nil}
+use mathlib.Core.List.{List, [], _++_, append-assoc, append-nil}
 use Prim.Native.Nat.{ℕ, zero, suc, _-_, _≤_, _<_}
 use native.Mathlib.Decide.{decLt}
 use native.Mathlib.Omega.{arith}
 use lib.Dec.{ltb, eqb}
 use lib.ListN.{length, drop, length-append}
 use lib.Seq.{drop-append-le, drop-drop}
-use borrow.Author.Tests.{le-ltb, eqb-true, eqb-false, ltb-false, eq-eqb}
+use borrow.Author.Tests.{le-ltb, eqb-true, eqb-false, ltb-false}
 use Rattle.answer.specs.declared.Answer.{Answer}
 use Rattle.answer.specs.declared.Answer.the-variants.{Good, No}
 use Rattle.answer.specs.Answer.{number, _andThen_, ifGood}
 use Rattle.answer.specs.Answer.Properties.{andThen-left}
 use Rattle.plan_bytes.specs.declared.Reading.{Reading}
-use Rattle.plan_bytes.specs.Bytes.{numberTo}
 use Rattle.plan_bytes.specs.Bytes.Properties.{number-append}
-use Rattle.plan_bytes.specs.Pack.{unpack}
 use Rattle.plan_bytes.specs.Reading.{readOf}
 use Rattle.rack.specs.declared.State.{State}
 use Rattle.rack.specs.Start.{startOf}
-use Rattle.player.specs.declared.command.Command.{Command}
-use Rattle.player.specs.declared.command.Command.the-variants.{Slice, Release, Bad}
+use Rattle.commands.specs.declared.command.Command.{Command}
+use Rattle.commands.specs.declared.command.Command.the-variants.{Slice, Release, Bad}
 use Rattle.player.specs.declared.session.Stage.{Stage}
 use Rattle.player.specs.declared.session.Stage.the-variants.{Opening, Running, Over}
 use Rattle.player.specs.declared.session.Session.{Session}
-use Rattle.player.specs.Line.{planLine, badLine, endLine}
-use Rattle.player.specs.Command.{commandWidths, commandFields, fieldsSay, commandOf}
-use Rattle.player.specs.Command.Properties.{command-short}
+use Rattle.lines.specs.Line.{planLine, badLine, endLine, lineRoom}
+use Rattle.commands.specs.Command.{commandFields, commandOf}
+use Rattle.commands.specs.Command.Properties.{command-short}
 use Rattle.player.specs.Turn.{lineOf, after}
 use Rattle.player.specs.Played.{onward, turns, opening, played}
 use Rattle.player.specs.Played.Properties.{turns-end, turns-command}
 use Rattle.player.specs.Played.Front.{read-more}
-use Rattle.player.specs.Session.{unopened, running, over, atStage, remaining, Move, stay, firstLine, openOf, commandMove, lastLine, runOf, stepOf, lineRoom, onto, linesOf, playOf}
-use Rattle.player.specs.Session.Properties.{at-opening, at-running, at-over, read-whole, step-most, play-idle, idle-over}
+use Rattle.player.specs.Session.{over, atStage, remaining, Move, stay, firstLine, openOf, commandMove, lastLine, runOf, stepOf, onto, linesOf, playOf}
+use Rattle.player.specs.Session.Properties.{at-opening, at-running, at-over, read-whole, play-idle, idle-over}
 use Rattle.player.specs.Stream.{Reached, starts, reads, plays}
 
 -- ---- one line: what it prints, and what is still to be printed after it

@@ -2,13 +2,12 @@
 -- Assumes nothing.
 use mathlib.Core.Path.{_≡_, refl, sym, ap, ap₂, _∙_}
 use mathlib.Core.List.{List, _++_}
-use Prim.Native.Nat.{ℕ, zero, suc, _+_, _≤_, _<_}
+use Prim.Native.Nat.{ℕ, zero, suc, _+_, _≤_, _<_, min}
 use native.Mathlib.Omega.{arith}
 use lib.ListN.{length, getD, replicate}
 use Rattle.laws.specs.Written.Properties.{written-at}
 use Rattle.answer.specs.declared.Answer.{Answer}
 use Rattle.answer.specs.declared.Answer.the-variants.{Good, No}
-use Rattle.answer.specs.declared.Refusal.{Refusal}
 use Rattle.plan_bytes.specs.Parts.{partsTo}
 use Rattle.rack.specs.declared.State.{State}
 use Rattle.rack.specs.declared.Next.{Next}
@@ -16,11 +15,12 @@ use Rattle.rack.specs.Release.{releaseOf}
 use Rattle.rack.specs.Slice.{sliceAnswer, sliceOf, bufferAfter, Sliced}
 use Rattle.rack.specs.Slice.Properties.{slice-room}
 use Rattle.rack.specs.Row.{rowByte, rowOver}
-use Rattle.player.specs.declared.command.Command.the-variants.{Slice, Release, Bad}
-use Rattle.player.specs.declared.turn.Turn.{Turn}
-use Rattle.player.specs.Ascii.{ascii}
-use Rattle.player.specs.Text.{decimal, Puts}
-use Rattle.player.specs.Line.{outcome, releaseLine, rowText, sliceLine}
+use Rattle.lines.specs.declared.line.Line.the-variants as line
+use Rattle.lines.specs.Ascii.{ascii}
+use Rattle.lines.specs.Text.{decimal}
+use Rattle.lines.specs.Line.{rowText, sliceLine, lineText, Prints}
+use Rattle.lines.specs.Line.Properties.{prints-all}
+use Rattle.commands.specs.declared.command.Command.the-variants.{Slice, Release}
 use Rattle.player.specs.Turn.{rowRoom, lineOf, after, Turns}
 
 -- two rows that agree on the cards print the same
@@ -51,27 +51,29 @@ module _ (s : State) (row : List ℕ) (next : Next) (sliced : Sliced s (replicat
       let a : row ≡ rowOver s (replicate 8 0) = sliced .buffer ∙ rw (good-is e) in
       ap (λ (x : List ℕ). getD x card 0) a ∙ written-at (s .plan .cards) (rowByte s) (replicate 8 0) 0 card l (cards-fit e)
 
-  pub slice-served : (out held : List ℕ) (at next-at : ℕ) → next .answer ≡ Good → Puts out at (sliceLine Good (s .clock) (s .plan .cards) (λ (card : ℕ). getD row card 0)) next-at held → next-at ≤ at + 128
+  told : (a : Answer) → next .answer ≡ a → sliceLine a (s .clock) (min (s .plan .cards) 8) (λ (card : ℕ). getD row card 0) ≡ sliceLine a (s .clock) (s .plan .cards) (rowByte s)
+  unfolding sliceLine
+  told Good e =
+      let fit : min (s .plan .cards) 8 ≡ s .plan .cards = omega (arith, cards-fit e) in
+      rw (fit, ← row-same (s .plan .cards) (λ (card : ℕ). getD row card 0) (rowByte s) (row-is e))
+  told (No w) e = refl
+
+  pub slice-told : (out held : List ℕ) (at next-at : ℕ) → at + 128 ≤ length out → Prints (line.Slice (next .answer) (s .clock) (s .plan .cards)) row out at next-at held
       → Turns s Slice out at (record { state = next .state; next = next-at }) held
-  unfolding lineOf sliceLine
-  slice-served out held at next-at e p l =
+  unfolding lineOf lineText
+  slice-told out held at next-at l p =
       record {
         state = state-is;
-        line = rw (← answer-is, e, ← row-same (s .plan .cards) (λ (card : ℕ). getD row card 0) (rowByte s) (row-is e)) p;
-        room = l;
+        line = rw (← answer-is, ← told (next .answer) refl) (prints-all (line.Slice (next .answer) (s .clock) (s .plan .cards)) row out at next-at held l p);
+        room = p .room;
       }
 
-  pub slice-refused : (out held : List ℕ) (at next-at : ℕ) (w : Refusal) → next .answer ≡ No w → Puts out at (ascii "t" ++ outcome (next .answer)) next-at held → next-at ≤ at + 128
-      → Turns s Slice out at (record { state = next .state; next = next-at }) held
-  unfolding lineOf sliceLine
-  slice-refused out held at next-at w e p l = record { state = state-is; line = rw (← answer-is, e) (rw e at p); room = l }
-
-pub release-told : (s : State) (kind e : ℕ) (next : Next) (out held : List ℕ) (at next-at : ℕ) → next ≡ releaseOf s kind e → Puts out at (releaseLine kind e (next .answer)) next-at held → next-at ≤ at + 128
+pub release-told : (s : State) (kind e : ℕ) (next : Next) (row out held : List ℕ) (at next-at : ℕ) → next ≡ releaseOf s kind e → at + 128 ≤ length out → Prints (line.Release kind e (next .answer)) row out at next-at held
     → Turns s (Release kind e) out at (record { state = next .state; next = next-at }) held
-unfolding lineOf after
-release-told s kind e next out held at next-at q p l =
+unfolding lineOf lineText after
+release-told s kind e next row out held at next-at q l p =
     record {
       state = ap (λ (n : Next). n .state) q;
-      line = rw (← q) p;
-      room = l;
+      line = rw (← q) (prints-all (line.Release kind e (next .answer)) row out at next-at held l p);
+      room = p .room;
     }

@@ -4,52 +4,42 @@ use Rattle.player.proofs.session.start.Statement.{statement}
 use Rattle.player.proofs.session.start.Tie as tie
 use Rattle.player.proofs.session.start.Reads as reads
 use Rattle.player.proofs.session.start.Lts as lts
-use Rattle.player.proofs.line.put_plan.Reads as put-plan-reads
+use Rattle.lines.proofs.line.Line.put.Reads as put-reads
 use Rattle.player.proofs.session.Session.over.Reads as over-reads
 use Rattle.player.proofs.session.Session.running.Reads as running-reads
 use Rattle.rack.proofs.State.empty.Reads as empty-reads
 use Rattle.rack.proofs.State.start.Reads as start-reads
 
--- src/session.rt:59:9
 start-requires : tie.Need-start-requires
 start-requires c κs = search needs
 
--- src/session.rt:62:9
-put-plan-requires : tie.Need-put-plan-requires
-put-plan-requires c κs = search needs
+put-requires : tie.Need-put-requires
+put-requires c κs = search needs
 
 enum-told : tie.Need-enum-told
 enum-told c = search needs
 
--- src/session.rt:65:36
 enum-told-2 : tie.Need-enum-told-2
 enum-told-2 c = search needs
 
--- src/session.rt:65:36
 empty-requires : tie.Need-empty-requires
 empty-requires c κs = search needs
 
--- src/session.rt:65:22
 over-requires : tie.Need-over-requires
 over-requires c κs = search needs
 
--- src/session.rt:64:9
 same-length : tie.Need-same-length
 same-length c = search needs
 
--- src/session.rt:64:9
 returns : tie.Need-returns
 returns c = search start-no
 
--- src/session.rt:71:18
 running-requires : tie.Need-running-requires
 running-requires c κs = search needs
 
--- src/session.rt:55:1
 same-length-2 : tie.Need-same-length-2
 same-length-2 c = search needs
 
--- src/session.rt:55:1
 returns-2 : tie.Need-returns-2
 returns-2 c = search start-good
 
@@ -58,7 +48,7 @@ start-spec =
     tie.close
     (tie.spec
     start-requires
-    put-plan-requires
+    put-requires
     enum-told
     enum-told-2
     empty-requires

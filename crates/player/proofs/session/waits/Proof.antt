@@ -6,15 +6,12 @@ use Rattle.player.proofs.session.waits.Reads as reads
 use Rattle.player.proofs.session.waits.Lts as lts
 use Rattle.answer.proofs.Answer.number.Reads as number-reads
 
--- src/session.rt:49:9
 returns : tie.Need-returns
 returns c = search needs
 
--- src/session.rt:51:5
 number-requires : tie.Need-number-requires
 number-requires c κs = search needs
 
--- src/session.rt:45:1
 returns-2 : tie.Need-returns-2
 returns-2 c = search waits-on
 

@@ -4,24 +4,20 @@ use Rattle.player.proofs.turn.release.Statement.{statement}
 use Rattle.player.proofs.turn.release.Tie as tie
 use Rattle.player.proofs.turn.release.Reads as reads
 use Rattle.player.proofs.turn.release.Lts as lts
-use Rattle.player.proofs.line.put_release.Reads as put-release-reads
+use Rattle.lines.proofs.line.Line.put.Reads as put-reads
 use Rattle.rack.proofs.State.release.Reads as release-reads
 
--- src/turn.rt:43:9
 release-requires : tie.Need-release-requires
 release-requires c κs = search needs
 
--- src/turn.rt:48:15
-put-release-requires : tie.Need-put-release-requires
-put-release-requires c κs = search needs
+put-requires : tie.Need-put-requires
+put-requires c κs = search needs
 
--- src/turn.rt:39:1
 same-length : tie.Need-same-length
 same-length c = search needs
 
--- src/turn.rt:39:1
 returns : tie.Need-returns
 returns c = search release-told
 
 pub release-spec : {M : Type 1} → statement M
-release-spec = tie.close (tie.spec release-requires put-release-requires same-length returns)
+release-spec = tie.close (tie.spec release-requires put-requires same-length returns)

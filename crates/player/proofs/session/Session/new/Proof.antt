@@ -6,11 +6,9 @@ use Rattle.player.proofs.session.Session.new.Reads as reads
 use Rattle.player.proofs.session.Session.new.Lts as lts
 use Rattle.rack.proofs.State.empty.Reads as empty-reads
 
--- src/session.rt:84:20
 empty-requires : tie.Need-empty-requires
 empty-requires c κs = search needs
 
--- src/session.rt:79:5
 returns : tie.Need-returns
 returns c = search new-is
 

@@ -1,4 +1,3 @@
-use mathlib.Core.Path.{_≡_, refl}
 use native.Mathlib.Omega.{arith}
 use borrow.Author.Needs.{needs}
 use Rattle.player.specs.Session.Properties.{Playing, playing-starts, playing-done, playing-full, playing-idle, playing-again, taken-fits}
@@ -14,67 +13,51 @@ Inv-loop bytes last out₀ session₀ taken₀ count₀ lines₀ out session tak
 abbrev μ-loop : tie.MeasureT-loop
 μ-loop bytes last out₀ session₀ taken₀ count₀ lines₀ out session taken count lines = lines
 
--- src/session.rt:232:9
 loop-holds : tie.Need-loop-holds Inv-loop μ-loop
 loop-holds c = playing-starts _ _ _ _
 
--- src/session.rt:233:16
 sub-if1 : tie.Need-sub-if1 Inv-loop μ-loop
 sub-if1 c = search needs
 
--- src/session.rt:234:17
 same-length : tie.Need-same-length Inv-loop μ-loop
 same-length c = search needs
 
--- src/session.rt:234:17
 returns : tie.Need-returns Inv-loop μ-loop
 returns c = search playing-full
 
--- src/session.rt:240:37
 sub-step : tie.Need-sub-step Inv-loop μ-loop
 sub-step c = search needs
 
--- src/session.rt:240:37
 part-step-start : tie.Need-part-step-start Inv-loop μ-loop
 part-step-start c = search needs
 
--- src/session.rt:240:37
 part-step-end : tie.Need-part-step-end Inv-loop μ-loop
 part-step-end c = search needs
 
--- src/session.rt:240:17
 step-requires : tie.Need-step-requires Inv-loop μ-loop
 step-requires c κs = search needs
 
--- src/session.rt:242:17
 same-length-2 : tie.Need-same-length-2 Inv-loop μ-loop
 same-length-2 c = search needs
 
--- src/session.rt:242:17
 returns-2 : tie.Need-returns-2 Inv-loop μ-loop
 returns-2 c = playing-idle _ _ _ _ _ _ _ _ _ (c .before .before .before .before .before .before .before .before .before .loop .inv) _ _ (omega arith) (c .before .before .before .before .step .ensures) (c .if2 .taken)
 
--- src/session.rt:249:13
 add-taken : tie.Need-add-taken Inv-loop μ-loop
 add-taken c = omega (arith, taken-fits _ _ _ _ _ _ _ _ _ (c .before .before .before .before .before .before .before .before .before .before .before .loop .inv) _ _ (omega arith) (c .before .before .before .before .before .before .step .ensures), c .before .before .before .before .before .before .before .before .before .before .before .before .before .before .good .1 .0 .0)
 
--- src/session.rt:251:13
 sub-lines : tie.Need-sub-lines Inv-loop μ-loop
 sub-lines c = search needs
 
--- src/session.rt:232:9
 loop-less : tie.Need-loop-less Inv-loop μ-loop
 loop-less c = search needs
 
--- src/session.rt:232:9
 loop-again : tie.Need-loop-again Inv-loop μ-loop
 loop-again c = search playing-again
 
--- src/session.rt:225:5
 same-length-3 : tie.Need-same-length-3 Inv-loop μ-loop
 same-length-3 c = search needs
 
--- src/session.rt:225:5
 returns-3 : tie.Need-returns-3 Inv-loop μ-loop
 returns-3 c = search playing-done
 

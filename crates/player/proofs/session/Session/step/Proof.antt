@@ -7,43 +7,33 @@ use Rattle.player.proofs.session.Session.step.Lts as lts
 use Rattle.player.proofs.session.Session.open.Reads as open-reads
 use Rattle.player.proofs.session.Session.run.Reads as run-reads
 
--- src/session.rt:213:54
 enum-told : tie.Need-enum-told
 enum-told c = search needs
 
--- src/session.rt:213:31
 open-requires : tie.Need-open-requires
 open-requires c κs = search needs
 
--- src/session.rt:214:53
 enum-told-2 : tie.Need-enum-told-2
 enum-told-2 c = search needs
 
--- src/session.rt:214:31
 run-requires : tie.Need-run-requires
 run-requires c κs = search needs
 
--- src/session.rt:215:28
 enum-told-3 : tie.Need-enum-told-3
 enum-told-3 c = search needs
 
--- src/session.rt:207:5
 same-length : tie.Need-same-length
 same-length c = search needs
 
--- src/session.rt:207:5
 returns : tie.Need-returns
 returns c = search step-opens
 
--- src/session.rt:207:5
 same-length-2 : tie.Need-same-length-2
 same-length-2 c = search needs
 
--- src/session.rt:207:5
 returns-2 : tie.Need-returns-2
 returns-2 c = search step-runs
 
--- src/session.rt:207:5
 returns-3 : tie.Need-returns-3
 returns-3 c = search step-over
 

@@ -1,4 +1,4 @@
--- Document 01, "Layout": cells, who owns them, and the cards that a project holds at a slice.
+-- Document 01, "Layout", after McNaughton (document 000): cells, who owns them, and the cards that a project holds at a slice.
 -- Assumes nothing.
 use Prim.Native.Nat.{ℕ, _+_, _*_, _%_, pred}
 use mathlib.Core.Bool.{Bool, _&&_}

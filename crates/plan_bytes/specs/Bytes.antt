@@ -1,4 +1,4 @@
--- Bytes as one number, the first byte highest.
+-- Document 01, "Plan bytes": bytes as one number, the first byte highest.
 -- Assumes nothing.
 use Prim.Native.Nat.{ℕ, zero, suc, _+_, _*_, _/_, _%_, _<_}
 use mathlib.Core.List.{List, [], _∷_, _++_}

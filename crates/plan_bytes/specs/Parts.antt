@@ -41,12 +41,15 @@ pub record Shaped (p : Plan) : Type 0 where
 
 -- ---- the parts as bytes; "the spare bits, which are zero"
 
+-- "header: m 4, p 4, n 5, F 7, spare 4"
 unfoldable pub headerBytes : Plan → List ℕ
 headerBytes p = bytesOf 3 (pack headerWidths (p .cards ∷ p .projects ∷ p .kinds ∷ p .frame ∷ 0 ∷ []))
 
+-- "each project: q 4, B 10, spare 2"
 unfoldable pub projectBytes : Project → List ℕ
 projectBytes v = bytesOf 2 (pack projectWidths (v .ceiling ∷ v .budget ∷ 0 ∷ []))
 
+-- "each unit kind: project from 0 (3), T 12, D 12, C 12, spare 1"
 unfoldable pub kindBytes : Kind → List ℕ
 kindBytes v = bytesOf 5 (pack kindWidths (v .project ∷ v .separation ∷ v .deadline ∷ v .length ∷ 0 ∷ []))
 

@@ -28,7 +28,7 @@ written-read = encoded-read
 pub one-encoding : (s t : List ℕ) → AreBytes s → AreBytes t → readOf s .answer ≡ Good → readOf t .answer ≡ Good → readOf s .plan ≡ readOf t .plan → take (readOf s .taken) s ≡ take (readOf t .taken) t
 one-encoding s t a b e f g = sym (written-read s a e) ∙ ap encoded g ∙ written-read t b f
 
--- "what follows them is never looked at": the answer depends on the bytes taken only
+-- "the remainder is handed on to whoever reads next": the answer depends on the bytes taken only
 pub taken-only : (s rest : List ℕ) → AreBytes s → readOf s .answer ≡ Good → readOf (take (readOf s .taken) s ++ rest) ≡ readOf s
 taken-only s rest a e =
     ap (λ (x : List ℕ). readOf (x ++ rest)) (sym (written-read s a e)) ∙ read-written (readOf s .plan) (read-shaped s e) (read-checked s e) rest ∙ sym (whole (readOf s) e (read-size s e))

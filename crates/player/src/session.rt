@@ -8,9 +8,9 @@ ghost use Rattle.answer.specs.Answer.{number};
 ghost use Rattle.rack.specs.Start.{startOf};
 ghost use Rattle.player.specs.Session.{unopened, running, over, atStage, firstLine, openOf, commandMove, runOf, stepOf, Steps, Plays};
 use crate::turn;
+use answer::Answer;
 use commands::Command;
 use lines::Line;
-use answer::Answer;
 use plan::Plan;
 use rack::State;
 

@@ -16,7 +16,7 @@ use Rattle.rack.specs.declared.State.{State}
 use Rattle.rack.specs.Rank.{activeKinds}
 use Rattle.promises.specs.Run.{Call, Accepted, noSlice, slicesOf}
 use Rattle.promises.specs.Run.Properties.{slices-at}
-use Rattle.promises.specs.Named.{namesProject, bytesIn, bytesOf}
+use Rattle.promises.specs.Named.{namesProject, bytesIn, bytesNaming}
 use Rattle.promises.specs.Named.Properties.{project-named, bytes-sum}
 
 module _ (s : State) (order : InOrder (s .plan)) (calls : List Call) (x j : ℕ) (project : j < s .plan .projects) (enough : x + s .plan .frame ≤ length (slicesOf s calls)) where
@@ -35,17 +35,17 @@ module _ (s : State) (order : InOrder (s .plan)) (calls : List Call) (x j : ℕ)
       rw (getD-take (s .plan .frame) (drop x (slicesOf s calls)) y noSlice l, getD-drop x (slicesOf s calls) y noSlice, add-assoc (s .clock) x y)
       (project-named (s .plan) (s .clock + (x + y)) (sliceAt y) (slices-at noSlice calls s (x + y) (omega arith)) j project)
 
-  named-sum : bytesOf (namesProject (s .plan) j) inARow ≡ sumTo (s .plan .frame) (λ y. min (held (s .plan) j (s .clock + x + y)) (activeKinds (sliceAt y .before) j))
+  named-sum : bytesNaming (namesProject (s .plan) j) inARow ≡ sumTo (s .plan .frame) (λ y. min (held (s .plan) j (s .clock + x + y)) (activeKinds (sliceAt y .before) j))
   named-sum =
       bytes-sum (namesProject (s .plan) j) noSlice inARow
       ∙ ap (λ (n : ℕ). sumTo n (λ y. bytesIn (namesProject (s .plan) j) (getD inARow y noSlice .row))) row-count
       ∙ sum-cong (s .plan .frame) (λ y. bytesIn (namesProject (s .plan) j) (getD inARow y noSlice .row)) (λ y. min (held (s .plan) j (s .clock + x + y)) (activeKinds (sliceAt y .before) j)) named-at
 
-  pub named-most : bytesOf (namesProject (s .plan) j) inARow ≤ budgetOf (s .plan) j
+  pub named-most : bytesNaming (namesProject (s .plan) j) inARow ≤ budgetOf (s .plan) j
   named-most =
       omega (arith, named-sum, held-frame (s .plan) order j project (s .clock + x), sum-le (s .plan .frame) (λ y. min (held (s .plan) j (s .clock + x + y)) (activeKinds (sliceAt y .before) j)) (λ y. held (s .plan) j (s .clock + x + y)) (λ y l. omega arith))
 
-  pub named-all : ((y : ℕ) → y < s .plan .frame → held (s .plan) j (sliceAt y .before .clock) ≤ activeKinds (sliceAt y .before) j) → bytesOf (namesProject (s .plan) j) inARow ≡ budgetOf (s .plan) j
+  pub named-all : ((y : ℕ) → y < s .plan .frame → held (s .plan) j (sliceAt y .before .clock) ≤ activeKinds (sliceAt y .before) j) → bytesNaming (namesProject (s .plan) j) inARow ≡ budgetOf (s .plan) j
   named-all h =
       named-sum
       ∙ sum-cong (s .plan .frame) (λ y. min (held (s .plan) j (s .clock + x + y)) (activeKinds (sliceAt y .before) j)) (λ y. held (s .plan) j (s .clock + x + y)) (λ y l. omega (arith, h y l, ap (held (s .plan) j) (slices-at noSlice calls s (x + y) (omega arith) .clock), ap (held (s .plan) j) (add-assoc (s .clock) x y)))

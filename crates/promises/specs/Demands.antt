@@ -18,10 +18,11 @@ use Rattle.rack.specs.State.{unitOf}
 use Rattle.rack.specs.Rank.{activeKinds}
 use Rattle.rack.specs.Start.{startOf}
 use Rattle.rack.specs.Release.{releaseOf}
-use Rattle.promises.specs.Run.{Call, nextAfter, runFrom, after, slicesOf, noSlice}
+use Rattle.rack.specs.Slice.{sliceOf}
+use Rattle.promises.specs.Run.{Call, nextAfter, runFrom, after, slicesOf, noSlice, rowWritten}
 use Rattle.promises.specs.Since.{never, sinceFrom, fewer}
-use Rattle.promises.specs.Named.{namesKind, namesProject, bytesOf, Orderly}
-use Rattle.promises.specs.Kept.{unit-named, unit-left, row-orderly, project-most, project-all, not-ten, not-fifteen, fourteen-says, fourteen-of, clock-counts}
+use Rattle.promises.specs.Named.{namesKind, namesProject, bytesIn, bytesNaming, Orderly}
+use Rattle.promises.specs.Kept.{unit-named, unit-left, row-orderly, row-serves, project-most, project-all, not-ten, not-fifteen, fourteen-says, fourteen-of, clock-counts}
 
 module _ (p : Plan) (admitted : startOf p .answer ≡ Good) where
   -- ---- 1. In time
@@ -33,7 +34,7 @@ module _ (p : Plan) (admitted : startOf p .answer ≡ Good) where
       let deadline = kindOf p i .deadline in
       next .answer ≡ Good →
       deadline ≤ length slices →
-      bytesOf (namesKind i) (take deadline slices) ≡ e
+      bytesNaming (namesKind i) (take deadline slices) ≡ e
   in-time calls more i e good enough = let n = unit-named p admitted calls more i e good in omega (arith, n .most, n .least)
 
   -- after x of them, what is left is at most D - x
@@ -43,10 +44,10 @@ module _ (p : Plan) (admitted : startOf p .answer ≡ Good) where
       let deadline = kindOf p i .deadline in
       next .answer ≡ Good →
       length slices ≤ deadline →
-      e - bytesOf (namesKind i) slices ≤ deadline - length slices
+      e - bytesNaming (namesKind i) slices ≤ deadline - length slices
   in-time-so-far calls more i e good few =
       let slices = slicesOf (releaseOf (after p calls) i e .state) more in
-      omega (arith, unit-named p admitted calls more i e good .least, ap (bytesOf (namesKind i)) (take-all (kindOf p i .deadline) slices few))
+      omega (arith, unit-named p admitted calls more i e good .least, ap (bytesNaming (namesKind i)) (take-all (kindOf p i .deadline) slices few))
 
   -- "A unit released at clock r is in time if left is 0 when the clock is r + D": while it is the kind's last, the state's left is at most D - x
   pub left-in-time : (calls more : List Call) (i e : ℕ) →
@@ -66,6 +67,15 @@ module _ (p : Plan) (admitted : startOf p .answer ≡ Good) where
       Orderly p (getD slices x noSlice .row)
   rows-orderly = row-orderly p admitted
 
+  -- and what a row says is what is done: each kind's left falls by the bytes that name it
+  pub rows-serve : (calls : List Call) (bytes : List ℕ) (i : ℕ) →
+      let s = after p calls in
+      let next = sliceOf s (length bytes) in
+      next .answer ≡ Good →
+      i < p .kinds →
+      unitOf (next .state) i .left + bytesIn (namesKind i) (rowWritten s bytes) ≡ unitOf s i .left
+  rows-serve = row-serves p admitted
+
   -- ---- 3. Budget
 
   -- in any F accepted slices in a row, the bytes that name kinds of project j are at most B
@@ -73,7 +83,7 @@ module _ (p : Plan) (admitted : startOf p .answer ≡ Good) where
       let slices = slicesOf (startOf p .state) calls in
       j < p .projects →
       x + p .frame ≤ length slices →
-      bytesOf (namesProject p j) (take (p .frame) (drop x slices)) ≤ budgetOf p j
+      bytesNaming (namesProject p j) (take (p .frame) (drop x slices)) ≤ budgetOf p j
   budget-at-most = project-most p admitted
 
   -- and exactly B if at each of those slices at least as many of its kinds have work left as it holds cards
@@ -82,7 +92,7 @@ module _ (p : Plan) (admitted : startOf p .answer ≡ Good) where
       j < p .projects →
       x + p .frame ≤ length slices →
       ((y : ℕ) → y < p .frame → let s = getD slices (x + y) noSlice .before in held p j (s .clock) ≤ activeKinds s j) →
-      bytesOf (namesProject p j) (take (p .frame) (drop x slices)) ≡ budgetOf p j
+      bytesNaming (namesProject p j) (take (p .frame) (drop x slices)) ≡ budgetOf p j
   budget-exactly = project-all p admitted
 
   -- ---- 4. Refusals on the way

@@ -23,7 +23,7 @@ use Rattle.rack.specs.Slice.{advanced, sliceAnswer}
 use Rattle.rack.specs.Slice.Properties.{slice-says}
 use Rattle.promises.specs.Run.{Call, runFrom, Accepted, rowWritten, slicesOf}
 use Rattle.promises.specs.Run.Properties.{along, now-at, run-clock, run-plan}
-use Rattle.promises.specs.Named.{namesKind, bytesIn, bytesOf}
+use Rattle.promises.specs.Named.{namesKind, bytesIn, bytesNaming}
 use Rattle.promises.specs.Named.Properties.{kind-named}
 use Rattle.promises.specs.View.Steps.{sliced-released, sliced-left, sliced-until, new-until, kept-until}
 use Rattle.promises.specs.Safe.{Safe}
@@ -31,24 +31,24 @@ use Rattle.promises.specs.Safe.Properties.{safe-unit, safe-left, slice-s
 
 -- with so much left, due in so many slices: in the rows until then kind i is named no more often, and no less but for the slices to come
 pub record OnTime (i left t : ℕ) (slices : List Accepted) : Type 0 where
-  pub most : bytesOf (namesKind i) (take t slices) ≤ left
-  pub least : left ≤ bytesOf (namesKind i) (take t slices) + (t - length slices)
+  pub most : bytesNaming (namesKind i) (take t slices) ≤ left
+  pub least : left ≤ bytesNaming (namesKind i) (take t slices) + (t - length slices)
 
 -- ---- one step more
 
-no-bytes : (i t : ℕ) → bytesOf (namesKind i) (take t []) ≡ 0
-unfolding bytesOf
-no-bytes i t = ap (bytesOf (namesKind i)) (take-nil {A = Accepted} t)
+no-bytes : (i t : ℕ) → bytesNaming (namesKind i) (take t []) ≡ 0
+unfolding bytesNaming
+no-bytes i t = ap (bytesNaming (namesKind i)) (take-nil {A = Accepted} t)
 
 none-yet : (i left t : ℕ) → left ≤ t → OnTime i left t []
 none-yet i left t l = record { most = omega (arith, no-bytes i t); least = omega (arith, no-bytes i t) }
 
 over : (i left : ℕ) (slices : List Accepted) → left ≡ 0 → OnTime i left 0 slices
-unfolding bytesOf
+unfolding bytesNaming
 over i left slices e = record { most = omega arith; least = omega arith }
 
 one-more : (i left t c : ℕ) (w : Accepted) (slices : List Accepted) → left ≤ t → bytesIn (namesKind i) (w .row) ≡ c → c ≤ left → OnTime i (left - c) (t - 1) slices → OnTime i left t (w ∷ slices)
-unfolding bytesOf
+unfolding bytesNaming
 one-more i left zero c w slices l e m n = over i left (w ∷ slices) (omega arith)
 one-more i left (suc t) c w slices l e m n =
     let z : suc t - 1 ≡ t = omega arith in

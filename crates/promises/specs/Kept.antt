@@ -23,11 +23,12 @@ use Rattle.rack.specs.Start.Properties.{start-good}
 use Rattle.rack.specs.Rank.{gone, activeKinds}
 use Rattle.unit.specs.Start.{early}
 use Rattle.rack.specs.Release.{released, releaseAnswer, releaseOf}
-use Rattle.rack.specs.Slice.{sliceOf}
-use Rattle.promises.specs.Run.{Call, slice, release, nextAfter, runFrom, after, noSlice, slicesOf}
+use Rattle.rack.specs.Slice.{sliceAnswer, advanced, sliceOf}
+use Rattle.promises.specs.Run.{Call, slice, release, nextAfter, runFrom, after, noSlice, slicesOf, rowWritten}
 use Rattle.promises.specs.Since.{never, sinceFrom, fewer}
 use Rattle.promises.specs.Run.Properties.{run-clock, run-plan, At, slices-at}
-use Rattle.promises.specs.Named.{namesProject, bytesOf, Orderly}
+use Rattle.promises.specs.Named.{namesKind, namesProject, bytesIn, bytesNaming, Orderly}
+use Rattle.promises.specs.Served.{named-falls}
 use Rattle.promises.specs.Named.Properties.{orderly}
 use Rattle.promises.specs.Budget.{named-most, named-all}
 use Rattle.promises.specs.Safe.Properties.{start-safe, after-safe}
@@ -58,6 +59,21 @@ module _ (p : Plan) (admitted : startOf p .answer ≡ Good) where
   pub clock-counts : (calls : List Call) → after p calls .clock ≡ length (slicesOf (startOf p .state) calls)
   clock-counts calls = omega (arith, run-clock calls (startOf p .state), ap (λ (s : State). s .clock) (start-good p admitted))
 
+  -- ---- a row
+
+  slice-good : (s : State) (room : ℕ) → sliceOf s room .answer ≡ Good → sliceAnswer s room ≡ Good
+  unfolding sliceOf
+  slice-good s room good = good
+
+  slice-moves : (s : State) (room : ℕ) → sliceOf s room .answer ≡ Good → sliceOf s room .state ≡ advanced s
+  unfolding sliceOf
+  slice-moves s room good = good-moves (sliceAnswer s room) (advanced s) s good
+
+  pub row-serves : (calls : List Call) (bytes : List ℕ) (i : ℕ) → sliceOf (after p calls) (length bytes) .answer ≡ Good → i < p .kinds → unitOf (sliceOf (after p calls) (length bytes) .state) i .left + bytesIn (namesKind i) (rowWritten (after p calls) bytes) ≡ unitOf (after p calls) i .left
+  row-serves calls bytes i good l =
+      rw (slice-moves (after p calls) (length bytes) good)
+      (named-falls (after p calls) (after-safe p admitted calls) bytes (slice-good (after p calls) (length bytes) good) i (omega (arith, ap (λ (q : Plan). q .kinds) (after-plan calls))))
+
   -- ---- a unit
 
   module _ (calls more : List Call) (i e : ℕ) (good : releaseOf (after p calls) i e .answer ≡ Good) where
@@ -81,10 +97,10 @@ module _ (p : Plan) (admitted : startOf p .answer ≡ Good) where
   -- ---- a project
 
   module _ (calls : List Call) (x j : ℕ) (l : j < p .projects) (enough : x + p .frame ≤ length (slicesOf (startOf p .state) calls)) where
-    pub project-most : bytesOf (namesProject p j) (take (p .frame) (drop x (slicesOf (startOf p .state) calls))) ≤ budgetOf p j
+    pub project-most : bytesNaming (namesProject p j) (take (p .frame) (drop x (slicesOf (startOf p .state) calls))) ≤ budgetOf p j
     project-most = rw start-plan at (named-most (startOf p .state) start-order calls x j (rw start-plan l) (rw start-plan enough))
 
-    pub project-all : ((y : ℕ) → y < p .frame → let s = getD (slicesOf (startOf p .state) calls) (x + y) noSlice .before in held p j (s .clock) ≤ activeKinds s j) → bytesOf (namesProject p j) (take (p .frame) (drop x (slicesOf (startOf p .state) calls))) ≡ budgetOf p j
+    pub project-all : ((y : ℕ) → y < p .frame → let s = getD (slicesOf (startOf p .state) calls) (x + y) noSlice .before in held p j (s .clock) ≤ activeKinds s j) → bytesNaming (namesProject p j) (take (p .frame) (drop x (slicesOf (startOf p .state) calls))) ≡ budgetOf p j
     project-all busy = rw start-plan at (named-all (startOf p .state) start-order calls x j (rw start-plan l) (rw start-plan enough) (rw start-plan busy))
 
   -- ---- a refusal

@@ -1,10 +1,11 @@
--- Demands 1 and 3: `Outcomes` and `Demands` state them, over `Run`, `Since` and `Named`. The other modules are the proof, in layers.
+-- The three demands: `Outcomes` (1), `Verdicts` (2) and `Demands` (3) state them, the last over `Run`, `Since` and `Named`. The other modules are the proof, in layers.
 -- Assumes nothing.
 -- ---- the statements
 pub mod Run
 pub mod Since
 pub mod Named
 pub mod Outcomes
+pub mod Verdicts
 pub mod Demands
 -- ---- what a row is
 pub mod Row
@@ -19,6 +20,7 @@ pub mod OnTrack
 pub mod View
 -- ---- runs
 pub mod Safe
+pub mod Served
 pub mod InTime
 pub mod Budget
 pub mod Refusals

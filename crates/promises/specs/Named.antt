@@ -25,12 +25,13 @@ unfoldable pub bytesIn : (ℕ → Bool) → List ℕ → ℕ
 bytesIn test row = countTo (length row) (λ card. test (getD row card 0))
 
 -- how many bytes of the rows written pass a test
-unfoldable pub bytesOf : (ℕ → Bool) → List Accepted → ℕ
-bytesOf test [] = 0
-bytesOf test (slice ∷ slices) = bytesIn test (slice .row) + bytesOf test slices
+unfoldable pub bytesNaming : (ℕ → Bool) → List Accepted → ℕ
+bytesNaming test [] = 0
+bytesNaming test (slice ∷ slices) = bytesIn test (slice .row) + bytesNaming test slices
 
 -- ---- what a row owes the cards
 
+-- of a row written on plan p
 pub record Orderly (p : Plan) (row : List ℕ) : Type 0 where
   -- "The row written has m bytes": one for each card
   pub cards : length row ≡ p .cards

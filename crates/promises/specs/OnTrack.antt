@@ -34,6 +34,7 @@ pub record Running (S : Setup) (m : Moment) (i : ℕ) : Type 0 where
 abbrev pub Enough : Setup → Moment → ℕ → Type 0
 Enough S m i = S .width i * m .left i + ahead S m i ≤ window (S .width i) (S .held) (m .clock) (m .until i)
 
+-- every unit under way is, and has supply enough
 pub record OnTrack (S : Setup) (m : Moment) : Type 0 where
   pub running : (i : ℕ) → Own S i → 0 < m .left i → Running S m i
   pub enough : (i : ℕ) → Own S i → 0 < m .left i → Enough S m i

@@ -11,6 +11,7 @@ use Rattle.promises.specs.OnTrack.{OnTrack}
 use Rattle.promises.specs.View.{setupOf, momentOf}
 pub mod Properties
 
+-- a state that a run can come to: its plan admitted, in form, with its sixteen places, and each project on track
 pub record Safe (s : State) : Type 0 where
   pub admitted : judged (s .plan) .answer ≡ Good
   pub ready : Ready s

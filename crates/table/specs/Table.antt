@@ -69,6 +69,7 @@ refusedWith n at x = n ∷ at ∷ x ∷ replicate 16 0
 
 -- ---- the table
 
+-- "The proved table is P1 to P11."
 pub record Table : Type 0 where
   -- "P1 A is .., read and written."
   pub P1-read : readOf bytesA ≡ record { answer = Good; plan = planA; taken = 22 }

@@ -1,36 +1,29 @@
+-- `plan_bytes::size` meets its contract.
+-- Assumes nothing.
 use mathlib.Core.Path.{refl}
 use Rattle.plan_bytes.specs.Parts.{size}
 use borrow.Author.Needs.{needs}
 use Rattle.plan_bytes.proofs.size.Statement.{statement}
 use Rattle.plan_bytes.proofs.size.Tie as tie
-use Rattle.plan_bytes.proofs.size.Reads as reads
-use Rattle.plan_bytes.proofs.size.Lts as lts
 
--- src/reader.rt:97:13
 cast-result : tie.Need-cast-result
 cast-result c = search needs
 
--- src/reader.rt:97:9
 mul-result : tie.Need-mul-result
 mul-result c = search needs
 
--- src/reader.rt:97:5
 add-result : tie.Need-add-result
 add-result c = search needs
 
--- src/reader.rt:97:42
 cast-result-2 : tie.Need-cast-result-2
 cast-result-2 c = search needs
 
--- src/reader.rt:97:38
 mul-result-2 : tie.Need-mul-result-2
 mul-result-2 c = search needs
 
--- src/reader.rt:97:5
 add-result-2 : tie.Need-add-result-2
 add-result-2 c = search needs
 
--- src/reader.rt:94:1
 returns : tie.Need-returns
 unfolding size
 returns c = refl

@@ -1,13 +1,11 @@
+-- `plan_cases::print_bytes` meets its contract.
+-- Assumes nothing.
 use Prim.Native.Nat.{_≤_, _-_}
 use mathlib.Core.Path.{_≡_}
 use lib.ListN.{length}
 use borrow.Author.Needs.{needs}
 use Rattle.plan_cases.proofs.print_bytes.Statement.{statement}
 use Rattle.plan_cases.proofs.print_bytes.Tie as tie
-use Rattle.plan_cases.proofs.print_bytes.Reads as reads
-use Rattle.plan_cases.proofs.print_bytes.Lts as lts
-use Rattle.plan_cases.proofs.end_line.Reads as end-line-reads
-use Rattle.plan_cases.proofs.print_byte.Reads as print-byte-reads
 
 abbrev Inv-loop : tie.InvT-loop
 Inv-loop bytes i₀ i-end i = (i ≤ i-end) × (i-end ≡ length bytes)
@@ -15,35 +13,27 @@ Inv-loop bytes i₀ i-end i = (i ≤ i-end) × (i-end ≡ length bytes)
 abbrev μ-loop : tie.MeasureT-loop
 μ-loop bytes i₀ i-end i = i-end - i
 
--- src/main.rt:34:5
 loop-holds : tie.Need-loop-holds Inv-loop μ-loop
 loop-holds c = search needs
 
--- src/main.rt:35:20
 shared-slice-read-print-byte : tie.Need-shared-slice-read-print-byte Inv-loop μ-loop
 shared-slice-read-print-byte c = search needs
 
--- src/main.rt:35:9
 print-byte-requires : tie.Need-print-byte-requires Inv-loop μ-loop
 print-byte-requires c κs = search needs
 
--- src/main.rt:34:9
 add-i : tie.Need-add-i Inv-loop μ-loop
 add-i c = search needs
 
--- src/main.rt:34:5
 loop-less : tie.Need-loop-less Inv-loop μ-loop
 loop-less c = search needs
 
--- src/main.rt:34:5
 loop-again : tie.Need-loop-again Inv-loop μ-loop
 loop-again c = search needs
 
--- src/main.rt:37:5
 end-line-requires : tie.Need-end-line-requires Inv-loop μ-loop
 end-line-requires c κs = search needs
 
--- src/main.rt:33:1
 returns : tie.Need-returns Inv-loop μ-loop
 returns c = search needs
 

@@ -1,65 +1,48 @@
+-- `plan_reader::body` meets its contract.
+-- Assumes nothing.
 use native.Mathlib.Omega.{arith}
 use Rattle.plan.specs.Order.Properties.{sizes-says}
 use Rattle.plan_bytes.specs.Reading.Properties.{refused-reading, told-reading, good-reading, body-short, body-spare, body-checked}
 use borrow.Author.Needs.{needs}
 use Rattle.plan_reader.proofs.body.Statement.{statement}
 use Rattle.plan_reader.proofs.body.Tie as tie
-use Rattle.plan_reader.proofs.body.Reads as reads
-use Rattle.plan_reader.proofs.body.Lts as lts
-use Rattle.plan.proofs.Plan.check.Reads as check-reads
-use Rattle.plan_reader.proofs.both.Reads as both-reads
-use Rattle.plan_reader.proofs.places.Reads as places-reads
-use Rattle.plan_reader.proofs.refused.Reads as refused-reads
-use Rattle.plan_bytes.proofs.size.Reads as size-reads
 
--- src/lib.rt:129:9
 size-requires : tie.Need-size-requires
 size-requires c κs = search needs
 
--- src/lib.rt:131:9
 refused-requires : tie.Need-refused-requires
 refused-requires c κs = search needs
 
--- src/lib.rt:131:9
 returns : tie.Need-returns
 returns c = search (told-reading, body-short)
 
--- src/lib.rt:133:9
 places-requires : tie.Need-places-requires
 places-requires c κs = let s = sizes-says _ (c .before .before .before .pre .2) in (search, s .projects-most, s .kinds-most, omega arith)
 
--- src/lib.rt:134:9
 both-requires : tie.Need-both-requires
 both-requires c κs = search needs
 
--- src/lib.rt:135:9
 refused-requires-2 : tie.Need-refused-requires-2
 refused-requires-2 c κs = search needs
 
--- src/lib.rt:135:9
 returns-2 : tie.Need-returns-2
 returns-2 c = search (told-reading, body-spare)
 
--- src/lib.rt:138:9
 check-requires : tie.Need-check-requires
 check-requires c κs = search needs
 
 enum-told : tie.Need-enum-told
 enum-told c = search needs
 
--- src/lib.rt:140:9
 enum-told-2 : tie.Need-enum-told-2
 enum-told-2 c = search needs
 
--- src/lib.rt:140:9
 refused-requires-3 : tie.Need-refused-requires-3
 refused-requires-3 c κs = search needs
 
--- src/lib.rt:140:9
 returns-3 : tie.Need-returns-3
 returns-3 c = search (refused-reading, body-checked)
 
--- src/lib.rt:125:1
 returns-4 : tie.Need-returns-4
 returns-4 c = search (good-reading, body-checked)
 

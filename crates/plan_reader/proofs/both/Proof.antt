@@ -1,14 +1,12 @@
+-- `plan_reader::both` meets its contract.
+-- Assumes nothing.
 use Rattle.laws.specs.Tests.{conjunction}
 use Rattle.plan_reader.proofs.both.Statement.{statement}
 use Rattle.plan_reader.proofs.both.Tie as tie
-use Rattle.plan_reader.proofs.both.Reads as reads
-use Rattle.plan_reader.proofs.both.Lts as lts
 
--- src/lib.rt:43:9
 returns : tie.Need-returns
 returns c = search conjunction
 
--- src/lib.rt:39:1
 returns-2 : tie.Need-returns-2
 returns-2 c = search conjunction
 

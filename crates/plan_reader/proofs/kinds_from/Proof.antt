@@ -1,3 +1,5 @@
+-- `plan_reader::kinds_from` meets its contract.
+-- Assumes nothing.
 use mathlib.Core.Path.{_≡_, refl}
 use Prim.Native.Nat.{_≤_, _-_}
 use native.Mathlib.Omega.{arith}
@@ -8,11 +10,6 @@ use Rattle.plan_bytes.specs.Reading.{kindsSpare}
 use Rattle.plan_bytes.specs.Reading.Properties.{kinds-spare-none, kinds-spare-again, kinds-spare-stop}
 use Rattle.plan_reader.proofs.kinds_from.Statement.{statement}
 use Rattle.plan_reader.proofs.kinds_from.Tie as tie
-use Rattle.plan_reader.proofs.kinds_from.Reads as reads
-use Rattle.plan_reader.proofs.kinds_from.Lts as lts
-use Rattle.plan.proofs.Kind.empty.Reads as empty-reads
-use Rattle.plan_reader.proofs.part.kind_from.Reads as kind-from-reads
-use Rattle.plan_reader.proofs.both.Reads as both-reads
 
 abbrev Inv-loop : tie.InvT-loop
 Inv-loop s count kind₀ clean₀ i₀ i-end kind clean i = (i ≤ i-end) × (i-end ≡ count) × (kind ≡ kindsFrom i s) × (clean ≡ kindsSpare i s)
@@ -20,59 +17,45 @@ Inv-loop s count kind₀ clean₀ i₀ i-end kind clean i = (i ≤ i-end) × (i-
 abbrev μ-loop : tie.MeasureT-loop
 μ-loop s count kind₀ clean₀ i₀ i-end kind clean i = i-end - i
 
--- src/lib.rt:70:21
 empty-requires : tie.Need-empty-requires Inv-loop μ-loop
 empty-requires c κs = search needs
 
--- src/lib.rt:72:5
 loop-holds : tie.Need-loop-holds Inv-loop μ-loop
 loop-holds c = (omega arith, refl, rw (c .empty .ensures) (kinds-none _), kinds-spare-none _)
 
--- src/lib.rt:73:18
 mul-at : tie.Need-mul-at Inv-loop μ-loop
 mul-at c = search needs
 
--- src/lib.rt:74:36
 sub-kind-from : tie.Need-sub-kind-from Inv-loop μ-loop
 sub-kind-from c = search needs
 
--- src/lib.rt:74:36
 part-kind-from-start : tie.Need-part-kind-from-start Inv-loop μ-loop
 part-kind-from-start c = search needs
 
--- src/lib.rt:74:36
 part-kind-from-end : tie.Need-part-kind-from-end Inv-loop μ-loop
 part-kind-from-end c = search needs
 
--- src/lib.rt:74:13
 kind-from-requires : tie.Need-kind-from-requires Inv-loop μ-loop
 kind-from-requires c κs = search needs
 
--- src/lib.rt:76:9
 mul-kind : tie.Need-mul-kind Inv-loop μ-loop
 mul-kind c = search needs
 
--- src/lib.rt:76:9
 array-set-from-kind : tie.Need-array-set-from-kind Inv-loop μ-loop
 array-set-from-kind c = search needs
 
--- src/lib.rt:77:9
 both-requires : tie.Need-both-requires Inv-loop μ-loop
 both-requires c κs = search needs
 
--- src/lib.rt:72:9
 add-i : tie.Need-add-i Inv-loop μ-loop
 add-i c = search needs
 
--- src/lib.rt:72:5
 loop-less : tie.Need-loop-less Inv-loop μ-loop
 loop-less c = search needs
 
--- src/lib.rt:72:5
 loop-again : tie.Need-loop-again Inv-loop μ-loop
 loop-again c = (omega arith, search, search kinds-again, kinds-spare-again _ _ _ _ _ (c .before .before .before .before .before .before .loop .inv .3) (c .before .before .before .kind-from .ensures .1) (c .both .ensures))
 
--- src/lib.rt:66:1
 returns : tie.Need-returns Inv-loop μ-loop
 returns c = (search kinds-stop, search kinds-spare-stop)
 

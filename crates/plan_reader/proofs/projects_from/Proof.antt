@@ -1,3 +1,5 @@
+-- `plan_reader::projects_from` meets its contract.
+-- Assumes nothing.
 use mathlib.Core.Path.{_≡_, refl}
 use Prim.Native.Nat.{_≤_, _-_}
 use native.Mathlib.Omega.{arith}
@@ -8,11 +10,6 @@ use Rattle.plan_bytes.specs.Reading.{projectsSpare}
 use Rattle.plan_bytes.specs.Reading.Properties.{projects-spare-none, projects-spare-again, projects-spare-stop}
 use Rattle.plan_reader.proofs.projects_from.Statement.{statement}
 use Rattle.plan_reader.proofs.projects_from.Tie as tie
-use Rattle.plan_reader.proofs.projects_from.Reads as reads
-use Rattle.plan_reader.proofs.projects_from.Lts as lts
-use Rattle.plan.proofs.Project.empty.Reads as empty-reads
-use Rattle.plan_reader.proofs.part.project_from.Reads as project-from-reads
-use Rattle.plan_reader.proofs.both.Reads as both-reads
 
 abbrev Inv-loop : tie.InvT-loop
 Inv-loop s count project₀ clean₀ j₀ j-end project clean j = (j ≤ j-end) × (j-end ≡ count) × (project ≡ projectsFrom j s) × (clean ≡ projectsSpare j s)
@@ -20,59 +17,45 @@ Inv-loop s count project₀ clean₀ j₀ j-end project clean j = (j ≤ j-end) 
 abbrev μ-loop : tie.MeasureT-loop
 μ-loop s count project₀ clean₀ j₀ j-end project clean j = j-end - j
 
--- src/lib.rt:53:24
 empty-requires : tie.Need-empty-requires Inv-loop μ-loop
 empty-requires c κs = search needs
 
--- src/lib.rt:55:5
 loop-holds : tie.Need-loop-holds Inv-loop μ-loop
 loop-holds c = (omega arith, refl, rw (c .empty .ensures) (projects-none _), projects-spare-none _)
 
--- src/lib.rt:56:18
 mul-at : tie.Need-mul-at Inv-loop μ-loop
 mul-at c = search needs
 
--- src/lib.rt:57:39
 sub-project-from : tie.Need-sub-project-from Inv-loop μ-loop
 sub-project-from c = search needs
 
--- src/lib.rt:57:39
 part-project-from-start : tie.Need-part-project-from-start Inv-loop μ-loop
 part-project-from-start c = search needs
 
--- src/lib.rt:57:39
 part-project-from-end : tie.Need-part-project-from-end Inv-loop μ-loop
 part-project-from-end c = search needs
 
--- src/lib.rt:57:13
 project-from-requires : tie.Need-project-from-requires Inv-loop μ-loop
 project-from-requires c κs = search needs
 
--- src/lib.rt:59:9
 mul-project : tie.Need-mul-project Inv-loop μ-loop
 mul-project c = search needs
 
--- src/lib.rt:59:9
 array-set-from-project : tie.Need-array-set-from-project Inv-loop μ-loop
 array-set-from-project c = search needs
 
--- src/lib.rt:60:9
 both-requires : tie.Need-both-requires Inv-loop μ-loop
 both-requires c κs = search needs
 
--- src/lib.rt:55:9
 add-j : tie.Need-add-j Inv-loop μ-loop
 add-j c = search needs
 
--- src/lib.rt:55:5
 loop-less : tie.Need-loop-less Inv-loop μ-loop
 loop-less c = search needs
 
--- src/lib.rt:55:5
 loop-again : tie.Need-loop-again Inv-loop μ-loop
 loop-again c = (omega arith, search, search projects-again, projects-spare-again _ _ _ _ _ (c .before .before .before .before .before .before .loop .inv .3) (c .before .before .before .project-from .ensures .1) (c .both .ensures))
 
--- src/lib.rt:49:1
 returns : tie.Need-returns Inv-loop μ-loop
 returns c = (search projects-stop, search projects-spare-stop)
 

@@ -1,35 +1,27 @@
+-- `plan_writer::put` meets its contract.
+-- Assumes nothing.
 use native.Mathlib.Omega.{arith}
 use Rattle.plan_bytes.specs.Parts.{size}
 use Rattle.plan_bytes.specs.Put.Properties.{put-plan}
 use borrow.Author.Needs.{needs}
 use Rattle.plan_writer.proofs.put.Statement.{statement}
 use Rattle.plan_writer.proofs.put.Tie as tie
-use Rattle.plan_writer.proofs.put.Reads as reads
-use Rattle.plan_writer.proofs.put.Lts as lts
-use Rattle.plan_writer.proofs.part.put_header.Reads as put-header-reads
-use Rattle.plan_writer.proofs.put_kinds.Reads as put-kinds-reads
-use Rattle.plan_writer.proofs.put_projects.Reads as put-projects-reads
 
--- src/lib.rt:45:5
 put-header-requires : tie.Need-put-header-requires
 unfolding size
 put-header-requires c κs = omega arith
 
--- src/lib.rt:46:5
 put-projects-requires : tie.Need-put-projects-requires
 unfolding size
 put-projects-requires c κs = omega (arith, c .before .before .before .put-header .kept .1 .0)
 
--- src/lib.rt:47:5
 put-kinds-requires : tie.Need-put-kinds-requires
 unfolding size
 put-kinds-requires c κs = omega (arith, c .before .before .before .before .before .before .before .put-header .kept .1 .0, c .before .before .before .put-projects .kept .1 .0)
 
--- src/lib.rt:41:1
 same-length : tie.Need-same-length
 same-length c = search needs
 
--- src/lib.rt:41:1
 returns : tie.Need-returns
 returns c = search put-plan
 

@@ -1,3 +1,5 @@
+-- `plan_writer::put_kinds` meets its contract.
+-- Assumes nothing.
 use mathlib.Core.Path.{_≡_, refl}
 use Prim.Native.Nat.{_≤_, _-_, _+_, _*_}
 use native.Mathlib.Omega.{arith}
@@ -8,9 +10,6 @@ use Rattle.plan_bytes.specs.Put.{putTo}
 use Rattle.plan_bytes.specs.Put.Properties.{put-none, put-again, put-stop}
 use Rattle.plan_writer.proofs.put_kinds.Statement.{statement}
 use Rattle.plan_writer.proofs.put_kinds.Tie as tie
-use Rattle.plan_writer.proofs.put_kinds.Reads as reads
-use Rattle.plan_writer.proofs.put_kinds.Lts as lts
-use Rattle.plan_writer.proofs.part.put_kind.Reads as put-kind-reads
 
 abbrev Inv-loop : tie.InvT-loop
 Inv-loop out₀ plan start i₀ i-end out i = (i ≤ i-end) × (i-end ≡ plan .kinds) × (start ≡ 3 + 2 * plan .projects) × (out ≡ putTo i (kindBytesAt plan) (3 + 2 * plan .projects) 5 out₀) × (length out ≡ length out₀)
@@ -18,63 +17,48 @@ Inv-loop out₀ plan start i₀ i-end out i = (i ≤ i-end) × (i-end ≡ plan .
 abbrev μ-loop : tie.MeasureT-loop
 μ-loop out₀ plan start i₀ i-end out i = i-end - i
 
--- src/lib.rt:33:25
 cast-start : tie.Need-cast-start Inv-loop μ-loop
 cast-start c = search needs
 
--- src/lib.rt:33:21
 mul-start : tie.Need-mul-start Inv-loop μ-loop
 mul-start c = search needs
 
--- src/lib.rt:33:17
 add-start : tie.Need-add-start Inv-loop μ-loop
 add-start c = search needs
 
--- src/lib.rt:34:17
 cast-i-end : tie.Need-cast-i-end Inv-loop μ-loop
 cast-i-end c = search needs
 
--- src/lib.rt:34:5
 loop-holds : tie.Need-loop-holds Inv-loop μ-loop
 loop-holds c = (omega arith, refl, refl, put-none _ _ _ _, refl)
 
--- src/lib.rt:35:20
 mul-kind : tie.Need-mul-kind Inv-loop μ-loop
 mul-kind c = search needs
 
--- src/lib.rt:35:20
 element-copy-out-kind : tie.Need-element-copy-out-kind Inv-loop μ-loop
 element-copy-out-kind c = search needs
 
--- src/lib.rt:36:43
 mul-put-kind : tie.Need-mul-put-kind Inv-loop μ-loop
 mul-put-kind c = search needs
 
--- src/lib.rt:36:35
 add-put-kind : tie.Need-add-put-kind Inv-loop μ-loop
 add-put-kind c = search needs
 
--- src/lib.rt:36:9
 put-kind-requires : tie.Need-put-kind-requires Inv-loop μ-loop
 put-kind-requires c κs = search needs
 
--- src/lib.rt:34:9
 add-i : tie.Need-add-i Inv-loop μ-loop
 add-i c = search needs
 
--- src/lib.rt:34:5
 loop-less : tie.Need-loop-less Inv-loop μ-loop
 loop-less c = search needs
 
--- src/lib.rt:34:5
 loop-again : tie.Need-loop-again Inv-loop μ-loop
 loop-again c = (omega arith, search, search, search put-again, omega (arith, c .before .before .put-kind .kept .1 .0))
 
--- src/lib.rt:29:1
 same-length : tie.Need-same-length Inv-loop μ-loop
 same-length c = search needs
 
--- src/lib.rt:29:1
 returns : tie.Need-returns Inv-loop μ-loop
 returns c = search put-stop
 

@@ -1,3 +1,5 @@
+-- `plan_writer::put_projects` meets its contract.
+-- Assumes nothing.
 use mathlib.Core.Path.{_≡_, refl}
 use Prim.Native.Nat.{_≤_, _-_}
 use native.Mathlib.Omega.{arith}
@@ -8,9 +10,6 @@ use Rattle.plan_bytes.specs.Put.{putTo}
 use Rattle.plan_bytes.specs.Put.Properties.{put-none, put-again, put-stop}
 use Rattle.plan_writer.proofs.put_projects.Statement.{statement}
 use Rattle.plan_writer.proofs.put_projects.Tie as tie
-use Rattle.plan_writer.proofs.put_projects.Reads as reads
-use Rattle.plan_writer.proofs.put_projects.Lts as lts
-use Rattle.plan_writer.proofs.part.put_project.Reads as put-project-reads
 
 abbrev Inv-loop : tie.InvT-loop
 Inv-loop out₀ plan j₀ j-end out j = (j ≤ j-end) × (j-end ≡ plan .projects) × (out ≡ putTo j (projectBytesAt plan) 3 2 out₀) × (length out ≡ length out₀)
@@ -18,51 +17,39 @@ Inv-loop out₀ plan j₀ j-end out j = (j ≤ j-end) × (j-end ≡ plan .projec
 abbrev μ-loop : tie.MeasureT-loop
 μ-loop out₀ plan j₀ j-end out j = j-end - j
 
--- src/lib.rt:22:17
 cast-j-end : tie.Need-cast-j-end Inv-loop μ-loop
 cast-j-end c = search needs
 
--- src/lib.rt:22:5
 loop-holds : tie.Need-loop-holds Inv-loop μ-loop
 loop-holds c = (omega arith, refl, put-none _ _ _ _, refl)
 
--- src/lib.rt:23:23
 mul-project : tie.Need-mul-project Inv-loop μ-loop
 mul-project c = search needs
 
--- src/lib.rt:23:23
 element-copy-out-project : tie.Need-element-copy-out-project Inv-loop μ-loop
 element-copy-out-project c = search needs
 
--- src/lib.rt:24:45
 mul-put-project : tie.Need-mul-put-project Inv-loop μ-loop
 mul-put-project c = search needs
 
--- src/lib.rt:24:41
 add-put-project : tie.Need-add-put-project Inv-loop μ-loop
 add-put-project c = search needs
 
--- src/lib.rt:24:9
 put-project-requires : tie.Need-put-project-requires Inv-loop μ-loop
 put-project-requires c κs = search needs
 
--- src/lib.rt:22:9
 add-j : tie.Need-add-j Inv-loop μ-loop
 add-j c = search needs
 
--- src/lib.rt:22:5
 loop-less : tie.Need-loop-less Inv-loop μ-loop
 loop-less c = search needs
 
--- src/lib.rt:22:5
 loop-again : tie.Need-loop-again Inv-loop μ-loop
 loop-again c = (omega arith, search, search put-again, omega (arith, c .before .before .put-project .kept .1 .0))
 
--- src/lib.rt:18:1
 same-length : tie.Need-same-length Inv-loop μ-loop
 same-length c = search needs
 
--- src/lib.rt:18:1
 returns : tie.Need-returns Inv-loop μ-loop
 returns c = search put-stop
 

@@ -1,13 +1,11 @@
+-- `play::play_all` meets its contract.
+-- Assumes nothing.
 use mathlib.Core.Path.{_≡_}
 use Prim.Native.Nat.{_≤_}
 use lib.ListN.{length}
 use borrow.Author.Needs.{needs}
 use Rattle.play.proofs.play_all.Statement.{statement}
 use Rattle.play.proofs.play_all.Tie as tie
-use Rattle.play.proofs.play_all.Reads as reads
-use Rattle.play.proofs.play_all.Lts as lts
-use Rattle.play.proofs.round.Reads as round-reads
-use Rattle.player.proofs.session.Session.new.Reads as new-reads
 
 abbrev Inv-loop : tie.InvT-loop
 Inv-loop input₀ output₀ desk₀ rounds₀ input output desk rounds = (desk .from ≤ desk .to) × (desk .to ≤ length input) × (128 ≤ length input) × (128 ≤ length output) × (length input ≡ length input₀) × (length output ≡ length output₀)
@@ -15,51 +13,39 @@ Inv-loop input₀ output₀ desk₀ rounds₀ input output desk rounds = (desk .
 abbrev μ-loop : tie.MeasureT-loop
 μ-loop input₀ output₀ desk₀ rounds₀ input output desk rounds = rounds
 
--- src/main.rt:101:18
 new-requires : tie.Need-new-requires Inv-loop μ-loop
 new-requires c κs = search needs
 
--- src/main.rt:108:5
 loop-holds : tie.Need-loop-holds Inv-loop μ-loop
 loop-holds c = search needs
 
--- src/main.rt:110:13
 same-length : tie.Need-same-length Inv-loop μ-loop
 same-length c = search needs
 
--- src/main.rt:110:13
 same-length-2 : tie.Need-same-length-2 Inv-loop μ-loop
 same-length-2 c = search needs
 
--- src/main.rt:110:13
 returns : tie.Need-returns Inv-loop μ-loop
 returns c = search needs
 
--- src/main.rt:112:9
 round-requires : tie.Need-round-requires Inv-loop μ-loop
 round-requires c κs = search needs
 
--- src/main.rt:113:9
 sub-rounds : tie.Need-sub-rounds Inv-loop μ-loop
 sub-rounds c = search needs
 
--- src/main.rt:108:5
 loop-less : tie.Need-loop-less Inv-loop μ-loop
 loop-less c = search needs
 
--- src/main.rt:108:5
 loop-again : tie.Need-loop-again Inv-loop μ-loop
 loop-again c = search needs
 
--- src/main.rt:97:1
 same-length-3 : tie.Need-same-length-3 Inv-loop μ-loop
 same-length-3 c = search needs
 
--- src/main.rt:97:1
 same-length-4 : tie.Need-same-length-4 Inv-loop μ-loop
 same-length-4 c = search needs
 
--- src/main.rt:97:1
 returns-2 : tie.Need-returns-2 Inv-loop μ-loop
 returns-2 c = search needs
 

@@ -1,3 +1,5 @@
+-- `play::round` meets its contract.
+-- Assumes nothing.
 use mathlib.Core.Path.{sym}
 use native.Mathlib.Omega.{arith}
 use lib.Seq.{length-take-le}
@@ -5,107 +7,76 @@ use Rattle.player.specs.Session.Properties.{part-taken, part-short}
 use borrow.Author.Needs.{needs}
 use Rattle.play.proofs.round.Statement.{statement}
 use Rattle.play.proofs.round.Tie as tie
-use Rattle.play.proofs.round.Reads as reads
-use Rattle.play.proofs.round.Lts as lts
-use Rattle.io.proofs.write_all.Reads as write-all-reads
-use Rattle.play.proofs.close.Reads as close-reads
-use Rattle.play.proofs.listen.Reads as listen-reads
-use Rattle.player.proofs.session.Session.is_over.Reads as is-over-reads
-use Rattle.player.proofs.session.Session.play.Reads as play-reads
 
--- src/main.rt:73:33
 sub-play : tie.Need-sub-play
 sub-play c = search needs
 
--- src/main.rt:73:33
 part-play-start : tie.Need-part-play-start
 part-play-start c = search needs
 
--- src/main.rt:73:33
 part-play-end : tie.Need-part-play-end
 part-play-end c = search needs
 
--- src/main.rt:73:9
 play-requires : tie.Need-play-requires
 play-requires c κs = search needs
 
--- src/main.rt:77:13
 close-requires : tie.Need-close-requires
 close-requires c κs = search needs
 
--- src/main.rt:77:13
 same-length : tie.Need-same-length
 same-length c = search needs
 
--- src/main.rt:77:13
 same-length-2 : tie.Need-same-length-2
 same-length-2 c = search needs
 
--- src/main.rt:77:13
 returns : tie.Need-returns
 returns c = search needs
 
--- src/main.rt:79:12
 is-over-requires : tie.Need-is-over-requires
 is-over-requires c κs = search needs
 
--- src/main.rt:80:13
 close-requires-2 : tie.Need-close-requires-2
 close-requires-2 c κs = search needs
 
--- src/main.rt:80:13
 same-length-3 : tie.Need-same-length-3
 same-length-3 c = search needs
 
--- src/main.rt:80:13
 same-length-4 : tie.Need-same-length-4
 same-length-4 c = search needs
 
--- src/main.rt:80:13
 returns-2 : tie.Need-returns-2
 returns-2 c = search needs
 
--- src/main.rt:82:9
 listen-requires : tie.Need-listen-requires
 listen-requires c κs = (omega arith, omega arith, search part-short)
 
--- src/main.rt:82:9
 same-length-5 : tie.Need-same-length-5
 same-length-5 c = search needs
 
--- src/main.rt:82:9
 same-length-6 : tie.Need-same-length-6
 same-length-6 c = search needs
 
--- src/main.rt:82:9
 returns-3 : tie.Need-returns-3
 returns-3 c = search needs
 
--- src/main.rt:84:45
 slice-reshare-prefix-write-all : tie.Need-slice-reshare-prefix-write-all
 slice-reshare-prefix-write-all c = omega (arith, c .before .before .before .play .ensures .room, c .before .before .before .play .kept .1 .1 .1 .0)
 
--- src/main.rt:84:45
 slice-aggregate-write-all : tie.Need-slice-aggregate-write-all
 slice-aggregate-write-all c = sym (length-take-le _ _ (omega (arith, c .before .before .before .before .play .ensures .room, c .before .before .before .before .play .kept .1 .1 .1 .0)))
 
--- src/main.rt:84:9
 write-all-requires : tie.Need-write-all-requires
 write-all-requires c κs = search needs
 
--- src/main.rt:88:15
 add-t13 : tie.Need-add-t13
 add-t13 c = omega (arith, part-taken _ _ _ _ _ (c .before .before .before .before .before .before .before .before .before .before .before .before .before .before .args .desk .from) (c .before .before .before .before .before .before .before .before .before .before .before .before .before .before .args .desk .to) _ (c .before .before .before .before .before .before .before .play .ensures) (omega arith) (omega arith), c .before .before .before .before .before .before .before .before .before .before .before .before .before .before .good .1 .0 .0)
 
--- src/main.rt:65:1
 same-length-7 : tie.Need-same-length-7
 same-length-7 c = search needs
 
--- src/main.rt:65:1
 same-length-8 : tie.Need-same-length-8
 same-length-8 c = search needs
 
--- src/main.rt:65:1
 returns-4 : tie.Need-returns-4
 returns-4 c = (part-taken _ _ _ _ _ (c .before .before .before .before .before .before .before .before .before .before .before .before .before .before .args .desk .from) (c .before .before .before .before .before .before .before .before .before .before .before .before .before .before .args .desk .to) _ (c .before .before .before .before .before .before .before .play .ensures) (omega arith) (omega arith), omega arith)
 

@@ -21,7 +21,7 @@ use Rattle.rack.specs.Row.{rowByte}
 use Rattle.promises.specs.Run.{Accepted}
 use Rattle.promises.specs.Run.Properties.{At}
 use Rattle.promises.specs.Row.{kind-once, kind-cards, project-cards}
-use Rattle.promises.specs.Named.{namesKind, namesProject, bytesIn, bytesOf, Orderly}
+use Rattle.promises.specs.Named.{namesKind, namesProject, bytesIn, bytesNaming, Orderly}
 
 -- ---- one row
 
@@ -67,7 +67,7 @@ one-first : (n : ℕ) (f : ℕ → ℕ) → sumTo (suc n) f ≡ f 0 + sumTo n (�
 one-first n f =
     ap (λ (k : ℕ). sumTo k f) (sym (one-add n)) ∙ sum-split 1 n f ∙ ap₂ _+_ (one-term f) (sum-cong n (λ x. f (1 + x)) (λ x. f (suc x)) (λ x l. ap f (one-add x)))
 
-pub bytes-sum : (test : ℕ → Bool) (none : Accepted) (slices : List Accepted) → bytesOf test slices ≡ sumTo (length slices) (λ x. bytesIn test (getD slices x none .row))
-unfolding bytesOf
+pub bytes-sum : (test : ℕ → Bool) (none : Accepted) (slices : List Accepted) → bytesNaming test slices ≡ sumTo (length slices) (λ x. bytesIn test (getD slices x none .row))
+unfolding bytesNaming
 bytes-sum test none [] = sum-none (λ x. bytesIn test (getD [] x none .row))
 bytes-sum test none (w ∷ slices) = sym (one-first (length slices) (λ x. bytesIn test (getD (w ∷ slices) x none .row)) ∙ ap (λ (n : ℕ). bytesIn test (w .row) + n) (sym (bytes-sum test none slices)))

@@ -1,18 +1,15 @@
+-- `seats::outranks` meets its contract.
+-- Assumes nothing.
 use Rattle.laws.specs.Tests.{tests}
 use Rattle.seats.proofs.outranks.Statement.{statement}
 use Rattle.seats.proofs.outranks.Tie as tie
-use Rattle.seats.proofs.outranks.Reads as reads
-use Rattle.seats.proofs.outranks.Lts as lts
 
--- src/lib.rt:30:9
 returns : tie.Need-returns
 returns c = search tests
 
--- src/lib.rt:33:9
 returns-2 : tie.Need-returns-2
 returns-2 c = search tests
 
--- src/lib.rt:26:1
 returns-3 : tie.Need-returns-3
 returns-3 c = search tests
 

@@ -1,3 +1,5 @@
+-- `seats::seats` meets its contract.
+-- Assumes nothing.
 use mathlib.Core.Path.{_≡_}
 use Prim.Native.Nat.{_≤_, _-_}
 use native.Mathlib.Omega.{arith}
@@ -9,9 +11,6 @@ use Rattle.seats.specs.Seats.{seatBy}
 use Rattle.seats.specs.Seats.Properties.{seats-none, seats-all}
 use Rattle.seats.proofs.seats.Statement.{statement}
 use Rattle.seats.proofs.seats.Tie as tie
-use Rattle.seats.proofs.seats.Reads as reads
-use Rattle.seats.proofs.seats.Lts as lts
-use Rattle.seats.proofs.seat.Reads as seat-reads
 
 abbrev Inv-loop : tie.InvT-loop
 Inv-loop works due low kinds seats₀ i₀ seats i = (kinds ≤ 16) × (i ≤ kinds) × (seats ≡ written i (seatBy works due low kinds) (replicate 16 0))
@@ -19,35 +18,27 @@ Inv-loop works due low kinds seats₀ i₀ seats i = (kinds ≤ 16) × (i ≤ ki
 abbrev μ-loop : tie.MeasureT-loop
 μ-loop works due low kinds seats₀ i₀ seats i = kinds - i
 
--- src/lib.rt:87:9
 returns : tie.Need-returns Inv-loop μ-loop
 returns c = search seats-none
 
--- src/lib.rt:89:5
 loop-holds : tie.Need-loop-holds Inv-loop μ-loop
 loop-holds c = (omega arith, omega arith, written-none _ _)
 
--- src/lib.rt:90:20
 seat-requires : tie.Need-seat-requires Inv-loop μ-loop
 seat-requires c κs = (omega arith, omega arith)
 
--- src/lib.rt:90:9
 array-write-seats : tie.Need-array-write-seats Inv-loop μ-loop
 array-write-seats c = search needs
 
--- src/lib.rt:89:9
 add-i : tie.Need-add-i Inv-loop μ-loop
 add-i c = search needs
 
--- src/lib.rt:89:5
 loop-less : tie.Need-loop-less Inv-loop μ-loop
 loop-less c = search needs
 
--- src/lib.rt:89:5
 loop-again : tie.Need-loop-again Inv-loop μ-loop
 loop-again c = (omega arith, omega arith, search written-again)
 
--- src/lib.rt:82:1
 returns-2 : tie.Need-returns-2 Inv-loop μ-loop
 returns-2 c = search (seats-all, written-stop)
 

@@ -1,3 +1,5 @@
+-- `supply::least_fit` meets its contract.
+-- Assumes nothing.
 use native.Mathlib.Nat.{div-le-self}
 use Rattle.supply.specs.Supply.{window, supply}
 use Rattle.supply.specs.Fit.{heldAt, leastWidth, leastExcess}

@@ -1,3 +1,5 @@
+-- `supply::least_with` meets its contract.
+-- Assumes nothing.
 use native.Mathlib.Omega.{arith}
 use Rattle.supply.specs.Fit.Properties.{with-first, with-later}
 use borrow.Author.Needs.{needs}

@@ -1,3 +1,5 @@
+-- `supply::workload_part` meets its contract.
+-- Assumes nothing.
 use native.Mathlib.Omega.{arith}
 use native.Mathlib.Nat.{div-le-self}
 use Rattle.supply.specs.Workload.Properties.{part-without, part-of}

@@ -1,3 +1,5 @@
+-- `verdict::fit_on` meets its contract.
+-- Assumes nothing.
 use Rattle.verdict.specs.Steps.Properties.{project-place, fit-is}
 use borrow.Author.Needs.{needs}
 use Rattle.verdict.proofs.fit_on.Statement.{statement}

@@ -1,3 +1,5 @@
+-- `verdict::judge` meets its contract.
+-- Assumes nothing.
 use Rattle.plan.specs.Order.Properties.{check-opened}
 use Rattle.verdict.specs.Steps.Properties.{judged-no, judged-on}
 use borrow.Author.Needs.{needs}

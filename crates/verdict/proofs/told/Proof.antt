@@ -1,3 +1,5 @@
+-- `verdict::told` meets its contract.
+-- Assumes nothing.
 use Rattle.laws.specs.Tests.{tests}
 use borrow.Author.Needs.{needs}
 use Rattle.verdict.proofs.told.Statement.{statement}

@@ -1,3 +1,5 @@
+-- `commands::kept::keep` meets its contract.
+-- Assumes nothing.
 use mathlib.Core.Path.{_≡_, refl}
 use Prim.Native.Nat.{_≤_, _-_}
 use native.Mathlib.Omega.{arith}
@@ -6,8 +8,6 @@ use borrow.Author.Needs.{needs}
 use Rattle.commands.specs.Kept.Properties.{moved, moved-none, moved-again, keeps-none, keeps-outside, keeps-part}
 use Rattle.commands.proofs.kept.keep.Statement.{statement}
 use Rattle.commands.proofs.kept.keep.Tie as tie
-use Rattle.commands.proofs.kept.keep.Reads as reads
-use Rattle.commands.proofs.kept.keep.Lts as lts
 
 abbrev Inv-loop : tie.InvT-loop
 Inv-loop bytes₀ from to count i₀ bytes i = (i ≤ count) × (count ≡ to - from) × (from ≤ to) × (to ≤ length bytes₀) × (bytes ≡ moved bytes₀ from i) × (length bytes ≡ length bytes₀)

@@ -1,80 +1,61 @@
+-- `exports::image::four` meets its contract.
+-- Assumes nothing.
 use Rattle.exports.specs.Image.Properties.{four-at}
 use borrow.Author.Needs.{needs}
 use Rattle.exports.proofs.image.four.Statement.{statement}
 use Rattle.exports.proofs.image.four.Tie as tie
-use Rattle.exports.proofs.image.four.Reads as reads
-use Rattle.exports.proofs.image.four.Lts as lts
-use Rattle.exports.proofs.image.wider.Reads as wider-reads
 
--- src/image.rt:39:13
 shared-slice-read-wider : tie.Need-shared-slice-read-wider
 shared-slice-read-wider c = search needs
 
--- src/image.rt:39:7
 wider-requires : tie.Need-wider-requires
 wider-requires c κs = search needs
 
--- src/image.rt:39:7
 mul-result : tie.Need-mul-result
 mul-result c = search needs
 
--- src/image.rt:39:36
 add-wider : tie.Need-add-wider
 add-wider c = search needs
 
--- src/image.rt:39:34
 shared-slice-read-wider-2 : tie.Need-shared-slice-read-wider-2
 shared-slice-read-wider-2 c = search needs
 
--- src/image.rt:39:28
 wider-requires-2 : tie.Need-wider-requires-2
 wider-requires-2 c κs = search needs
 
--- src/image.rt:39:7
 add-result : tie.Need-add-result
 add-result c = search needs
 
--- src/image.rt:39:6
 mul-result-2 : tie.Need-mul-result-2
 mul-result-2 c = search needs
 
--- src/image.rt:39:62
 add-wider-2 : tie.Need-add-wider-2
 add-wider-2 c = search needs
 
--- src/image.rt:39:60
 shared-slice-read-wider-3 : tie.Need-shared-slice-read-wider-3
 shared-slice-read-wider-3 c = search needs
 
--- src/image.rt:39:54
 wider-requires-3 : tie.Need-wider-requires-3
 wider-requires-3 c κs = search needs
 
--- src/image.rt:39:6
 add-result-2 : tie.Need-add-result-2
 add-result-2 c = search needs
 
--- src/image.rt:39:5
 mul-result-3 : tie.Need-mul-result-3
 mul-result-3 c = search needs
 
--- src/image.rt:39:88
 add-wider-3 : tie.Need-add-wider-3
 add-wider-3 c = search needs
 
--- src/image.rt:39:86
 shared-slice-read-wider-4 : tie.Need-shared-slice-read-wider-4
 shared-slice-read-wider-4 c = search needs
 
--- src/image.rt:39:80
 wider-requires-4 : tie.Need-wider-requires-4
 wider-requires-4 c κs = search needs
 
--- src/image.rt:39:5
 add-result-3 : tie.Need-add-result-3
 add-result-3 c = search needs
 
--- src/image.rt:35:1
 returns : tie.Need-returns
 returns c = search four-at
 

@@ -1,40 +1,31 @@
+-- `exports::image::kind_from` meets its contract.
+-- Assumes nothing.
 use Rattle.exports.specs.Image.Properties.{kind-at}
 use borrow.Author.Needs.{needs}
 use Rattle.exports.proofs.image.kind_from.Statement.{statement}
 use Rattle.exports.proofs.image.kind_from.Tie as tie
-use Rattle.exports.proofs.image.kind_from.Reads as reads
-use Rattle.exports.proofs.image.kind_from.Lts as lts
-use Rattle.exports.proofs.image.two.Reads as two-reads
 
--- src/image.rt:57:18
 shared-slice-read-t4 : tie.Need-shared-slice-read-t4
 shared-slice-read-t4 c = search needs
 
--- src/image.rt:58:28
 add-two : tie.Need-add-two
 add-two c = search needs
 
--- src/image.rt:58:21
 two-requires : tie.Need-two-requires
 two-requires c κs = search needs
 
--- src/image.rt:59:26
 add-two-2 : tie.Need-add-two-2
 add-two-2 c = search needs
 
--- src/image.rt:59:19
 two-requires-2 : tie.Need-two-requires-2
 two-requires-2 c κs = search needs
 
--- src/image.rt:60:24
 add-two-3 : tie.Need-add-two-3
 add-two-3 c = search needs
 
--- src/image.rt:60:17
 two-requires-3 : tie.Need-two-requires-3
 two-requires-3 c κs = search needs
 
--- src/image.rt:52:1
 returns : tie.Need-returns
 returns c = search kind-at
 

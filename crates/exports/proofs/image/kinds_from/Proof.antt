@@ -1,15 +1,13 @@
+-- `exports::image::kinds_from` meets its contract.
+-- Assumes nothing.
 use borrow.Author.Needs.{needs}
 use native.Mathlib.Omega.{arith}
-use mathlib.Core.Path.{_≡_, refl}
-use Prim.Native.Nat.{_≤_, _<_, _-_, _+_, _*_}
+use mathlib.Core.Path.{_≡_}
+use Prim.Native.Nat.{_≤_, _-_}
 use Rattle.exports.specs.Image.{kindsFrom}
 use Rattle.exports.specs.Image.Properties.{kinds-none, kinds-again, kinds-stop}
 use Rattle.exports.proofs.image.kinds_from.Statement.{statement}
 use Rattle.exports.proofs.image.kinds_from.Tie as tie
-use Rattle.exports.proofs.image.kinds_from.Reads as reads
-use Rattle.exports.proofs.image.kinds_from.Lts as lts
-use Rattle.exports.proofs.image.kind_from.Reads as kind-from-reads
-use Rattle.plan.proofs.Kind.empty.Reads as empty-reads
 
 abbrev Inv-loop : tie.InvT-loop
 Inv-loop s kind₀ i₀ kind i = (i ≤ 16) × (kind ≡ kindsFrom i s)
@@ -17,47 +15,36 @@ Inv-loop s kind₀ i₀ kind i = (i ≤ 16) × (kind ≡ kindsFrom i s)
 abbrev μ-loop : tie.MeasureT-loop
 μ-loop s kind₀ i₀ kind i = 16 - i
 
--- src/image.rt:79:21
 empty-requires : tie.Need-empty-requires Inv-loop μ-loop
 empty-requires c κs = search needs
 
--- src/image.rt:80:5
 loop-holds : tie.Need-loop-holds Inv-loop μ-loop
 loop-holds c = (omega arith, rw (c .empty .ensures) (kinds-none _))
 
--- src/image.rt:81:37
 mul-kind-from : tie.Need-mul-kind-from Inv-loop μ-loop
 mul-kind-from c = search needs
 
--- src/image.rt:81:32
 add-kind-from : tie.Need-add-kind-from Inv-loop μ-loop
 add-kind-from c = search needs
 
--- src/image.rt:81:19
 kind-from-requires : tie.Need-kind-from-requires Inv-loop μ-loop
 kind-from-requires c κs = search needs
 
--- src/image.rt:81:9
 mul-kind : tie.Need-mul-kind Inv-loop μ-loop
 mul-kind c = search needs
 
--- src/image.rt:81:9
 array-set-from-kind : tie.Need-array-set-from-kind Inv-loop μ-loop
 array-set-from-kind c = search needs
 
--- src/image.rt:80:9
 add-i : tie.Need-add-i Inv-loop μ-loop
 add-i c = search needs
 
--- src/image.rt:80:5
 loop-less : tie.Need-loop-less Inv-loop μ-loop
 loop-less c = search needs
 
--- src/image.rt:80:5
 loop-again : tie.Need-loop-again Inv-loop μ-loop
 loop-again c = (omega arith, search kinds-again)
 
--- src/image.rt:75:1
 returns : tie.Need-returns Inv-loop μ-loop
 returns c = search kinds-stop
 

@@ -1,37 +1,28 @@
+-- `exports::image::plan_from` meets its contract.
+-- Assumes nothing.
 use Rattle.exports.specs.Image.Properties.{plan-from}
 use borrow.Author.Needs.{needs}
 use Rattle.exports.proofs.image.plan_from.Statement.{statement}
 use Rattle.exports.proofs.image.plan_from.Tie as tie
-use Rattle.exports.proofs.image.plan_from.Reads as reads
-use Rattle.exports.proofs.image.plan_from.Lts as lts
-use Rattle.exports.proofs.image.kinds_from.Reads as kinds-from-reads
-use Rattle.exports.proofs.image.projects_from.Reads as projects-from-reads
 
--- src/image.rt:92:9
 projects-from-requires : tie.Need-projects-from-requires
 projects-from-requires c κs = search needs
 
--- src/image.rt:93:9
 kinds-from-requires : tie.Need-kinds-from-requires
 kinds-from-requires c κs = search needs
 
--- src/image.rt:95:16
 shared-slice-read-t5 : tie.Need-shared-slice-read-t5
 shared-slice-read-t5 c = search needs
 
--- src/image.rt:96:19
 shared-slice-read-t7 : tie.Need-shared-slice-read-t7
 shared-slice-read-t7 c = search needs
 
--- src/image.rt:97:16
 shared-slice-read-t9 : tie.Need-shared-slice-read-t9
 shared-slice-read-t9 c = search needs
 
--- src/image.rt:98:16
 shared-slice-read-t11 : tie.Need-shared-slice-read-t11
 shared-slice-read-t11 c = search needs
 
--- src/image.rt:88:1
 returns : tie.Need-returns
 returns c = search plan-from
 

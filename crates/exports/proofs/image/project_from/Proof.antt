@@ -1,24 +1,19 @@
+-- `exports::image::project_from` meets its contract.
+-- Assumes nothing.
 use Rattle.exports.specs.Image.Properties.{project-at}
 use borrow.Author.Needs.{needs}
 use Rattle.exports.proofs.image.project_from.Statement.{statement}
 use Rattle.exports.proofs.image.project_from.Tie as tie
-use Rattle.exports.proofs.image.project_from.Reads as reads
-use Rattle.exports.proofs.image.project_from.Lts as lts
-use Rattle.exports.proofs.image.two.Reads as two-reads
 
--- src/image.rt:47:18
 shared-slice-read-t4 : tie.Need-shared-slice-read-t4
 shared-slice-read-t4 c = search needs
 
--- src/image.rt:48:24
 add-two : tie.Need-add-two
 add-two c = search needs
 
--- src/image.rt:48:17
 two-requires : tie.Need-two-requires
 two-requires c κs = search needs
 
--- src/image.rt:42:1
 returns : tie.Need-returns
 returns c = search project-at
 

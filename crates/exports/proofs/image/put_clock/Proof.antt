@@ -1,49 +1,39 @@
+-- `exports::image::put_clock` meets its contract.
+-- Assumes nothing.
 use native.Mathlib.Omega.{arith}
 use lib.ListN.{length-set}
 use Rattle.exports.specs.Image.Properties.{put-clock}
 use borrow.Author.Needs.{needs}
 use Rattle.exports.proofs.image.put_clock.Statement.{statement}
 use Rattle.exports.proofs.image.put_clock.Tie as tie
-use Rattle.exports.proofs.image.put_clock.Reads as reads
-use Rattle.exports.proofs.image.put_clock.Lts as lts
 
--- src/image.rt:225:16
 cast-out : tie.Need-cast-out
 cast-out c = search needs
 
--- src/image.rt:225:5
 slice-write-out : tie.Need-slice-write-out
 slice-write-out c = search needs
 
--- src/image.rt:226:16
 cast-out-2 : tie.Need-cast-out-2
 cast-out-2 c = search needs
 
--- src/image.rt:226:5
 slice-write-out-2 : tie.Need-slice-write-out-2
 slice-write-out-2 c = simp length-set (omega arith)
 
--- src/image.rt:227:16
 cast-out-3 : tie.Need-cast-out-3
 cast-out-3 c = search needs
 
--- src/image.rt:227:5
 slice-write-out-3 : tie.Need-slice-write-out-3
 slice-write-out-3 c = simp length-set (omega arith)
 
--- src/image.rt:228:16
 cast-out-4 : tie.Need-cast-out-4
 cast-out-4 c = search needs
 
--- src/image.rt:228:5
 slice-write-out-4 : tie.Need-slice-write-out-4
 slice-write-out-4 c = search needs
 
--- src/image.rt:221:1
 same-length : tie.Need-same-length
 same-length c = search needs
 
--- src/image.rt:221:1
 returns : tie.Need-returns
 returns c = search put-clock
 

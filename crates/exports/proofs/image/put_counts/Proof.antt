@@ -1,33 +1,27 @@
+-- `exports::image::put_counts` meets its contract.
+-- Assumes nothing.
 use native.Mathlib.Omega.{arith}
 use lib.ListN.{length-set}
 use Rattle.exports.specs.Image.Properties.{put-counts}
 use borrow.Author.Needs.{needs}
 use Rattle.exports.proofs.image.put_counts.Statement.{statement}
 use Rattle.exports.proofs.image.put_counts.Tie as tie
-use Rattle.exports.proofs.image.put_counts.Reads as reads
-use Rattle.exports.proofs.image.put_counts.Lts as lts
 
--- src/image.rt:180:5
 slice-write-out : tie.Need-slice-write-out
 slice-write-out c = search needs
 
--- src/image.rt:181:5
 slice-write-out-2 : tie.Need-slice-write-out-2
 slice-write-out-2 c = simp length-set (omega arith)
 
--- src/image.rt:182:5
 slice-write-out-3 : tie.Need-slice-write-out-3
 slice-write-out-3 c = simp length-set (omega arith)
 
--- src/image.rt:183:5
 slice-write-out-4 : tie.Need-slice-write-out-4
 slice-write-out-4 c = search needs
 
--- src/image.rt:176:1
 same-length : tie.Need-same-length
 same-length c = search needs
 
--- src/image.rt:176:1
 returns : tie.Need-returns
 returns c = search put-counts
 

@@ -1,95 +1,72 @@
+-- `exports::image::put_kind` meets its contract.
+-- Assumes nothing.
 use native.Mathlib.Omega.{arith}
 use lib.ListN.{length-set}
 use Rattle.exports.specs.Image.Properties.{put-kind}
 use borrow.Author.Needs.{needs}
 use Rattle.exports.proofs.image.put_kind.Statement.{statement}
 use Rattle.exports.proofs.image.put_kind.Tie as tie
-use Rattle.exports.proofs.image.put_kind.Reads as reads
-use Rattle.exports.proofs.image.put_kind.Lts as lts
-use Rattle.exports.proofs.image.high.Reads as high-reads
-use Rattle.exports.proofs.image.low.Reads as low-reads
 
--- src/image.rt:199:5
 slice-write-out : tie.Need-slice-write-out
 slice-write-out c = search needs
 
--- src/image.rt:200:19
 high-requires : tie.Need-high-requires
 high-requires c κs = search needs
 
--- src/image.rt:200:9
 add-out : tie.Need-add-out
 add-out c = search needs
 
--- src/image.rt:200:5
 slice-write-out-2 : tie.Need-slice-write-out-2
 slice-write-out-2 c = simp length-set (omega arith)
 
--- src/image.rt:201:19
 low-requires : tie.Need-low-requires
 low-requires c κs = search needs
 
--- src/image.rt:201:9
 add-out-2 : tie.Need-add-out-2
 add-out-2 c = search needs
 
--- src/image.rt:201:5
 slice-write-out-3 : tie.Need-slice-write-out-3
 slice-write-out-3 c = simp length-set (omega arith)
 
--- src/image.rt:202:19
 high-requires-2 : tie.Need-high-requires-2
 high-requires-2 c κs = search needs
 
--- src/image.rt:202:9
 add-out-3 : tie.Need-add-out-3
 add-out-3 c = search needs
 
--- src/image.rt:202:5
 slice-write-out-4 : tie.Need-slice-write-out-4
 slice-write-out-4 c = simp length-set (omega arith)
 
--- src/image.rt:203:19
 low-requires-2 : tie.Need-low-requires-2
 low-requires-2 c κs = search needs
 
--- src/image.rt:203:9
 add-out-4 : tie.Need-add-out-4
 add-out-4 c = search needs
 
--- src/image.rt:203:5
 slice-write-out-5 : tie.Need-slice-write-out-5
 slice-write-out-5 c = simp length-set (omega arith)
 
--- src/image.rt:204:19
 high-requires-3 : tie.Need-high-requires-3
 high-requires-3 c κs = search needs
 
--- src/image.rt:204:9
 add-out-5 : tie.Need-add-out-5
 add-out-5 c = search needs
 
--- src/image.rt:204:5
 slice-write-out-6 : tie.Need-slice-write-out-6
 slice-write-out-6 c = simp length-set (omega arith)
 
--- src/image.rt:205:19
 low-requires-3 : tie.Need-low-requires-3
 low-requires-3 c κs = search needs
 
--- src/image.rt:205:9
 add-out-6 : tie.Need-add-out-6
 add-out-6 c = search needs
 
--- src/image.rt:205:5
 slice-write-out-7 : tie.Need-slice-write-out-7
 slice-write-out-7 c = simp length-set (omega arith)
 
--- src/image.rt:195:1
 same-length : tie.Need-same-length
 same-length c = search needs
 
--- src/image.rt:195:1
 returns : tie.Need-returns
 returns c = search put-kind
 

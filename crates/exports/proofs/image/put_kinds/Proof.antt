@@ -1,16 +1,15 @@
+-- `exports::image::put_kinds` meets its contract.
+-- Assumes nothing.
 use borrow.Author.Needs.{needs}
 use native.Mathlib.Omega.{arith}
 use mathlib.Core.Path.{_≡_, refl}
-use Prim.Native.Nat.{_≤_, _<_, _-_, _+_, _*_}
+use Prim.Native.Nat.{_≤_, _-_}
 use lib.ListN.{length}
 use Rattle.plan_bytes.specs.Put.{putTo}
 use Rattle.plan_bytes.specs.Put.Properties.{put-none, put-again, put-stop}
 use Rattle.exports.specs.Image.{kindBytesAt}
 use Rattle.exports.proofs.image.put_kinds.Statement.{statement}
 use Rattle.exports.proofs.image.put_kinds.Tie as tie
-use Rattle.exports.proofs.image.put_kinds.Reads as reads
-use Rattle.exports.proofs.image.put_kinds.Lts as lts
-use Rattle.exports.proofs.image.put_kind.Reads as put-kind-reads
 
 abbrev Inv-loop : tie.InvT-loop
 Inv-loop out₀ plan i₀ out i = (i ≤ 16) × (out ≡ putTo i (kindBytesAt plan) 28 7 out₀) × (length out ≡ length out₀)
@@ -18,47 +17,36 @@ Inv-loop out₀ plan i₀ out i = (i ≤ 16) × (out ≡ putTo i (kindBytesAt pl
 abbrev μ-loop : tie.MeasureT-loop
 μ-loop out₀ plan i₀ out i = 16 - i
 
--- src/image.rt:245:5
 loop-holds : tie.Need-loop-holds Inv-loop μ-loop
 loop-holds c = (omega arith, put-none _ _ _ _, refl)
 
--- src/image.rt:246:20
 mul-kind : tie.Need-mul-kind Inv-loop μ-loop
 mul-kind c = search needs
 
--- src/image.rt:246:20
 element-copy-out-kind : tie.Need-element-copy-out-kind Inv-loop μ-loop
 element-copy-out-kind c = search needs
 
--- src/image.rt:247:34
 mul-put-kind : tie.Need-mul-put-kind Inv-loop μ-loop
 mul-put-kind c = search needs
 
--- src/image.rt:247:29
 add-put-kind : tie.Need-add-put-kind Inv-loop μ-loop
 add-put-kind c = search needs
 
--- src/image.rt:247:9
 put-kind-requires : tie.Need-put-kind-requires Inv-loop μ-loop
 put-kind-requires c κs = search needs
 
--- src/image.rt:245:9
 add-i : tie.Need-add-i Inv-loop μ-loop
 add-i c = search needs
 
--- src/image.rt:245:5
 loop-less : tie.Need-loop-less Inv-loop μ-loop
 loop-less c = search needs
 
--- src/image.rt:245:5
 loop-again : tie.Need-loop-again Inv-loop μ-loop
 loop-again c = (omega arith, search put-again, omega (arith, c .before .before .put-kind .kept .1 .0))
 
--- src/image.rt:241:1
 same-length : tie.Need-same-length Inv-loop μ-loop
 same-length c = search needs
 
--- src/image.rt:241:1
 returns : tie.Need-returns Inv-loop μ-loop
 returns c = search put-stop
 

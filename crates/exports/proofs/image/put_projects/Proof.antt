@@ -1,16 +1,15 @@
+-- `exports::image::put_projects` meets its contract.
+-- Assumes nothing.
 use borrow.Author.Needs.{needs}
 use native.Mathlib.Omega.{arith}
 use mathlib.Core.Path.{_≡_, refl}
-use Prim.Native.Nat.{_≤_, _<_, _-_, _+_, _*_}
+use Prim.Native.Nat.{_≤_, _-_}
 use lib.ListN.{length}
 use Rattle.plan_bytes.specs.Put.{putTo}
 use Rattle.plan_bytes.specs.Put.Properties.{put-none, put-again, put-stop}
 use Rattle.exports.specs.Image.{projectBytesAt}
 use Rattle.exports.proofs.image.put_projects.Statement.{statement}
 use Rattle.exports.proofs.image.put_projects.Tie as tie
-use Rattle.exports.proofs.image.put_projects.Reads as reads
-use Rattle.exports.proofs.image.put_projects.Lts as lts
-use Rattle.exports.proofs.image.put_project.Reads as put-project-reads
 
 abbrev Inv-loop : tie.InvT-loop
 Inv-loop out₀ plan j₀ out j = (j ≤ 8) × (out ≡ putTo j (projectBytesAt plan) 4 3 out₀) × (length out ≡ length out₀)
@@ -18,47 +17,36 @@ Inv-loop out₀ plan j₀ out j = (j ≤ 8) × (out ≡ putTo j (projectBytesAt 
 abbrev μ-loop : tie.MeasureT-loop
 μ-loop out₀ plan j₀ out j = 8 - j
 
--- src/image.rt:235:5
 loop-holds : tie.Need-loop-holds Inv-loop μ-loop
 loop-holds c = (omega arith, put-none _ _ _ _, refl)
 
--- src/image.rt:236:23
 mul-project : tie.Need-mul-project Inv-loop μ-loop
 mul-project c = search needs
 
--- src/image.rt:236:23
 element-copy-out-project : tie.Need-element-copy-out-project Inv-loop μ-loop
 element-copy-out-project c = search needs
 
--- src/image.rt:237:39
 mul-put-project : tie.Need-mul-put-project Inv-loop μ-loop
 mul-put-project c = search needs
 
--- src/image.rt:237:35
 add-put-project : tie.Need-add-put-project Inv-loop μ-loop
 add-put-project c = search needs
 
--- src/image.rt:237:9
 put-project-requires : tie.Need-put-project-requires Inv-loop μ-loop
 put-project-requires c κs = search needs
 
--- src/image.rt:235:9
 add-j : tie.Need-add-j Inv-loop μ-loop
 add-j c = search needs
 
--- src/image.rt:235:5
 loop-less : tie.Need-loop-less Inv-loop μ-loop
 loop-less c = search needs
 
--- src/image.rt:235:5
 loop-again : tie.Need-loop-again Inv-loop μ-loop
 loop-again c = (omega arith, search put-again, omega (arith, c .before .before .put-project .kept .1 .0))
 
--- src/image.rt:231:1
 same-length : tie.Need-same-length Inv-loop μ-loop
 same-length c = search needs
 
--- src/image.rt:231:1
 returns : tie.Need-returns Inv-loop μ-loop
 returns c = search put-stop
 

@@ -1,100 +1,75 @@
+-- `exports::image::put_unit` meets its contract.
+-- Assumes nothing.
 use native.Mathlib.Omega.{arith}
 use lib.ListN.{length-set}
 use Rattle.exports.specs.Image.Properties.{put-unit}
 use borrow.Author.Needs.{needs}
 use Rattle.exports.proofs.image.put_unit.Statement.{statement}
 use Rattle.exports.proofs.image.put_unit.Tie as tie
-use Rattle.exports.proofs.image.put_unit.Reads as reads
-use Rattle.exports.proofs.image.put_unit.Lts as lts
-use Rattle.exports.proofs.image.flag.Reads as flag-reads
-use Rattle.exports.proofs.image.high.Reads as high-reads
-use Rattle.exports.proofs.image.low.Reads as low-reads
 
--- src/image.rt:212:15
 flag-requires : tie.Need-flag-requires
 flag-requires c κs = search needs
 
--- src/image.rt:212:5
 slice-write-out : tie.Need-slice-write-out
 slice-write-out c = search needs
 
--- src/image.rt:213:19
 cast-out : tie.Need-cast-out
 cast-out c = search needs
 
--- src/image.rt:213:9
 add-out : tie.Need-add-out
 add-out c = search needs
 
--- src/image.rt:213:5
 slice-write-out-2 : tie.Need-slice-write-out-2
 slice-write-out-2 c = simp length-set (omega arith)
 
--- src/image.rt:214:19
 cast-out-2 : tie.Need-cast-out-2
 cast-out-2 c = search needs
 
--- src/image.rt:214:9
 add-out-2 : tie.Need-add-out-2
 add-out-2 c = search needs
 
--- src/image.rt:214:5
 slice-write-out-3 : tie.Need-slice-write-out-3
 slice-write-out-3 c = simp length-set (omega arith)
 
--- src/image.rt:215:19
 cast-out-3 : tie.Need-cast-out-3
 cast-out-3 c = search needs
 
--- src/image.rt:215:9
 add-out-3 : tie.Need-add-out-3
 add-out-3 c = search needs
 
--- src/image.rt:215:5
 slice-write-out-4 : tie.Need-slice-write-out-4
 slice-write-out-4 c = simp length-set (omega arith)
 
--- src/image.rt:216:19
 cast-out-4 : tie.Need-cast-out-4
 cast-out-4 c = search needs
 
--- src/image.rt:216:9
 add-out-4 : tie.Need-add-out-4
 add-out-4 c = search needs
 
--- src/image.rt:216:5
 slice-write-out-5 : tie.Need-slice-write-out-5
 slice-write-out-5 c = simp length-set (omega arith)
 
--- src/image.rt:217:19
 high-requires : tie.Need-high-requires
 high-requires c κs = search needs
 
--- src/image.rt:217:9
 add-out-5 : tie.Need-add-out-5
 add-out-5 c = search needs
 
--- src/image.rt:217:5
 slice-write-out-6 : tie.Need-slice-write-out-6
 slice-write-out-6 c = simp length-set (omega arith)
 
--- src/image.rt:218:19
 low-requires : tie.Need-low-requires
 low-requires c κs = search needs
 
--- src/image.rt:218:9
 add-out-6 : tie.Need-add-out-6
 add-out-6 c = search needs
 
--- src/image.rt:218:5
 slice-write-out-7 : tie.Need-slice-write-out-7
 slice-write-out-7 c = simp length-set (omega arith)
 
--- src/image.rt:208:1
 same-length : tie.Need-same-length
 same-length c = search needs
 
--- src/image.rt:208:1
 returns : tie.Need-returns
 returns c = search put-unit
 

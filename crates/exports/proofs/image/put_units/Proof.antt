@@ -1,16 +1,15 @@
+-- `exports::image::put_units` meets its contract.
+-- Assumes nothing.
 use borrow.Author.Needs.{needs}
 use native.Mathlib.Omega.{arith}
 use mathlib.Core.Path.{_≡_, refl}
-use Prim.Native.Nat.{_≤_, _<_, _-_, _+_, _*_}
+use Prim.Native.Nat.{_≤_, _-_}
 use lib.ListN.{length}
 use Rattle.plan_bytes.specs.Put.{putTo}
 use Rattle.plan_bytes.specs.Put.Properties.{put-none, put-again, put-stop}
 use Rattle.exports.specs.Image.{unitBytesAt}
 use Rattle.exports.proofs.image.put_units.Statement.{statement}
 use Rattle.exports.proofs.image.put_units.Tie as tie
-use Rattle.exports.proofs.image.put_units.Reads as reads
-use Rattle.exports.proofs.image.put_units.Lts as lts
-use Rattle.exports.proofs.image.put_unit.Reads as put-unit-reads
 
 abbrev Inv-loop : tie.InvT-loop
 Inv-loop out₀ state i₀ out i = (i ≤ 16) × (out ≡ putTo i (unitBytesAt state) 144 7 out₀) × (length out ≡ length out₀)
@@ -18,47 +17,36 @@ Inv-loop out₀ state i₀ out i = (i ≤ 16) × (out ≡ putTo i (unitBytesAt s
 abbrev μ-loop : tie.MeasureT-loop
 μ-loop out₀ state i₀ out i = 16 - i
 
--- src/image.rt:255:5
 loop-holds : tie.Need-loop-holds Inv-loop μ-loop
 loop-holds c = (omega arith, put-none _ _ _ _, refl)
 
--- src/image.rt:256:20
 mul-unit : tie.Need-mul-unit Inv-loop μ-loop
 mul-unit c = search needs
 
--- src/image.rt:256:20
 element-copy-out-unit : tie.Need-element-copy-out-unit Inv-loop μ-loop
 element-copy-out-unit c = search needs
 
--- src/image.rt:257:35
 mul-put-unit : tie.Need-mul-put-unit Inv-loop μ-loop
 mul-put-unit c = search needs
 
--- src/image.rt:257:29
 add-put-unit : tie.Need-add-put-unit Inv-loop μ-loop
 add-put-unit c = search needs
 
--- src/image.rt:257:9
 put-unit-requires : tie.Need-put-unit-requires Inv-loop μ-loop
 put-unit-requires c κs = search needs
 
--- src/image.rt:255:9
 add-i : tie.Need-add-i Inv-loop μ-loop
 add-i c = search needs
 
--- src/image.rt:255:5
 loop-less : tie.Need-loop-less Inv-loop μ-loop
 loop-less c = search needs
 
--- src/image.rt:255:5
 loop-again : tie.Need-loop-again Inv-loop μ-loop
 loop-again c = (omega arith, search put-again, omega (arith, c .before .before .put-unit .kept .1 .0))
 
--- src/image.rt:251:1
 same-length : tie.Need-same-length Inv-loop μ-loop
 same-length c = search needs
 
--- src/image.rt:251:1
 returns : tie.Need-returns Inv-loop μ-loop
 returns c = search put-stop
 

@@ -1,7 +1,9 @@
+-- `exports::image::released_told` meets its contract.
+-- Assumes nothing.
 use borrow.Author.Needs.{needs}
 use native.Mathlib.Omega.{arith}
-use mathlib.Core.Path.{_≡_, refl}
-use Prim.Native.Nat.{_≤_, _<_, _-_, _+_, _*_}
+use mathlib.Core.Path.{_≡_}
+use Prim.Native.Nat.{_≤_, _-_}
 use mathlib.Core.Bool.{true}
 use Rattle.laws.specs.All.{allTo}
 use Rattle.laws.specs.All.Properties.{all-none, all-more, all-stop, all-fails}
@@ -9,8 +11,6 @@ use Rattle.laws.specs.Tests.{tests}
 use Rattle.exports.specs.Image.{releasedAt, releasedTold}
 use Rattle.exports.proofs.image.released_told.Statement.{statement}
 use Rattle.exports.proofs.image.released_told.Tie as tie
-use Rattle.exports.proofs.image.released_told.Reads as reads
-use Rattle.exports.proofs.image.released_told.Lts as lts
 
 abbrev Inv-loop : tie.InvT-loop
 Inv-loop s i₀ i = (i ≤ 16) × (true ≡ allTo i (releasedAt s))
@@ -18,40 +18,31 @@ Inv-loop s i₀ i = (i ≤ 16) × (true ≡ allTo i (releasedAt s))
 abbrev μ-loop : tie.MeasureT-loop
 μ-loop s i₀ i = 16 - i
 
--- src/image.rt:147:5
 loop-holds : tie.Need-loop-holds Inv-loop μ-loop
 loop-holds c = (omega arith, all-none _)
 
--- src/image.rt:148:24
 mul-if1 : tie.Need-mul-if1 Inv-loop μ-loop
 mul-if1 c = search needs
 
--- src/image.rt:148:18
 add-if1 : tie.Need-add-if1 Inv-loop μ-loop
 add-if1 c = search needs
 
--- src/image.rt:148:16
 shared-slice-read-if1 : tie.Need-shared-slice-read-if1 Inv-loop μ-loop
 shared-slice-read-if1 c = search needs
 
--- src/image.rt:149:13
 returns : tie.Need-returns Inv-loop μ-loop
 unfolding releasedTold
 returns c = search (all-fails, tests)
 
--- src/image.rt:147:9
 add-i : tie.Need-add-i Inv-loop μ-loop
 add-i c = search needs
 
--- src/image.rt:147:5
 loop-less : tie.Need-loop-less Inv-loop μ-loop
 loop-less c = search needs
 
--- src/image.rt:147:5
 loop-again : tie.Need-loop-again Inv-loop μ-loop
 loop-again c = (omega arith, search (all-more, tests))
 
--- src/image.rt:143:1
 returns-2 : tie.Need-returns-2 Inv-loop μ-loop
 unfolding releasedTold
 returns-2 c = search all-stop

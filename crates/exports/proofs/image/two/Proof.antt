@@ -1,40 +1,31 @@
+-- `exports::image::two` meets its contract.
+-- Assumes nothing.
 use Rattle.exports.specs.Image.Properties.{two-at}
 use borrow.Author.Needs.{needs}
 use Rattle.exports.proofs.image.two.Statement.{statement}
 use Rattle.exports.proofs.image.two.Tie as tie
-use Rattle.exports.proofs.image.two.Reads as reads
-use Rattle.exports.proofs.image.two.Lts as lts
-use Rattle.exports.proofs.image.wide.Reads as wide-reads
 
--- src/image.rt:32:10
 shared-slice-read-wide : tie.Need-shared-slice-read-wide
 shared-slice-read-wide c = search needs
 
--- src/image.rt:32:5
 wide-requires : tie.Need-wide-requires
 wide-requires c κs = search needs
 
--- src/image.rt:32:5
 mul-result : tie.Need-mul-result
 mul-result c = search needs
 
--- src/image.rt:32:32
 add-wide : tie.Need-add-wide
 add-wide c = search needs
 
--- src/image.rt:32:30
 shared-slice-read-wide-2 : tie.Need-shared-slice-read-wide-2
 shared-slice-read-wide-2 c = search needs
 
--- src/image.rt:32:25
 wide-requires-2 : tie.Need-wide-requires-2
 wide-requires-2 c κs = search needs
 
--- src/image.rt:32:5
 add-result : tie.Need-add-result
 add-result c = search needs
 
--- src/image.rt:28:1
 returns : tie.Need-returns
 returns c = search two-at
 

@@ -1,3 +1,5 @@
+-- `layout::table::first_cells` meets its contract.
+-- Assumes nothing.
 use mathlib.Core.Path.{_≡_, refl, sym}
 use Prim.Native.Nat.{_≤_, _-_}
 use native.Mathlib.Omega.{arith}
@@ -10,8 +12,6 @@ use Rattle.layout.specs.Layout.{firstCell}
 use Rattle.layout.specs.Layout.Properties.{first-start}
 use Rattle.layout.proofs.table.first_cells.Statement.{statement}
 use Rattle.layout.proofs.table.first_cells.Tie as tie
-use Rattle.layout.proofs.table.first_cells.Reads as reads
-use Rattle.layout.proofs.table.first_cells.Lts as lts
 
 abbrev Inv-loop : tie.InvT-loop
 Inv-loop plan first₀ cell₀ j₀ j-end first cell j = (j ≤ j-end) × (j-end ≡ plan .projects) × (first ≡ written j (firstCell plan) (replicate 9 0)) × (cell ≡ firstCell plan j)
@@ -19,63 +19,48 @@ Inv-loop plan first₀ cell₀ j₀ j-end first cell j = (j ≤ j-end) × (j-end
 abbrev μ-loop : tie.MeasureT-loop
 μ-loop plan first₀ cell₀ j₀ j-end first cell j = j-end - j
 
--- src/table.rt:42:5
 loop-holds : tie.Need-loop-holds Inv-loop μ-loop
 loop-holds c = (omega arith, refl, written-none _ _, sym (first-start _))
 
--- src/table.rt:43:15
 cast-first : tie.Need-cast-first Inv-loop μ-loop
 cast-first c = search needs
 
--- src/table.rt:43:9
 mul-first : tie.Need-mul-first Inv-loop μ-loop
 mul-first c = search needs
 
--- src/table.rt:43:9
 array-write-first : tie.Need-array-write-first Inv-loop μ-loop
 array-write-first c = search needs
 
--- src/table.rt:44:30
 cast-cell : tie.Need-cast-cell Inv-loop μ-loop
 cast-cell c = search needs
 
--- src/table.rt:44:17
 mul-cell : tie.Need-mul-cell Inv-loop μ-loop
 mul-cell c = search needs
 
--- src/table.rt:44:17
 element-copy-out-cell : tie.Need-element-copy-out-cell Inv-loop μ-loop
 element-copy-out-cell c = search needs
 
--- src/table.rt:44:9
 add-cell : tie.Need-add-cell Inv-loop μ-loop
 add-cell c = let start = c .before .before in omega (arith, first-cells-most (start .args .t1) (c .before .loop .j) (c .before .loop .cell) (start .pre) (search needs) (search))
 
--- src/table.rt:42:9
 add-j : tie.Need-add-j Inv-loop μ-loop
 add-j c = search needs
 
--- src/table.rt:42:5
 loop-less : tie.Need-loop-less Inv-loop μ-loop
 loop-less c = search needs
 
--- src/table.rt:42:5
 loop-again : tie.Need-loop-again Inv-loop μ-loop
 loop-again c = (omega arith, refl, search written-again, search first-cells-more)
 
--- src/table.rt:46:11
 cast-first-2 : tie.Need-cast-first-2 Inv-loop μ-loop
 cast-first-2 c = search needs
 
--- src/table.rt:46:5
 mul-first-2 : tie.Need-mul-first-2 Inv-loop μ-loop
 mul-first-2 c = search needs
 
--- src/table.rt:46:5
 array-write-first-2 : tie.Need-array-write-first-2 Inv-loop μ-loop
 array-write-first-2 c = search needs
 
--- src/table.rt:36:1
 returns : tie.Need-returns Inv-loop μ-loop
 returns c = search first-cells-end
 

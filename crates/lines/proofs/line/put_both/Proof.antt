@@ -1,12 +1,10 @@
+-- `lines::line::put_both` meets its contract.
+-- Assumes nothing.
 use native.Mathlib.Omega.{arith}
 use Rattle.lines.specs.Text.Properties.{puts-then}
 use borrow.Author.Needs.{needs}
 use Rattle.lines.proofs.line.put_both.Statement.{statement}
 use Rattle.lines.proofs.line.put_both.Tie as tie
-use Rattle.lines.proofs.line.put_both.Reads as reads
-use Rattle.lines.proofs.line.put_both.Lts as lts
-use Rattle.lines.proofs.text.put.Reads as put-reads
-use Rattle.lines.proofs.text.put_number.Reads as put-number-reads
 
 put-requires : tie.Need-put-requires
 put-requires c κs = search needs

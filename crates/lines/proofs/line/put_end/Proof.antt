@@ -1,13 +1,11 @@
+-- `lines::line::put_end` meets its contract.
+-- Assumes nothing.
 use native.Mathlib.Omega.{arith}
 use Rattle.lines.specs.Text.Properties.{puts-then}
 use Rattle.lines.specs.Line.{endLine}
 use borrow.Author.Needs.{needs}
 use Rattle.lines.proofs.line.put_end.Statement.{statement}
 use Rattle.lines.proofs.line.put_end.Tie as tie
-use Rattle.lines.proofs.line.put_end.Reads as reads
-use Rattle.lines.proofs.line.put_end.Lts as lts
-use Rattle.lines.proofs.line.put_both.Reads as put-both-reads
-use Rattle.lines.proofs.text.put.Reads as put-reads
 
 slice-aggregate-put-both : tie.Need-slice-aggregate-put-both
 slice-aggregate-put-both c = search needs

@@ -1,13 +1,10 @@
+-- `lines::line::put_outcome` meets its contract.
+-- Assumes nothing.
 use native.Mathlib.Omega.{arith}
 use Rattle.lines.specs.Line.Properties.{outcome-good, outcome-no}
 use borrow.Author.Needs.{needs}
 use Rattle.lines.proofs.line.put_outcome.Statement.{statement}
 use Rattle.lines.proofs.line.put_outcome.Tie as tie
-use Rattle.lines.proofs.line.put_outcome.Reads as reads
-use Rattle.lines.proofs.line.put_outcome.Lts as lts
-use Rattle.answer.proofs.Answer.number.Reads as number-reads
-use Rattle.lines.proofs.line.put_both.Reads as put-both-reads
-use Rattle.lines.proofs.text.put.Reads as put-reads
 
 enum-told : tie.Need-enum-told
 enum-told c = search needs

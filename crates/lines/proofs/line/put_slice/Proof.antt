@@ -1,14 +1,10 @@
+-- `lines::line::put_slice` meets its contract.
+-- Assumes nothing.
 use native.Mathlib.Omega.{arith}
 use Rattle.lines.specs.Line.Properties.{slice-good, slice-no}
 use borrow.Author.Needs.{needs}
 use Rattle.lines.proofs.line.put_slice.Statement.{statement}
 use Rattle.lines.proofs.line.put_slice.Tie as tie
-use Rattle.lines.proofs.line.put_slice.Reads as reads
-use Rattle.lines.proofs.line.put_slice.Lts as lts
-use Rattle.lines.proofs.line.put_outcome.Reads as put-outcome-reads
-use Rattle.lines.proofs.line.put_served.Reads as put-served-reads
-use Rattle.lines.proofs.line.row_cards.Reads as row-cards-reads
-use Rattle.lines.proofs.text.put.Reads as put-reads
 
 enum-told : tie.Need-enum-told
 enum-told c = search needs

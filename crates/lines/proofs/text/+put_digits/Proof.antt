@@ -1,3 +1,5 @@
+-- `lines::text::put_digits` meets its contract.
+-- Assumes nothing.
 use Rattle.lines.specs.Text.Properties.{room-after}
 use native.Mathlib.Omega.{arith}
 use borrow.Author.Needs.{needs}

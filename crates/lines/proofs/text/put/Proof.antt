@@ -1,3 +1,5 @@
+-- `lines::text::put` meets its contract.
+-- Assumes nothing.
 use mathlib.Core.Path.{_≡_, refl}
 use Prim.Native.Nat.{_≤_, _-_}
 use native.Mathlib.Omega.{arith}
@@ -7,8 +9,6 @@ use borrow.Author.Needs.{needs}
 use Rattle.lines.specs.Text.Properties.{word-again, word-stop}
 use Rattle.lines.proofs.text.put.Statement.{statement}
 use Rattle.lines.proofs.text.put.Tie as tie
-use Rattle.lines.proofs.text.put.Reads as reads
-use Rattle.lines.proofs.text.put.Lts as lts
 
 abbrev Inv-loop : tie.InvT-loop
 Inv-loop out₀ at word i₀ i-end out i = (i ≤ i-end) × (i-end ≡ length word) × (out ≡ sets out₀ at (take i word)) × (length out ≡ length out₀)

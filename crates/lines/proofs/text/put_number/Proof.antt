@@ -1,10 +1,9 @@
+-- `lines::text::put_number` meets its contract.
+-- Assumes nothing.
 use Rattle.lines.specs.Text.Properties.{room-ten, ends-ten}
 use borrow.Author.Needs.{needs}
 use Rattle.lines.proofs.text.put_number.Statement.{statement}
 use Rattle.lines.proofs.text.put_number.Tie as tie
-use Rattle.lines.proofs.text.put_number.Reads as reads
-use Rattle.lines.proofs.text.put_number.Lts as lts
-use Rattle.lines.proofs.text.put_digits.Reads as put-digits-reads
 
 put-digits-requires : tie.Need-put-digits-requires
 put-digits-requires c κs = search room-ten

@@ -1,26 +1,22 @@
+-- `plan::Kind::is_empty` meets its contract.
+-- Assumes nothing.
 use Rattle.laws.specs.Tests.{tests}
 use Rattle.plan.specs.Order.{emptyKind}
 use Rattle.plan.proofs.Kind.is_empty.Statement.{statement}
 use Rattle.plan.proofs.Kind.is_empty.Tie as tie
-use Rattle.plan.proofs.Kind.is_empty.Reads as reads
-use Rattle.plan.proofs.Kind.is_empty.Lts as lts
 
--- src/check.rt:47:13
 returns : tie.Need-returns
 unfolding emptyKind
 returns c = search tests
 
--- src/check.rt:50:13
 returns-2 : tie.Need-returns-2
 unfolding emptyKind
 returns-2 c = search tests
 
--- src/check.rt:53:13
 returns-3 : tie.Need-returns-3
 unfolding emptyKind
 returns-3 c = search tests
 
--- src/check.rt:43:5
 returns-4 : tie.Need-returns-4
 unfolding emptyKind
 returns-4 c = search tests

@@ -1,26 +1,22 @@
+-- `plan::Kind::timed` meets its contract.
+-- Assumes nothing.
 use Rattle.laws.specs.Tests.{tests}
 use Rattle.plan.specs.Order.{timed}
 use Rattle.plan.proofs.Kind.timed.Statement.{statement}
 use Rattle.plan.proofs.Kind.timed.Tie as tie
-use Rattle.plan.proofs.Kind.timed.Reads as reads
-use Rattle.plan.proofs.Kind.timed.Lts as lts
 
--- src/check.rt:62:13
 returns : tie.Need-returns
 unfolding timed
 returns c = search tests
 
--- src/check.rt:65:13
 returns-2 : tie.Need-returns-2
 unfolding timed
 returns-2 c = search tests
 
--- src/check.rt:68:13
 returns-3 : tie.Need-returns-3
 unfolding timed
 returns-3 c = search tests
 
--- src/check.rt:58:5
 returns-4 : tie.Need-returns-4
 unfolding timed
 returns-4 c = search tests

@@ -1,3 +1,5 @@
+-- `plan::Plan::budgets` meets its contract.
+-- Assumes nothing.
 use mathlib.Core.Path.{_≡_, refl}
 use Prim.Native.Nat.{_≤_, _-_, _*_}
 use native.Mathlib.Omega.{arith}
@@ -7,9 +9,6 @@ use Rattle.laws.specs.Sum.Properties.{sum-none, sum-again, sum-stop}
 use Rattle.plan.specs.Order.{budgetOf, budgets}
 use Rattle.plan.proofs.Plan.budgets.Statement.{statement}
 use Rattle.plan.proofs.Plan.budgets.Tie as tie
-use Rattle.plan.proofs.Plan.budgets.Reads as reads
-use Rattle.plan.proofs.Plan.budgets.Lts as lts
-use Rattle.plan.proofs.Project.cells.Reads as cells-reads
 
 abbrev Inv-loop : tie.InvT-loop
 Inv-loop self sum₀ j₀ j-end sum j = (j ≤ j-end) × (j-end ≡ self .projects) × (sum ≡ sumTo j (budgetOf self)) × (sum ≤ 65535 * j)
@@ -17,43 +16,33 @@ Inv-loop self sum₀ j₀ j-end sum j = (j ≤ j-end) × (j-end ≡ self .projec
 abbrev μ-loop : tie.MeasureT-loop
 μ-loop self sum₀ j₀ j-end sum j = j-end - j
 
--- src/check.rt:191:9
 loop-holds : tie.Need-loop-holds Inv-loop μ-loop
 loop-holds c = (omega arith, refl, sum-none _, omega arith)
 
--- src/check.rt:192:33
 cast-cells : tie.Need-cast-cells Inv-loop μ-loop
 cast-cells c = search needs
 
--- src/check.rt:192:20
 mul-cells : tie.Need-mul-cells Inv-loop μ-loop
 mul-cells c = search needs
 
--- src/check.rt:192:20
 element-copy-out-cells : tie.Need-element-copy-out-cells Inv-loop μ-loop
 element-copy-out-cells c = search needs
 
--- src/check.rt:192:20
 cells-requires : tie.Need-cells-requires Inv-loop μ-loop
 cells-requires c κs = search needs
 
--- src/check.rt:192:13
 add-sum : tie.Need-add-sum Inv-loop μ-loop
 add-sum c = search needs
 
--- src/check.rt:191:13
 add-j : tie.Need-add-j Inv-loop μ-loop
 add-j c = search needs
 
--- src/check.rt:191:9
 loop-less : tie.Need-loop-less Inv-loop μ-loop
 loop-less c = search needs
 
--- src/check.rt:191:9
 loop-again : tie.Need-loop-again Inv-loop μ-loop
 loop-again c = (omega arith, search, search sum-again, omega arith)
 
--- src/check.rt:186:5
 returns : tie.Need-returns Inv-loop μ-loop
 unfolding budgets
 returns c = search sum-stop

@@ -1,52 +1,41 @@
+-- `plan::Plan::check` meets its contract.
+-- Assumes nothing.
 use Rattle.answer.specs.Answer.Properties.{opened-no, opened-on}
 use Rattle.plan.specs.Order.{checked}
 use Rattle.plan.specs.Order.Properties.{projects-opened, kinds-opened}
 use borrow.Author.Needs.{needs}
 use Rattle.plan.proofs.Plan.check.Statement.{statement}
 use Rattle.plan.proofs.Plan.check.Tie as tie
-use Rattle.plan.proofs.Plan.check.Reads as reads
-use Rattle.plan.proofs.Plan.check.Lts as lts
-use Rattle.plan.proofs.Plan.ranges.Reads as ranges-reads
-use Rattle.plan.proofs.Plan.sizes.Reads as sizes-reads
-use Rattle.plan.proofs.Plan.unused.Reads as unused-reads
 
--- src/check.rt:227:13
 sizes-requires : tie.Need-sizes-requires
 sizes-requires c κs = search needs
 
 enum-told : tie.Need-enum-told
 enum-told c = search needs
 
--- src/check.rt:229:13
 enum-told-2 : tie.Need-enum-told-2
 enum-told-2 c = search needs
 
--- src/check.rt:229:13
 returns : tie.Need-returns
 unfolding checked
 returns c = search (opened-no, opened-on)
 
--- src/check.rt:231:13
 unused-requires : tie.Need-unused-requires
 unused-requires c κs = search needs
 
 enum-told-3 : tie.Need-enum-told-3
 enum-told-3 c = search needs
 
--- src/check.rt:233:13
 enum-told-4 : tie.Need-enum-told-4
 enum-told-4 c = search needs
 
--- src/check.rt:233:13
 returns-2 : tie.Need-returns-2
 unfolding checked
 returns-2 c = search (opened-no, opened-on)
 
--- src/check.rt:235:9
 ranges-requires : tie.Need-ranges-requires
 ranges-requires c κs = (search projects-opened, search kinds-opened)
 
--- src/check.rt:224:5
 returns-3 : tie.Need-returns-3
 unfolding checked
 returns-3 c = search (opened-no, opened-on)

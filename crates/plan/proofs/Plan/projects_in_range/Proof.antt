@@ -1,3 +1,5 @@
+-- `plan::Plan::projects_in_range` meets its contract.
+-- Assumes nothing.
 use mathlib.Core.Path.{_≡_, refl}
 use Prim.Native.Nat.{_≤_, _-_}
 use native.Mathlib.Omega.{arith}
@@ -8,9 +10,6 @@ use Rattle.answer.specs.Answer.Properties.{each-none, each-more, each-stop, eac
 use Rattle.plan.specs.Order.{projectInRange, projectsInRange}
 use Rattle.plan.proofs.Plan.projects_in_range.Statement.{statement}
 use Rattle.plan.proofs.Plan.projects_in_range.Tie as tie
-use Rattle.plan.proofs.Plan.projects_in_range.Reads as reads
-use Rattle.plan.proofs.Plan.projects_in_range.Lts as lts
-use Rattle.plan.proofs.Project.in_range.Reads as in-range-reads
 
 abbrev Inv-loop : tie.InvT-loop
 Inv-loop self j₀ j-end j = (j ≤ j-end) × (j-end ≡ self .projects) × (Good ≡ eachTo j (projectInRange self))
@@ -18,44 +17,34 @@ Inv-loop self j₀ j-end j = (j ≤ j-end) × (j-end ≡ self .projects) × (Goo
 abbrev μ-loop : tie.MeasureT-loop
 μ-loop self j₀ j-end j = j-end - j
 
--- src/check.rt:159:9
 loop-holds : tie.Need-loop-holds Inv-loop μ-loop
 loop-holds c = (omega arith, refl, each-none _)
 
--- src/check.rt:160:30
 cast-in-range : tie.Need-cast-in-range Inv-loop μ-loop
 cast-in-range c = search needs
 
--- src/check.rt:160:17
 mul-in-range : tie.Need-mul-in-range Inv-loop μ-loop
 mul-in-range c = search needs
 
--- src/check.rt:160:17
 element-copy-out-in-range : tie.Need-element-copy-out-in-range Inv-loop μ-loop
 element-copy-out-in-range c = search needs
 
--- src/check.rt:160:17
 in-range-requires : tie.Need-in-range-requires Inv-loop μ-loop
 in-range-requires c κs = search needs
 
--- src/check.rt:161:17
 returns : tie.Need-returns Inv-loop μ-loop
 unfolding projectsInRange
 returns c = search (each-refused, refused)
 
--- src/check.rt:159:13
 add-j : tie.Need-add-j Inv-loop μ-loop
 add-j c = search needs
 
--- src/check.rt:159:9
 loop-less : tie.Need-loop-less Inv-loop μ-loop
 loop-less c = search needs
 
--- src/check.rt:159:9
 loop-again : tie.Need-loop-again Inv-loop μ-loop
 loop-again c = (omega arith, search, each-more _ _ (search) (search passed))
 
--- src/check.rt:155:5
 returns-2 : tie.Need-returns-2 Inv-loop μ-loop
 unfolding projectsInRange
 returns-2 c = search each-stop

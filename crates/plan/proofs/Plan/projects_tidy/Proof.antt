@@ -1,3 +1,5 @@
+-- `plan::Plan::projects_tidy` meets its contract.
+-- Assumes nothing.
 use mathlib.Core.Path.{_≡_, refl}
 use mathlib.Core.Bool.{true}
 use Prim.Native.Nat.{_≤_, _-_}
@@ -9,9 +11,6 @@ use Rattle.plan.specs.Order.{tidyProject, tidyProjects}
 use Rattle.plan.specs.Order.Properties.{used-place, empty-place, full-place}
 use Rattle.plan.proofs.Plan.projects_tidy.Statement.{statement}
 use Rattle.plan.proofs.Plan.projects_tidy.Tie as tie
-use Rattle.plan.proofs.Plan.projects_tidy.Reads as reads
-use Rattle.plan.proofs.Plan.projects_tidy.Lts as lts
-use Rattle.plan.proofs.Project.is_empty.Reads as is-empty-reads
 
 abbrev Inv-loop : tie.InvT-loop
 Inv-loop self used j₀ j = (j ≤ 8) × (used ≡ self .projects) × (true ≡ allTo j (tidyProject self))
@@ -19,56 +18,43 @@ Inv-loop self used j₀ j = (j ≤ 8) × (used ≡ self .projects) × (true ≡ 
 abbrev μ-loop : tie.MeasureT-loop
 μ-loop self used j₀ j = 8 - j
 
--- src/check.rt:106:20
 cast-used : tie.Need-cast-used Inv-loop μ-loop
 cast-used c = search needs
 
--- src/check.rt:107:9
 loop-holds : tie.Need-loop-holds Inv-loop μ-loop
 loop-holds c = (omega arith, refl, all-none _)
 
--- src/check.rt:109:17
 add-j : tie.Need-add-j Inv-loop μ-loop
 add-j c = omega arith
 
--- src/check.rt:107:9
 loop-less : tie.Need-loop-less Inv-loop μ-loop
 loop-less c = omega arith
 
--- src/check.rt:107:9
 loop-again : tie.Need-loop-again Inv-loop μ-loop
 loop-again c = (omega arith, search, all-more _ _ (search) (search used-place))
 
--- src/check.rt:111:17
 mul-is-empty : tie.Need-mul-is-empty Inv-loop μ-loop
 mul-is-empty c = omega arith
 
--- src/check.rt:111:17
 element-copy-out-is-empty : tie.Need-element-copy-out-is-empty Inv-loop μ-loop
 element-copy-out-is-empty c = search needs
 
--- src/check.rt:111:17
 is-empty-requires : tie.Need-is-empty-requires Inv-loop μ-loop
 is-empty-requires c κs = search needs
 
--- src/check.rt:112:17
 returns : tie.Need-returns Inv-loop μ-loop
 unfolding tidyProjects
 returns c = search (all-fails, full-place)
 
--- src/check.rt:107:13
 add-j-2 : tie.Need-add-j-2 Inv-loop μ-loop
 add-j-2 c = omega arith
 
--- src/check.rt:107:9
 loop-less-2 : tie.Need-loop-less-2 Inv-loop μ-loop
 loop-less-2 c = omega arith
 
--- src/check.rt:107:9
 loop-again-2 : tie.Need-loop-again-2 Inv-loop μ-loop
 loop-again-2 c = (omega arith, search, all-more _ _ (search) (search empty-place))
 
--- src/check.rt:103:5
 returns-2 : tie.Need-returns-2 Inv-loop μ-loop
 unfolding tidyProjects
 returns-2 c = search all-stop

@@ -1,76 +1,59 @@
+-- `plan::Plan::sized` meets its contract.
+-- Assumes nothing.
 use Rattle.laws.specs.Tests.{conjunction}
 use Rattle.plan.specs.Order.{sized}
 use borrow.Author.Needs.{needs}
 use Rattle.plan.proofs.Plan.sized.Statement.{statement}
 use Rattle.plan.proofs.Plan.sized.Tie as tie
-use Rattle.plan.proofs.Plan.sized.Reads as reads
-use Rattle.plan.proofs.Plan.sized.Lts as lts
-use Rattle.plan.proofs.check.within.Reads as within-reads
 
--- src/check.rt:90:20
 cast-within : tie.Need-cast-within
 cast-within c = search needs
 
--- src/check.rt:90:39
 cast-within-2 : tie.Need-cast-within-2
 cast-within-2 c = search needs
 
--- src/check.rt:90:13
 within-requires : tie.Need-within-requires
 within-requires c κs = search needs
 
--- src/check.rt:91:13
 returns : tie.Need-returns
 unfolding sized
 returns c = search conjunction
 
--- src/check.rt:93:20
 cast-within-3 : tie.Need-cast-within-3
 cast-within-3 c = search needs
 
--- src/check.rt:93:42
 cast-within-4 : tie.Need-cast-within-4
 cast-within-4 c = search needs
 
--- src/check.rt:93:13
 within-requires-2 : tie.Need-within-requires-2
 within-requires-2 c κs = search needs
 
--- src/check.rt:94:13
 returns-2 : tie.Need-returns-2
 unfolding sized
 returns-2 c = search conjunction
 
--- src/check.rt:96:20
 cast-within-5 : tie.Need-cast-within-5
 cast-within-5 c = search needs
 
--- src/check.rt:96:39
 cast-within-6 : tie.Need-cast-within-6
 cast-within-6 c = search needs
 
--- src/check.rt:96:13
 within-requires-3 : tie.Need-within-requires-3
 within-requires-3 c κs = search needs
 
--- src/check.rt:97:13
 returns-3 : tie.Need-returns-3
 unfolding sized
 returns-3 c = search conjunction
 
--- src/check.rt:99:16
 cast-within-7 : tie.Need-cast-within-7
 cast-within-7 c = search needs
 
--- src/check.rt:99:35
 cast-within-8 : tie.Need-cast-within-8
 cast-within-8 c = search needs
 
--- src/check.rt:99:9
 within-requires-4 : tie.Need-within-requires-4
 within-requires-4 c κs = search needs
 
--- src/check.rt:87:5
 returns-4 : tie.Need-returns-4
 unfolding sized
 returns-4 c = search conjunction

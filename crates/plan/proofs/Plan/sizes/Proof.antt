@@ -1,22 +1,18 @@
+-- `plan::Plan::sizes` meets its contract.
+-- Assumes nothing.
 use Rattle.answer.specs.Answer.Properties.{stages}
 use Rattle.plan.specs.Order.{sizes}
 use borrow.Author.Needs.{needs}
 use Rattle.plan.proofs.Plan.sizes.Statement.{statement}
 use Rattle.plan.proofs.Plan.sizes.Tie as tie
-use Rattle.plan.proofs.Plan.sizes.Reads as reads
-use Rattle.plan.proofs.Plan.sizes.Lts as lts
-use Rattle.plan.proofs.Plan.sized.Reads as sized-reads
 
--- src/check.rt:137:13
 sized-requires : tie.Need-sized-requires
 sized-requires c κs = search needs
 
--- src/check.rt:138:13
 returns : tie.Need-returns
 unfolding sizes
 returns c = search stages
 
--- src/check.rt:134:5
 returns-2 : tie.Need-returns-2
 unfolding sizes
 returns-2 c = search stages

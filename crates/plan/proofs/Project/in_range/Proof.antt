@@ -1,3 +1,5 @@
+-- `plan::Project::in_range` meets its contract.
+-- Assumes nothing.
 use Prim.Native.Nat.{_≤_}
 use native.Mathlib.Omega.{arith}
 use native.Mathlib.Nat.{mul-le-mul}
@@ -6,28 +8,20 @@ use Rattle.plan.specs.Order.{inRange}
 use borrow.Author.Needs.{needs}
 use Rattle.plan.proofs.Project.in_range.Statement.{statement}
 use Rattle.plan.proofs.Project.in_range.Tie as tie
-use Rattle.plan.proofs.Project.in_range.Reads as reads
-use Rattle.plan.proofs.Project.in_range.Lts as lts
-use Rattle.plan.proofs.check.within.Reads as within-reads
 
--- src/check.rt:35:20
 cast-within : tie.Need-cast-within
 cast-within c = search needs
 
--- src/check.rt:35:13
 within-requires : tie.Need-within-requires
 within-requires c κs = search needs
 
--- src/check.rt:36:13
 returns : tie.Need-returns
 unfolding inRange
 returns c = search conjunction
 
--- src/check.rt:38:29
 cast-within-2 : tie.Need-cast-within-2
 cast-within-2 c = search needs
 
--- src/check.rt:38:29
 mul-within : tie.Need-mul-within
 mul-within c =
     let v = c .before .before .before .before .args in
@@ -35,11 +29,9 @@ mul-within c =
     let q : v .frame ≤ 255 = omega arith in
     omega (arith, mul-le-mul p q)
 
--- src/check.rt:38:9
 within-requires-2 : tie.Need-within-requires-2
 within-requires-2 c κs = search needs
 
--- src/check.rt:32:5
 returns-2 : tie.Need-returns-2
 unfolding inRange
 returns-2 c = search conjunction

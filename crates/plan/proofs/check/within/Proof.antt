@@ -1,16 +1,14 @@
+-- `plan::check::within` meets its contract.
+-- Assumes nothing.
 use Rattle.laws.specs.Tests.{tests}
 use Rattle.plan.specs.Order.{within}
 use Rattle.plan.proofs.check.within.Statement.{statement}
 use Rattle.plan.proofs.check.within.Tie as tie
-use Rattle.plan.proofs.check.within.Reads as reads
-use Rattle.plan.proofs.check.within.Lts as lts
 
--- src/check.rt:17:9
 returns : tie.Need-returns
 unfolding within
 returns c = search tests
 
--- src/check.rt:13:1
 returns-2 : tie.Need-returns-2
 unfolding within
 returns-2 c = search tests

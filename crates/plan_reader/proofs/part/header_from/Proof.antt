@@ -1,3 +1,5 @@
+-- `plan_reader::part::header_from` meets its contract.
+-- Assumes nothing.
 use denote.Ref.{now}
 use Rattle.plan_bytes.specs.Parts.{headed}
 use Rattle.plan_bytes.specs.Reading.{headerSpare}
@@ -5,40 +7,28 @@ use Rattle.plan_bytes.specs.Parts.Properties.{header-fields}
 use borrow.Author.Needs.{needs}
 use Rattle.plan_reader.proofs.part.header_from.Statement.{statement}
 use Rattle.plan_reader.proofs.part.header_from.Tie as tie
-use Rattle.plan_reader.proofs.part.header_from.Reads as reads
-use Rattle.plan_reader.proofs.part.header_from.Lts as lts
-use Rattle.plan.proofs.Plan.empty.Reads as empty-reads
-use Rattle.plan_reader.proofs.part.number.Reads as number-reads
 
--- src/part.rt:58:9
 number-requires : tie.Need-number-requires
 number-requires c κs = search needs
 
--- src/part.rt:59:9
 empty-requires : tie.Need-empty-requires
 empty-requires c κs = search needs
 
--- src/part.rt:60:18
 cast-plan : tie.Need-cast-plan
 cast-plan c = search needs
 
--- src/part.rt:61:21
 cast-plan-2 : tie.Need-cast-plan-2
 cast-plan-2 c = search needs
 
--- src/part.rt:62:18
 cast-plan-3 : tie.Need-cast-plan-3
 cast-plan-3 c = search needs
 
--- src/part.rt:63:18
 cast-plan-4 : tie.Need-cast-plan-4
 cast-plan-4 c = search needs
 
--- src/part.rt:66:16
 cast-t6 : tie.Need-cast-t6
 cast-t6 c = search needs
 
--- src/part.rt:54:1
 returns : tie.Need-returns
 unfolding headed headerSpare
 returns c = let e = header-fields (now (c .before .before .before .args .s)) (c .before .number .result) (c .before .number .ensures .0) in (rw (c .empty .ensures, ← e), rw (← e))

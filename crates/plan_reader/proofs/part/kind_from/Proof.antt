@@ -1,3 +1,5 @@
+-- `plan_reader::part::kind_from` meets its contract.
+-- Assumes nothing.
 use denote.Ref.{now}
 use Rattle.plan_bytes.specs.Parts.{kindFrom}
 use Rattle.plan_bytes.specs.Reading.{kindSpare}
@@ -5,35 +7,25 @@ use Rattle.plan_bytes.specs.Parts.Properties.{kind-fields}
 use borrow.Author.Needs.{needs}
 use Rattle.plan_reader.proofs.part.kind_from.Statement.{statement}
 use Rattle.plan_reader.proofs.part.kind_from.Tie as tie
-use Rattle.plan_reader.proofs.part.kind_from.Reads as reads
-use Rattle.plan_reader.proofs.part.kind_from.Lts as lts
-use Rattle.plan_reader.proofs.part.number.Reads as number-reads
 
--- src/part.rt:90:9
 number-requires : tie.Need-number-requires
 number-requires c κs = search needs
 
--- src/part.rt:93:22
 cast-t5 : tie.Need-cast-t5
 cast-t5 c = search needs
 
--- src/part.rt:94:25
 cast-t8 : tie.Need-cast-t8
 cast-t8 c = search needs
 
--- src/part.rt:95:23
 cast-t11 : tie.Need-cast-t11
 cast-t11 c = search needs
 
--- src/part.rt:96:21
 cast-t14 : tie.Need-cast-t14
 cast-t14 c = search needs
 
--- src/part.rt:98:16
 cast-t17 : tie.Need-cast-t17
 cast-t17 c = search needs
 
--- src/part.rt:86:1
 returns : tie.Need-returns
 unfolding kindFrom kindSpare
 returns c = let e = kind-fields (now (c .before .before .args .s)) (c .number .result) (c .number .ensures .0) in (rw (← e), rw (← e))

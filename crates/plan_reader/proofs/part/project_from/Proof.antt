@@ -1,3 +1,5 @@
+-- `plan_reader::part::project_from` meets its contract.
+-- Assumes nothing.
 use denote.Ref.{now}
 use Rattle.plan_bytes.specs.Parts.{projectFrom}
 use Rattle.plan_bytes.specs.Reading.{projectSpare}
@@ -5,27 +7,19 @@ use Rattle.plan_bytes.specs.Parts.Properties.{project-fields}
 use borrow.Author.Needs.{needs}
 use Rattle.plan_reader.proofs.part.project_from.Statement.{statement}
 use Rattle.plan_reader.proofs.part.project_from.Tie as tie
-use Rattle.plan_reader.proofs.part.project_from.Reads as reads
-use Rattle.plan_reader.proofs.part.project_from.Lts as lts
-use Rattle.plan_reader.proofs.part.number.Reads as number-reads
 
--- src/part.rt:75:9
 number-requires : tie.Need-number-requires
 number-requires c κs = search needs
 
--- src/part.rt:78:22
 cast-t5 : tie.Need-cast-t5
 cast-t5 c = search needs
 
--- src/part.rt:79:21
 cast-t8 : tie.Need-cast-t8
 cast-t8 c = search needs
 
--- src/part.rt:81:16
 cast-t11 : tie.Need-cast-t11
 cast-t11 c = search needs
 
--- src/part.rt:71:1
 returns : tie.Need-returns
 unfolding projectFrom projectSpare
 returns c = let e = project-fields (now (c .before .before .args .s)) (c .number .result) (c .number .ensures .0) in (rw (← e), rw (← e))

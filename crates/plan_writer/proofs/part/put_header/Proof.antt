@@ -1,86 +1,66 @@
+-- `plan_writer::part::put_header` meets its contract.
+-- Assumes nothing.
 use lib.ListN.{length-set}
 use native.Mathlib.Omega.{arith}
 use Rattle.plan_bytes.specs.Parts.Properties.{put-header}
 use borrow.Author.Needs.{needs}
 use Rattle.plan_writer.proofs.part.put_header.Statement.{statement}
 use Rattle.plan_writer.proofs.part.put_header.Tie as tie
-use Rattle.plan_writer.proofs.part.put_header.Reads as reads
-use Rattle.plan_writer.proofs.part.put_header.Lts as lts
-use Rattle.plan_writer.proofs.part.wide.Reads as wide-reads
 
--- src/part.rt:107:18
 wide-requires : tie.Need-wide-requires
 wide-requires c κs = search needs
 
--- src/part.rt:107:18
 mul-fields : tie.Need-mul-fields
 mul-fields c = search needs
 
--- src/part.rt:108:11
 wide-requires-2 : tie.Need-wide-requires-2
 wide-requires-2 c κs = search needs
 
--- src/part.rt:108:11
 mul-fields-2 : tie.Need-mul-fields-2
 mul-fields-2 c = search needs
 
--- src/part.rt:107:18
 add-fields : tie.Need-add-fields
 add-fields c = search needs
 
--- src/part.rt:109:11
 wide-requires-3 : tie.Need-wide-requires-3
 wide-requires-3 c κs = search needs
 
--- src/part.rt:109:11
 mul-fields-3 : tie.Need-mul-fields-3
 mul-fields-3 c = search needs
 
--- src/part.rt:107:18
 add-fields-2 : tie.Need-add-fields-2
 add-fields-2 c = search needs
 
--- src/part.rt:110:11
 wide-requires-4 : tie.Need-wide-requires-4
 wide-requires-4 c κs = search needs
 
--- src/part.rt:110:11
 mul-fields-4 : tie.Need-mul-fields-4
 mul-fields-4 c = search needs
 
--- src/part.rt:107:18
 add-fields-3 : tie.Need-add-fields-3
 add-fields-3 c = search needs
 
--- src/part.rt:111:14
 cast-out : tie.Need-cast-out
 cast-out c = search needs
 
--- src/part.rt:111:5
 slice-write-out : tie.Need-slice-write-out
 slice-write-out c = search needs
 
--- src/part.rt:112:14
 cast-out-2 : tie.Need-cast-out-2
 cast-out-2 c = search needs
 
--- src/part.rt:112:5
 slice-write-out-2 : tie.Need-slice-write-out-2
 slice-write-out-2 c = simp length-set (omega arith)
 
--- src/part.rt:113:14
 cast-out-3 : tie.Need-cast-out-3
 cast-out-3 c = search needs
 
--- src/part.rt:113:5
 slice-write-out-3 : tie.Need-slice-write-out-3
 slice-write-out-3 c = search needs
 
--- src/part.rt:103:1
 same-length : tie.Need-same-length
 same-length c = search needs
 
--- src/part.rt:103:1
 returns : tie.Need-returns
 returns c = search put-header
 

@@ -1,14 +1,9 @@
+-- `player::session::start` meets its contract.
+-- Assumes nothing.
 use Rattle.player.specs.Session.Properties.{start-no, start-good}
 use borrow.Author.Needs.{needs}
 use Rattle.player.proofs.session.start.Statement.{statement}
 use Rattle.player.proofs.session.start.Tie as tie
-use Rattle.player.proofs.session.start.Reads as reads
-use Rattle.player.proofs.session.start.Lts as lts
-use Rattle.lines.proofs.line.Line.put.Reads as put-reads
-use Rattle.player.proofs.session.Session.over.Reads as over-reads
-use Rattle.player.proofs.session.Session.running.Reads as running-reads
-use Rattle.rack.proofs.State.empty.Reads as empty-reads
-use Rattle.rack.proofs.State.start.Reads as start-reads
 
 start-requires : tie.Need-start-requires
 start-requires c κs = search needs

@@ -1,10 +1,9 @@
+-- `player::session::waits` meets its contract.
+-- Assumes nothing.
 use Rattle.player.specs.Session.Properties.{waits-on}
 use borrow.Author.Needs.{needs}
 use Rattle.player.proofs.session.waits.Statement.{statement}
 use Rattle.player.proofs.session.waits.Tie as tie
-use Rattle.player.proofs.session.waits.Reads as reads
-use Rattle.player.proofs.session.waits.Lts as lts
-use Rattle.answer.proofs.Answer.number.Reads as number-reads
 
 returns : tie.Need-returns
 returns c = search needs

@@ -1,11 +1,9 @@
+-- `player::turn::release` meets its contract.
+-- Assumes nothing.
 use Rattle.player.specs.Turn.Properties.{release-told}
 use borrow.Author.Needs.{needs}
 use Rattle.player.proofs.turn.release.Statement.{statement}
 use Rattle.player.proofs.turn.release.Tie as tie
-use Rattle.player.proofs.turn.release.Reads as reads
-use Rattle.player.proofs.turn.release.Lts as lts
-use Rattle.lines.proofs.line.Line.put.Reads as put-reads
-use Rattle.rack.proofs.State.release.Reads as release-reads
 
 release-requires : tie.Need-release-requires
 release-requires c κs = search needs

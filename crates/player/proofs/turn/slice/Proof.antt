@@ -1,11 +1,9 @@
+-- `player::turn::slice` meets its contract.
+-- Assumes nothing.
 use Rattle.player.specs.Turn.Properties.{slice-told}
 use borrow.Author.Needs.{needs}
 use Rattle.player.proofs.turn.slice.Statement.{statement}
 use Rattle.player.proofs.turn.slice.Tie as tie
-use Rattle.player.proofs.turn.slice.Reads as reads
-use Rattle.player.proofs.turn.slice.Lts as lts
-use Rattle.lines.proofs.line.Line.put.Reads as put-reads
-use Rattle.rack.proofs.State.slice.Reads as slice-reads
 
 slice-aggregate-slice : tie.Need-slice-aggregate-slice
 slice-aggregate-slice c = search needs

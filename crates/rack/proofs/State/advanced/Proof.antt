@@ -1,3 +1,5 @@
+-- `rack::State::advanced` meets its contract.
+-- Assumes nothing.
 use mathlib.Core.Path.{_≡_, refl}
 use Prim.Native.Nat.{_≤_, _-_}
 use native.Mathlib.Omega.{arith}
@@ -8,8 +10,6 @@ use Rattle.rack.specs.Slice.{unitAfter}
 use Rattle.rack.specs.Slice.Properties.{lowered-not, lowered-some, lowered-one, advanced-is}
 use Rattle.rack.proofs.State.advanced.Statement.{statement}
 use Rattle.rack.proofs.State.advanced.Tie as tie
-use Rattle.rack.proofs.State.advanced.Reads as reads
-use Rattle.rack.proofs.State.advanced.Lts as lts
 
 abbrev Inv-loop : tie.InvT-loop
 Inv-loop seat self₀ kinds i₀ self i = (i ≤ kinds) × (kinds ≤ 16) × (self .plan ≡ self₀ .plan) × (self .clock ≡ self₀ .clock) × (self .unit ≡ written i (unitAfter self₀) (self₀ .unit))
@@ -17,63 +17,48 @@ Inv-loop seat self₀ kinds i₀ self i = (i ≤ kinds) × (kinds ≤ 16) × (se
 abbrev μ-loop : tie.MeasureT-loop
 μ-loop seat self₀ kinds i₀ self i = kinds - i
 
--- src/slice.rt:176:21
 cast-kinds : tie.Need-cast-kinds Inv-loop μ-loop
 cast-kinds c = search needs
 
--- src/slice.rt:177:9
 loop-holds : tie.Need-loop-holds Inv-loop μ-loop
 loop-holds c = (omega arith, omega arith, refl, refl, written-none _ _)
 
--- src/slice.rt:178:16
 element-copy-out-if1 : tie.Need-element-copy-out-if1 Inv-loop μ-loop
 element-copy-out-if1 c = search needs
 
--- src/slice.rt:179:17
 add-i : tie.Need-add-i Inv-loop μ-loop
 add-i c = search needs
 
--- src/slice.rt:177:9
 loop-less : tie.Need-loop-less Inv-loop μ-loop
 loop-less c = search needs
 
--- src/slice.rt:177:9
 loop-again : tie.Need-loop-again Inv-loop μ-loop
 loop-again c = (omega arith, search, search, search, search lowered-not)
 
--- src/slice.rt:181:13
 mul-self : tie.Need-mul-self Inv-loop μ-loop
 mul-self c = search needs
 
--- src/slice.rt:181:13
 element-copy-out-self : tie.Need-element-copy-out-self Inv-loop μ-loop
 element-copy-out-self c = search needs
 
--- src/slice.rt:181:13
 sub-self : tie.Need-sub-self Inv-loop μ-loop
 sub-self c = search lowered-some
 
--- src/slice.rt:181:13
 way-write-given-self : tie.Need-way-write-given-self Inv-loop μ-loop
 way-write-given-self c = search needs
 
--- src/slice.rt:177:13
 add-i-2 : tie.Need-add-i-2 Inv-loop μ-loop
 add-i-2 c = search needs
 
--- src/slice.rt:177:9
 loop-less-2 : tie.Need-loop-less-2 Inv-loop μ-loop
 loop-less-2 c = search needs
 
--- src/slice.rt:177:9
 loop-again-2 : tie.Need-loop-again-2 Inv-loop μ-loop
 loop-again-2 c = (omega arith, search, search, search, search lowered-one)
 
--- src/slice.rt:183:9
 add-self : tie.Need-add-self Inv-loop μ-loop
 add-self c = search needs
 
--- src/slice.rt:172:5
 returns : tie.Need-returns Inv-loop μ-loop
 returns c = search advanced-is
 

@@ -1,3 +1,5 @@
+-- `rack::State::may_release` meets its contract.
+-- Assumes nothing.
 use Rattle.laws.specs.Tests.{tests}
 use Rattle.answer.specs.Answer.Properties.{stages, opened-no, opened-on}
 use Rattle.rack.specs.Rank.{gone}
@@ -6,61 +8,45 @@ use Rattle.rack.specs.Release.{releaseAnswer}
 use borrow.Author.Needs.{needs}
 use Rattle.rack.proofs.State.may_release.Statement.{statement}
 use Rattle.rack.proofs.State.may_release.Tie as tie
-use Rattle.rack.proofs.State.may_release.Reads as reads
-use Rattle.rack.proofs.State.may_release.Lts as lts
-use Rattle.rack.proofs.State.check.Reads as check-reads
-use Rattle.unit.proofs.Unit.may_start.Reads as may-start-reads
 
--- src/release.rt:47:13
 check-requires : tie.Need-check-requires
 check-requires c κs = search needs
 
 enum-told : tie.Need-enum-told
 enum-told c = search needs
 
--- src/release.rt:49:13
 enum-told-2 : tie.Need-enum-told-2
 enum-told-2 c = search needs
 
--- src/release.rt:49:13
 returns : tie.Need-returns
 unfolding releaseAnswer
 returns c = search (opened-no, opened-on)
 
--- src/release.rt:52:12
 cast-if1 : tie.Need-cast-if1
 cast-if1 c = search needs
 
--- src/release.rt:53:13
 returns-2 : tie.Need-returns-2
 unfolding releaseAnswer
 returns-2 c = search (opened-on, stages, tests)
 
--- src/release.rt:55:20
 mul-unit : tie.Need-mul-unit
 mul-unit c = search needs
 
--- src/release.rt:55:20
 element-copy-out-unit : tie.Need-element-copy-out-unit
 element-copy-out-unit c = search ready-place
 
--- src/release.rt:56:24
 mul-may-start : tie.Need-mul-may-start
 mul-may-start c = search needs
 
--- src/release.rt:56:24
 element-copy-out-may-start : tie.Need-element-copy-out-may-start
 element-copy-out-may-start c = search ready-place
 
--- src/release.rt:56:41
 sub-may-start : tie.Need-sub-may-start
 sub-may-start c = search ready-clock
 
--- src/release.rt:56:9
 may-start-requires : tie.Need-may-start-requires
 may-start-requires c κs = search needs
 
--- src/release.rt:44:5
 returns-3 : tie.Need-returns-3
 unfolding releaseAnswer gone
 returns-3 c = search (opened-on, stages, tests)

@@ -1,44 +1,36 @@
+-- `rack::State::may_slice` meets its contract.
+-- Assumes nothing.
 use Rattle.laws.specs.Tests.{tests}
 use Rattle.answer.specs.Answer.Properties.{stages, opened-no, opened-on}
 use Rattle.rack.specs.Slice.{roomAndTime, sliceAnswer}
 use borrow.Author.Needs.{needs}
 use Rattle.rack.proofs.State.may_slice.Statement.{statement}
 use Rattle.rack.proofs.State.may_slice.Tie as tie
-use Rattle.rack.proofs.State.may_slice.Reads as reads
-use Rattle.rack.proofs.State.may_slice.Lts as lts
-use Rattle.rack.proofs.State.check.Reads as check-reads
 
--- src/slice.rt:191:13
 check-requires : tie.Need-check-requires
 check-requires c κs = search needs
 
 enum-told : tie.Need-enum-told
 enum-told c = search needs
 
--- src/slice.rt:193:13
 enum-told-2 : tie.Need-enum-told-2
 enum-told-2 c = search needs
 
--- src/slice.rt:193:13
 returns : tie.Need-returns
 unfolding sliceAnswer
 returns c = search (opened-no, opened-on)
 
--- src/slice.rt:196:19
 cast-if1 : tie.Need-cast-if1
 cast-if1 c = search needs
 
--- src/slice.rt:197:13
 returns-2 : tie.Need-returns-2
 unfolding sliceAnswer roomAndTime
 returns-2 c = search (opened-on, stages, tests)
 
--- src/slice.rt:200:13
 returns-3 : tie.Need-returns-3
 unfolding sliceAnswer roomAndTime
 returns-3 c = search (opened-on, stages, tests)
 
--- src/slice.rt:188:5
 returns-4 : tie.Need-returns-4
 unfolding sliceAnswer roomAndTime
 returns-4 c = search (opened-on, stages, tests)

@@ -1,3 +1,5 @@
+-- `rack::State::release` meets its contract.
+-- Assumes nothing.
 use Prim.Native.Nat.{_<_}
 use native.Mathlib.Omega.{arith}
 use Rattle.rack.specs.State.Properties.{next-kept, next-moved}
@@ -6,39 +8,29 @@ use Rattle.rack.specs.Release.Properties.{release-place, release-length}
 use borrow.Author.Needs.{needs}
 use Rattle.rack.proofs.State.release.Statement.{statement}
 use Rattle.rack.proofs.State.release.Tie as tie
-use Rattle.rack.proofs.State.release.Reads as reads
-use Rattle.rack.proofs.State.release.Lts as lts
-use Rattle.rack.proofs.State.may_release.Reads as may-release-reads
 
--- src/release.rt:63:13
 may-release-requires : tie.Need-may-release-requires
 may-release-requires c κs = search needs
 
 enum-told : tie.Need-enum-told
 enum-told c = search needs
 
--- src/release.rt:67:24
 enum-told-2 : tie.Need-enum-told-2
 enum-told-2 c = search needs
 
--- src/release.rt:65:13
 returns : tie.Need-returns
 unfolding releaseOf
 returns c = search next-kept
 
--- src/release.rt:73:19
 cast-t9 : tie.Need-cast-t9
 cast-t9 c = search release-length
 
--- src/release.rt:70:9
 mul-t11 : tie.Need-mul-t11
 mul-t11 c = let place : c .before .before .before .args .kind < 16 = search release-place in omega arith
 
--- src/release.rt:70:9
 element-set-from-self : tie.Need-element-set-from-self
 element-set-from-self c = search release-place
 
--- src/release.rt:60:5
 returns-2 : tie.Need-returns-2
 unfolding releaseOf released
 returns-2 c = search next-moved

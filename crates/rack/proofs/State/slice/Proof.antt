@@ -1,62 +1,46 @@
+-- `rack::State::slice` meets its contract.
+-- Assumes nothing.
 use Rattle.rack.specs.State.Properties.{next-kept, next-moved}
 use Rattle.rack.specs.Slice.{sliceOf}
 use Rattle.rack.specs.Slice.Properties.{slice-ready, slice-kinds, slice-room, slice-time, buffer-kept, seats-fit, buffer-row}
 use borrow.Author.Needs.{needs}
 use Rattle.rack.proofs.State.slice.Statement.{statement}
 use Rattle.rack.proofs.State.slice.Tie as tie
-use Rattle.rack.proofs.State.slice.Reads as reads
-use Rattle.rack.proofs.State.slice.Lts as lts
-use Rattle.rack.proofs.State.advanced.Reads as advanced-reads
-use Rattle.rack.proofs.State.may_slice.Reads as may-slice-reads
-use Rattle.rack.proofs.State.seats.Reads as seats-reads
-use Rattle.rack.proofs.slice.clear.Reads as clear-reads
-use Rattle.rack.proofs.slice.seat_kinds.Reads as seat-kinds-reads
 
--- src/slice.rt:209:13
 may-slice-requires : tie.Need-may-slice-requires
 may-slice-requires c κs = search needs
 
 enum-told : tie.Need-enum-told
 enum-told c = search needs
 
--- src/slice.rt:211:13
 enum-told-2 : tie.Need-enum-told-2
 enum-told-2 c = search needs
 
--- src/slice.rt:211:13
 returns : tie.Need-returns
 unfolding sliceOf
 returns c = record { result = search next-kept; buffer = search buffer-kept }
 
--- src/slice.rt:217:20
 seats-requires : tie.Need-seats-requires
 seats-requires c κs = search slice-ready
 
--- src/slice.rt:218:20
 cast-clear : tie.Need-cast-clear
 cast-clear c = search needs
 
--- src/slice.rt:218:9
 clear-requires : tie.Need-clear-requires
 clear-requires c κs = search slice-room
 
--- src/slice.rt:219:32
 cast-seat-kinds : tie.Need-cast-seat-kinds
 cast-seat-kinds c = search needs
 
--- src/slice.rt:219:9
 seat-kinds-requires : tie.Need-seat-kinds-requires
 seat-kinds-requires c κs = (search slice-kinds, search seats-fit)
 
--- src/slice.rt:220:13
 advanced-requires : tie.Need-advanced-requires
 advanced-requires c κs = (search slice-ready, search slice-time, search)
 
--- src/slice.rt:206:5
 same-length : tie.Need-same-length
 same-length c = search needs
 
--- src/slice.rt:206:5
 returns-2 : tie.Need-returns-2
 unfolding sliceOf
 returns-2 c = record { result = search next-moved; buffer = search buffer-row }

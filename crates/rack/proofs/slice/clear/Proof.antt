@@ -1,3 +1,5 @@
+-- `rack::slice::clear` meets its contract.
+-- Assumes nothing.
 use Rattle.rack.specs.Seat.Properties.{cleared-again}
 use mathlib.Core.Path.{_≡_, refl}
 use Prim.Native.Nat.{_≤_, _-_}
@@ -9,8 +11,6 @@ use Rattle.laws.specs.Written.Properties.{written-none, written-stop}
 use Rattle.rack.specs.Seat.{idle}
 use Rattle.rack.proofs.slice.clear.Statement.{statement}
 use Rattle.rack.proofs.slice.clear.Tie as tie
-use Rattle.rack.proofs.slice.clear.Reads as reads
-use Rattle.rack.proofs.slice.clear.Lts as lts
 
 abbrev Inv-loop : tie.InvT-loop
 Inv-loop out₀ cards card₀ out card = (card ≤ cards) × (cards ≤ length out₀) × (length out ≡ length out₀) × (out ≡ written card idle out₀)
@@ -18,31 +18,24 @@ Inv-loop out₀ cards card₀ out card = (card ≤ cards) × (cards ≤ length o
 abbrev μ-loop : tie.MeasureT-loop
 μ-loop out₀ cards card₀ out card = cards - card
 
--- src/slice.rt:113:5
 loop-holds : tie.Need-loop-holds Inv-loop μ-loop
 loop-holds c = (omega arith, omega arith, refl, written-none _ _)
 
--- src/slice.rt:114:9
 slice-write-out : tie.Need-slice-write-out Inv-loop μ-loop
 slice-write-out c = omega arith
 
--- src/slice.rt:113:9
 add-card : tie.Need-add-card Inv-loop μ-loop
 add-card c = search needs
 
--- src/slice.rt:113:5
 loop-less : tie.Need-loop-less Inv-loop μ-loop
 loop-less c = search needs
 
--- src/slice.rt:113:5
 loop-again : tie.Need-loop-again Inv-loop μ-loop
 loop-again c = (omega arith, omega arith, search needs, search cleared-again)
 
--- src/slice.rt:109:1
 same-length : tie.Need-same-length Inv-loop μ-loop
 same-length c = search needs
 
--- src/slice.rt:109:1
 returns : tie.Need-returns Inv-loop μ-loop
 returns c = search written-stop
 

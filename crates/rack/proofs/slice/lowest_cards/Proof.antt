@@ -1,3 +1,5 @@
+-- `rack::slice::lowest_cards` meets its contract.
+-- Assumes nothing.
 use mathlib.Core.Path.{_≡_, refl, sym}
 use Prim.Native.Nat.{_≤_, _-_, _+_}
 use native.Mathlib.Omega.{arith}
@@ -11,9 +13,6 @@ use Rattle.rack.specs.Seat.{lowest}
 use Rattle.rack.specs.Seat.Properties.{slice-small, lowest-start, cell-small, cell-next, lowest-next, lowest-small}
 use Rattle.rack.proofs.slice.lowest_cards.Statement.{statement}
 use Rattle.rack.proofs.slice.lowest_cards.Tie as tie
-use Rattle.rack.proofs.slice.lowest_cards.Reads as reads
-use Rattle.rack.proofs.slice.lowest_cards.Lts as lts
-use Rattle.layout.proofs.cards_below.Reads as cards-below-reads
 
 abbrev Inv-loop : tie.InvT-loop
 Inv-loop clock plan slice low₀ cell₀ j₀ j-end low cell j = (j ≤ j-end) × (j-end ≡ plan .projects) × (cell ≡ firstCell plan j) × (low ≡ written (j + 1) (lowest plan clock) (replicate 9 0))
@@ -21,67 +20,51 @@ Inv-loop clock plan slice low₀ cell₀ j₀ j-end low cell j = (j ≤ j-end) �
 abbrev μ-loop : tie.MeasureT-loop
 μ-loop clock plan slice low₀ cell₀ j₀ j-end low cell j = j-end - j
 
--- src/slice.rt:98:26
 cast-slice : tie.Need-cast-slice Inv-loop μ-loop
 cast-slice c = search needs
 
--- src/slice.rt:98:18
 rem-slice : tie.Need-rem-slice Inv-loop μ-loop
 rem-slice c = omega arith
 
--- src/slice.rt:98:17
 cast-slice-2 : tie.Need-cast-slice-2 Inv-loop μ-loop
 cast-slice-2 c = search slice-small
 
--- src/slice.rt:101:17
 cast-j-end : tie.Need-cast-j-end Inv-loop μ-loop
 cast-j-end c = search needs
 
--- src/slice.rt:101:5
 loop-holds : tie.Need-loop-holds Inv-loop μ-loop
 loop-holds c = (omega arith, refl, sym (first-start _), search lowest-start)
 
--- src/slice.rt:102:17
 mul-cell : tie.Need-mul-cell Inv-loop μ-loop
 mul-cell c = search needs
 
--- src/slice.rt:102:17
 element-copy-out-cell : tie.Need-element-copy-out-cell Inv-loop μ-loop
 element-copy-out-cell c = search needs
 
--- src/slice.rt:102:9
 add-cell : tie.Need-add-cell Inv-loop μ-loop
 add-cell c = search cell-small
 
--- src/slice.rt:103:22
 cards-below-requires : tie.Need-cards-below-requires Inv-loop μ-loop
 cards-below-requires c κs = search needs
 
--- src/slice.rt:103:22
 cast-low : tie.Need-cast-low Inv-loop μ-loop
 cast-low c = search lowest-small
 
--- src/slice.rt:103:13
 add-low : tie.Need-add-low Inv-loop μ-loop
 add-low c = search needs
 
--- src/slice.rt:103:9
 array-write-low : tie.Need-array-write-low Inv-loop μ-loop
 array-write-low c = search needs
 
--- src/slice.rt:101:9
 add-j : tie.Need-add-j Inv-loop μ-loop
 add-j c = search needs
 
--- src/slice.rt:101:5
 loop-less : tie.Need-loop-less Inv-loop μ-loop
 loop-less c = search needs
 
--- src/slice.rt:101:5
 loop-again : tie.Need-loop-again Inv-loop μ-loop
 loop-again c = (omega arith, search, search cell-next, search (written-again, lowest-next))
 
--- src/slice.rt:94:1
 returns : tie.Need-returns Inv-loop μ-loop
 returns c = search written-ahead
 

@@ -1,3 +1,5 @@
+-- `rack::slice::seat_kinds` meets its contract.
+-- Assumes nothing.
 use mathlib.Core.Path.{_≡_, refl}
 use Prim.Native.Nat.{_≤_, _-_}
 use native.Mathlib.Omega.{arith}
@@ -8,8 +10,6 @@ use Rattle.rack.specs.Seat.{seated}
 use Rattle.rack.specs.Seat.Properties.{seated-none, seated-idle, seated-more, seated-stop}
 use Rattle.rack.proofs.slice.seat_kinds.Statement.{statement}
 use Rattle.rack.proofs.slice.seat_kinds.Tie as tie
-use Rattle.rack.proofs.slice.seat_kinds.Reads as reads
-use Rattle.rack.proofs.slice.seat_kinds.Lts as lts
 
 abbrev Inv-loop : tie.InvT-loop
 Inv-loop out₀ seat kinds i₀ out i = (i ≤ kinds) × (length out ≡ length out₀) × (out ≡ seated (at seat) i out₀)
@@ -17,63 +17,48 @@ Inv-loop out₀ seat kinds i₀ out i = (i ≤ kinds) × (length out ≡ length 
 abbrev μ-loop : tie.MeasureT-loop
 μ-loop out₀ seat kinds i₀ out i = kinds - i
 
--- src/slice.rt:123:5
 loop-holds : tie.Need-loop-holds Inv-loop μ-loop
 loop-holds c = (omega arith, refl, search seated-none)
 
--- src/slice.rt:124:22
 element-copy-out-number : tie.Need-element-copy-out-number Inv-loop μ-loop
 element-copy-out-number c = search needs
 
--- src/slice.rt:124:22
 cast-number : tie.Need-cast-number Inv-loop μ-loop
 cast-number c = omega (arith, c .before .before .before .pre .1 (c .before .before .loop .i))
 
--- src/slice.rt:126:13
 add-i : tie.Need-add-i Inv-loop μ-loop
 add-i c = search needs
 
--- src/slice.rt:123:5
 loop-less : tie.Need-loop-less Inv-loop μ-loop
 loop-less c = search needs
 
--- src/slice.rt:123:5
 loop-again : tie.Need-loop-again Inv-loop μ-loop
 loop-again c = (omega arith, search, search seated-idle)
 
--- src/slice.rt:128:27
 cast-out : tie.Need-cast-out Inv-loop μ-loop
 cast-out c = search needs
 
--- src/slice.rt:128:27
 add-out : tie.Need-add-out Inv-loop μ-loop
 add-out c = search needs
 
--- src/slice.rt:128:13
 sub-out : tie.Need-sub-out Inv-loop μ-loop
 sub-out c = search needs
 
--- src/slice.rt:128:9
 slice-write-out : tie.Need-slice-write-out Inv-loop μ-loop
 slice-write-out c = omega (arith, c .before .before .before .before .pre .1 (c .before .before .before .loop .i))
 
--- src/slice.rt:123:9
 add-i-2 : tie.Need-add-i-2 Inv-loop μ-loop
 add-i-2 c = search needs
 
--- src/slice.rt:123:5
 loop-less-2 : tie.Need-loop-less-2 Inv-loop μ-loop
 loop-less-2 c = search needs
 
--- src/slice.rt:123:5
 loop-again-2 : tie.Need-loop-again-2 Inv-loop μ-loop
 loop-again-2 c = (omega arith, search needs, search seated-more)
 
--- src/slice.rt:119:1
 same-length : tie.Need-same-length Inv-loop μ-loop
 same-length c = search needs
 
--- src/slice.rt:119:1
 returns : tie.Need-returns Inv-loop μ-loop
 returns c = search seated-stop
 

@@ -1,9 +1,8 @@
+-- `unit::Unit::empty` meets its contract.
+-- Assumes nothing.
 use Rattle.unit.proofs.Unit.empty.Statement.{statement}
 use Rattle.unit.proofs.Unit.empty.Tie as tie
-use Rattle.unit.proofs.Unit.empty.Reads as reads
-use Rattle.unit.proofs.Unit.empty.Lts as lts
 
--- src/lib.rt:20:5
 returns : tie.Need-returns
 returns c = search
 

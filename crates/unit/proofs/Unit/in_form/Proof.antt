@@ -1,27 +1,21 @@
+-- `unit::Unit::in_form` meets its contract.
+-- Assumes nothing.
 use Rattle.laws.specs.Tests.{picks}
 use Rattle.unit.specs.Form.{unitInForm}
 use borrow.Author.Needs.{needs}
 use Rattle.unit.proofs.Unit.in_form.Statement.{statement}
 use Rattle.unit.proofs.Unit.in_form.Tie as tie
-use Rattle.unit.proofs.Unit.in_form.Reads as reads
-use Rattle.unit.proofs.Unit.in_form.Lts as lts
-use Rattle.unit.proofs.Unit.is_underway.Reads as is-underway-reads
-use Rattle.unit.proofs.Unit.is_untouched.Reads as is-untouched-reads
 
--- src/form.rt:33:13
 is-underway-requires : tie.Need-is-underway-requires
 is-underway-requires c κs = search needs
 
--- src/form.rt:33:13
 returns : tie.Need-returns
 unfolding unitInForm
 returns c = search picks
 
--- src/form.rt:35:9
 is-untouched-requires : tie.Need-is-untouched-requires
 is-untouched-requires c κs = search needs
 
--- src/form.rt:29:5
 returns-2 : tie.Need-returns-2
 unfolding unitInForm
 returns-2 c = search picks

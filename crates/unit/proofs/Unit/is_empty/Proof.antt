@@ -1,22 +1,18 @@
+-- `unit::Unit::is_empty` meets its contract.
+-- Assumes nothing.
 use Rattle.laws.specs.Tests.{picks}
 use Rattle.unit.specs.Form.{emptyUnit}
 use borrow.Author.Needs.{needs}
 use Rattle.unit.proofs.Unit.is_empty.Statement.{statement}
 use Rattle.unit.proofs.Unit.is_empty.Tie as tie
-use Rattle.unit.proofs.Unit.is_empty.Reads as reads
-use Rattle.unit.proofs.Unit.is_empty.Lts as lts
-use Rattle.unit.proofs.Unit.is_untouched.Reads as is-untouched-reads
 
--- src/form.rt:42:13
 returns : tie.Need-returns
 unfolding emptyUnit
 returns c = search picks
 
--- src/form.rt:44:9
 is-untouched-requires : tie.Need-is-untouched-requires
 is-untouched-requires c κs = search needs
 
--- src/form.rt:38:5
 returns-2 : tie.Need-returns-2
 unfolding emptyUnit
 returns-2 c = search picks

@@ -1,16 +1,14 @@
+-- `unit::Unit::is_underway` meets its contract.
+-- Assumes nothing.
 use Rattle.laws.specs.Tests.{tests}
 use Rattle.unit.specs.Form.{underway}
 use Rattle.unit.proofs.Unit.is_underway.Statement.{statement}
 use Rattle.unit.proofs.Unit.is_underway.Tie as tie
-use Rattle.unit.proofs.Unit.is_underway.Reads as reads
-use Rattle.unit.proofs.Unit.is_underway.Lts as lts
 
--- src/form.rt:24:13
 returns : tie.Need-returns
 unfolding underway
 returns c = search tests
 
--- src/form.rt:20:5
 returns-2 : tie.Need-returns-2
 unfolding underway
 returns-2 c = search tests

@@ -1,16 +1,14 @@
+-- `unit::Unit::is_untouched` meets its contract.
+-- Assumes nothing.
 use Rattle.laws.specs.Tests.{tests}
 use Rattle.unit.specs.Form.{untouched}
 use Rattle.unit.proofs.Unit.is_untouched.Statement.{statement}
 use Rattle.unit.proofs.Unit.is_untouched.Tie as tie
-use Rattle.unit.proofs.Unit.is_untouched.Reads as reads
-use Rattle.unit.proofs.Unit.is_untouched.Lts as lts
 
--- src/form.rt:15:13
 returns : tie.Need-returns
 unfolding untouched
 returns c = search tests
 
--- src/form.rt:11:5
 returns-2 : tie.Need-returns-2
 unfolding untouched
 returns-2 c = search tests

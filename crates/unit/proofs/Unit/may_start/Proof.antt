@@ -1,3 +1,5 @@
+-- `unit::Unit::may_start` meets its contract.
+-- Assumes nothing.
 use Rattle.laws.specs.Tests.{tests}
 use Rattle.answer.specs.Answer.Properties.{stages, refused-where, passed-where}
 use Rattle.plan.specs.Order.{within}
@@ -5,39 +7,29 @@ use Rattle.unit.specs.Start.{startable}
 use borrow.Author.Needs.{needs}
 use Rattle.unit.proofs.Unit.may_start.Statement.{statement}
 use Rattle.unit.proofs.Unit.may_start.Tie as tie
-use Rattle.unit.proofs.Unit.may_start.Reads as reads
-use Rattle.unit.proofs.Unit.may_start.Lts as lts
-use Rattle.unit.proofs.Unit.is_early.Reads as is-early-reads
 
--- src/start.rt:27:13
 returns : tie.Need-returns
 unfolding startable within
 returns c = search tests
 
--- src/start.rt:29:13
 cast-if2 : tie.Need-cast-if2
 cast-if2 c = search needs
 
--- src/start.rt:30:13
 returns-2 : tie.Need-returns-2
 unfolding startable within
 returns-2 c = search tests
 
--- src/start.rt:32:12
 is-early-requires : tie.Need-is-early-requires
 is-early-requires c κs = search needs
 
--- src/start.rt:33:13
 returns-3 : tie.Need-returns-3
 unfolding startable within
 returns-3 c = search (stages, refused-where, tests)
 
--- src/start.rt:36:13
 returns-4 : tie.Need-returns-4
 unfolding startable within
 returns-4 c = search (stages, passed-where, tests)
 
--- src/start.rt:23:5
 returns-5 : tie.Need-returns-5
 unfolding startable within
 returns-5 c = search (stages, passed-where, tests)

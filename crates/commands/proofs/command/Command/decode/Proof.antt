@@ -1,11 +1,9 @@
+-- `commands::command::Command::decode` meets its contract.
+-- Assumes nothing.
 use Rattle.commands.specs.Command.Properties.{command-short, command-fields}
 use borrow.Author.Needs.{needs}
 use Rattle.commands.proofs.command.Command.decode.Statement.{statement}
 use Rattle.commands.proofs.command.Command.decode.Tie as tie
-use Rattle.commands.proofs.command.Command.decode.Reads as reads
-use Rattle.commands.proofs.command.Command.decode.Lts as lts
-use Rattle.commands.proofs.command.Command.of_fields.Reads as of-fields-reads
-use Rattle.commands.proofs.command.wide.Reads as wide-reads
 
 returns : tie.Need-returns
 returns c = search command-short

@@ -1,9 +1,9 @@
+-- `commands::command::Command::of_fields` meets its contract.
+-- Assumes nothing.
 use Rattle.laws.specs.Tests.{tests}
 use Rattle.commands.specs.Command.{fieldsSay}
 use Rattle.commands.proofs.command.Command.of_fields.Statement.{statement}
 use Rattle.commands.proofs.command.Command.of_fields.Tie as tie
-use Rattle.commands.proofs.command.Command.of_fields.Reads as reads
-use Rattle.commands.proofs.command.Command.of_fields.Lts as lts
 
 returns : tie.Need-returns
 unfolding fieldsSay

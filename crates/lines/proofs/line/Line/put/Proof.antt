@@ -1,14 +1,9 @@
+-- `lines::line::Line::put` meets its contract.
+-- Assumes nothing.
 use Rattle.lines.specs.Line.Properties.{prints-short, prints-late, prints-plan, prints-release, prints-slice, prints-bad, prints-end}
 use borrow.Author.Needs.{needs}
 use Rattle.lines.proofs.line.Line.put.Statement.{statement}
 use Rattle.lines.proofs.line.Line.put.Tie as tie
-use Rattle.lines.proofs.line.Line.put.Reads as reads
-use Rattle.lines.proofs.line.Line.put.Lts as lts
-use Rattle.lines.proofs.line.put_bad.Reads as put-bad-reads
-use Rattle.lines.proofs.line.put_end.Reads as put-end-reads
-use Rattle.lines.proofs.line.put_plan.Reads as put-plan-reads
-use Rattle.lines.proofs.line.put_release.Reads as put-release-reads
-use Rattle.lines.proofs.line.put_slice.Reads as put-slice-reads
 
 returns : tie.Need-returns
 returns c = search prints-short

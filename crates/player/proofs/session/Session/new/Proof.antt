@@ -1,10 +1,9 @@
+-- `player::session::Session::new` meets its contract.
+-- Assumes nothing.
 use Rattle.player.specs.Session.Properties.{new-is}
 use borrow.Author.Needs.{needs}
 use Rattle.player.proofs.session.Session.new.Statement.{statement}
 use Rattle.player.proofs.session.Session.new.Tie as tie
-use Rattle.player.proofs.session.Session.new.Reads as reads
-use Rattle.player.proofs.session.Session.new.Lts as lts
-use Rattle.rack.proofs.State.empty.Reads as empty-reads
 
 empty-requires : tie.Need-empty-requires
 empty-requires c κs = search needs

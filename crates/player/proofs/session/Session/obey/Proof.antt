@@ -1,14 +1,9 @@
+-- `player::session::Session::obey` meets its contract.
+-- Assumes nothing.
 use Rattle.player.specs.Session.Properties.{obey-slice, obey-release, obey-bad}
 use borrow.Author.Needs.{needs}
 use Rattle.player.proofs.session.Session.obey.Statement.{statement}
 use Rattle.player.proofs.session.Session.obey.Tie as tie
-use Rattle.player.proofs.session.Session.obey.Reads as reads
-use Rattle.player.proofs.session.Session.obey.Lts as lts
-use Rattle.lines.proofs.line.Line.put.Reads as put-reads
-use Rattle.player.proofs.session.Session.over.Reads as over-reads
-use Rattle.player.proofs.session.Session.running.Reads as running-reads
-use Rattle.player.proofs.turn.release.Reads as release-reads
-use Rattle.player.proofs.turn.slice.Reads as slice-reads
 
 enum-told : tie.Need-enum-told
 enum-told c = search needs

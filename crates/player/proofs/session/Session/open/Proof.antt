@@ -1,15 +1,9 @@
+-- `player::session::Session::open` meets its contract.
+-- Assumes nothing.
 use Rattle.player.specs.Session.Properties.{open-waits, open-refused, open-started}
 use borrow.Author.Needs.{needs}
 use Rattle.player.proofs.session.Session.open.Statement.{statement}
 use Rattle.player.proofs.session.Session.open.Tie as tie
-use Rattle.player.proofs.session.Session.open.Reads as reads
-use Rattle.player.proofs.session.Session.open.Lts as lts
-use Rattle.lines.proofs.line.Line.put.Reads as put-reads
-use Rattle.plan_reader.proofs.read.Reads as read-reads
-use Rattle.player.proofs.session.Session.over.Reads as over-reads
-use Rattle.player.proofs.session.start.Reads as start-reads
-use Rattle.player.proofs.session.waits.Reads as waits-reads
-use Rattle.rack.proofs.State.empty.Reads as empty-reads
 
 read-requires : tie.Need-read-requires
 read-requires c κs = search needs

@@ -1,11 +1,10 @@
+-- `player::session::Session::play` meets its contract.
+-- Assumes nothing.
 use native.Mathlib.Omega.{arith}
 use borrow.Author.Needs.{needs}
 use Rattle.player.specs.Session.Properties.{Playing, playing-starts, playing-done, playing-full, playing-idle, playing-again, taken-fits}
 use Rattle.player.proofs.session.Session.play.Statement.{statement}
 use Rattle.player.proofs.session.Session.play.Tie as tie
-use Rattle.player.proofs.session.Session.play.Reads as reads
-use Rattle.player.proofs.session.Session.play.Lts as lts
-use Rattle.player.proofs.session.Session.step.Reads as step-reads
 
 abbrev Inv-loop : tie.InvT-loop
 Inv-loop bytes last out₀ session₀ taken₀ count₀ lines₀ out session taken count lines = Playing session₀ last bytes out₀ session taken count lines out

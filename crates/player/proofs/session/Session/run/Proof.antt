@@ -1,13 +1,9 @@
+-- `player::session::Session::run` meets its contract.
+-- Assumes nothing.
 use Rattle.player.specs.Session.Properties.{run-ends, run-left, run-waits, run-obeys}
 use borrow.Author.Needs.{needs}
 use Rattle.player.proofs.session.Session.run.Statement.{statement}
 use Rattle.player.proofs.session.Session.run.Tie as tie
-use Rattle.player.proofs.session.Session.run.Reads as reads
-use Rattle.player.proofs.session.Session.run.Lts as lts
-use Rattle.commands.proofs.command.Command.decode.Reads as decode-reads
-use Rattle.lines.proofs.line.Line.put.Reads as put-reads
-use Rattle.player.proofs.session.Session.obey.Reads as obey-reads
-use Rattle.player.proofs.session.Session.over.Reads as over-reads
 
 put-requires : tie.Need-put-requires
 put-requires c κs = search needs

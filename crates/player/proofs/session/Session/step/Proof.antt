@@ -1,11 +1,9 @@
+-- `player::session::Session::step` meets its contract.
+-- Assumes nothing.
 use Rattle.player.specs.Session.Properties.{step-opens, step-runs, step-over}
 use borrow.Author.Needs.{needs}
 use Rattle.player.proofs.session.Session.step.Statement.{statement}
 use Rattle.player.proofs.session.Session.step.Tie as tie
-use Rattle.player.proofs.session.Session.step.Reads as reads
-use Rattle.player.proofs.session.Session.step.Lts as lts
-use Rattle.player.proofs.session.Session.open.Reads as open-reads
-use Rattle.player.proofs.session.Session.run.Reads as run-reads
 
 enum-told : tie.Need-enum-told
 enum-told c = search needs

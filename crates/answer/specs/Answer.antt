@@ -1,6 +1,8 @@
 -- Document 01, "Numbers given back when we say no": an answer's number, place and excess, and refusals in an order.
 -- Assumes nothing.
 use Prim.Native.Nat.{ℕ, zero, suc}
+use mathlib.Core.Path.{_≡_}
+use mathlib.Core.Logic.{_≢_}
 use mathlib.Core.Bool.{Bool, true, false}
 use Rattle.answer.specs.declared.Answer.{Answer}
 use Rattle.answer.specs.declared.Answer.the-variants.{Good, No}
@@ -49,3 +51,7 @@ eachTo (suc n) f = eachTo n f andThen f n
 abbrev pub ifGood : {A : Type 0} → Answer → A → A → A
 ifGood Good x y = x
 ifGood (No r) x y = y
+
+-- "Excess is 0 except with 8"
+pub record ExcessKept (a : Answer) : Type 0 where
+  pub none : number a ≢ 8 → excess a ≡ 0

@@ -5,6 +5,7 @@ pub mod Run
 pub mod Since
 pub mod Named
 pub mod Outcomes
+pub mod Excess
 pub mod Verdicts
 pub mod Demands
 -- ---- what a row is

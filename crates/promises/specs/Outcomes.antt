@@ -81,6 +81,7 @@ tabling p out = record { outcome = made; meets = record { answer = refl; count =
     made : Lent TableWritten
     made = record { result = record { answer = tableAnswer p (length out); count = ifGood (tableAnswer p (length out)) (tableLength p) 0 }; buffer = ifGood (tableAnswer p (length out)) (tableOver p out) out }
 
+-- "Lent buffers keep every byte on a refusal"
 pub tabling-refused : (p : Plan) (out after : List ℕ) (r : TableWritten) (w : Refusal) → Tabled p out after r → r .answer ≡ No w → (r .count ≡ 0) × (after ≡ out)
 tabling-refused p out after r w c e =
     let a : tableAnswer p (length out) ≡ No w = sym (c .answer) ∙ e in
@@ -121,5 +122,6 @@ slicing s bytes = record { outcome = made; meets = record { result = refl; buffe
     made : Lent Next
     made = record { result = sliceOf s (length bytes); buffer = bufferAfter s bytes }
 
+-- "a refused slice .. gives back the state handed in", and the lent row keeps every byte
 pub slicing-refused : (s : State) (bytes after : List ℕ) (next : Next) (w : Refusal) → Sliced s bytes next after → next .answer ≡ No w → (next .state ≡ s) × (after ≡ bytes)
 slicing-refused = slice-refused

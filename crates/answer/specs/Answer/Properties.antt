@@ -11,7 +11,8 @@ use borrow.Author.Tests.{le-leb, lt-leb}
 use Rattle.answer.specs.declared.Answer.{Answer}
 use Rattle.answer.specs.declared.Answer.the-variants.{Good, No}
 use Rattle.answer.specs.declared.Refusal.{Refusal}
-use Rattle.answer.specs.Answer.{_andThen_, eachTo, refuse}
+use Rattle.answer.specs.declared.Refusal.the-variants.{Bare, ByProject, ByKind}
+use Rattle.answer.specs.Answer.{_andThen_, eachTo, refuse, ExcessKept}
 
 -- ---- a stage that is good hands on to the next; one that is not is the answer
 
@@ -120,3 +121,30 @@ pub each-of : (n : ℕ) (f : ℕ → Answer) → ((i : ℕ) → i < n → f i �
 unfolding eachTo
 each-of zero f h = refl
 each-of (suc n) f h = rw (each-of n f (λ i l. h i (omega arith)), h n (omega arith))
+
+-- ---- "Excess is 0 except with 8"
+
+pub bare-kept : (n : ℕ) → ExcessKept (No (Bare n))
+bare-kept n = record { none = λ h. refl }
+
+pub project-kept : (n j : ℕ) → ExcessKept (No (ByProject n j))
+project-kept n j = record { none = λ h. refl }
+
+pub kind-kept : (n i : ℕ) → ExcessKept (No (ByKind n i 0))
+kind-kept n i = record { none = λ h. refl }
+
+pub eight-kept : (i x : ℕ) → ExcessKept (No (ByKind 8 i x))
+eight-kept i x = record { none = λ h. absurd (h refl) }
+
+pub refuse-kept : (t : Bool) (r : Refusal) → ExcessKept (No r) → ExcessKept (refuse t r)
+refuse-kept true r k = k
+refuse-kept false r k = record { none = λ h. refl }
+
+pub andThen-kept : (a b : Answer) → ExcessKept a → ExcessKept b → ExcessKept (a andThen b)
+andThen-kept Good b p q = q
+andThen-kept (No r) b p q = p
+
+pub each-kept : (n : ℕ) (f : ℕ → Answer) → ((i : ℕ) → ExcessKept (f i)) → ExcessKept (eachTo n f)
+unfolding eachTo
+each-kept zero f h = record { none = λ e. refl }
+each-kept (suc n) f h = andThen-kept (eachTo n f) (f n) (each-kept n f h) (h n)

@@ -5,7 +5,7 @@ use mathlib.Core.Bool.{true, _&&_}
 use mathlib.Core.Logic.{_⊎_, inl, inr}
 use Prim.Native.Nat.{ℕ, zero, suc, _+_, _-_, _*_, _/_, _%_, _≤_, _<_, pred}
 use native.Mathlib.Decide.{decLe, decLt}
-use native.Mathlib.Nat.{mul-le-mul, mod-lt, mod-mod, add-mod-right}
+use native.Mathlib.Nat.{mul-le-mul, div-add-mod', mod-lt, mod-mod, add-mod-right}
 use native.Mathlib.Numerals.{add-one}
 use native.Mathlib.Omega.{arith}
 use lib.Dec.{leb, ltb}
@@ -21,6 +21,13 @@ use Rattle.plan.specs.Order.{budgetOf, budgets, projectOf, InOrder}
 use Rattle.layout.specs.Cards.{cardsBelow, heldFrom}
 use Rattle.layout.specs.Cards.Properties.{below-start, below-grows, below-frame, below-cell, past-cell, run-closed, run-least, run-most, run-ceiling, run-frame}
 use Rattle.layout.specs.Layout.{cellAt, firstCell, owns, slotOf, held}
+
+-- ---- cells
+
+-- "cell x is card floor(x/F), slice x mod F"
+pub cell-is : (frame x : ℕ) → cellAt frame (x / frame) (x % frame) ≡ x
+unfolding cellAt
+cell-is frame x = div-add-mod' x frame
 
 -- ---- first cells
 
@@ -99,6 +106,7 @@ slot-free p x h = named (slotOf p x) refl
     named zero q = q
     named (suc j) q = absurd (omega (arith, slot-most p x, owns-to p j x (slot-owner p j x q), first-suc p j, first-grows p (suc j) (p .projects) (omega (arith, slot-most p x))))
 
+-- "0 for a free cell": it is past every project's
 pub free-slot : (p : Plan) (x : ℕ) → slotOf p x ≡ 0 → firstCell p (p .projects) ≤ x
 free-slot p x e = upTo (p .projects) (omega arith)
   where
@@ -149,6 +157,7 @@ below-cards p o s i h =
     omega (arith, e, below-grows (p .frame) (s % p .frame) slice-in (firstCell p i) (p .cards * p .frame) (first-most p o i h))
 
 module _ (p : Plan) (o : InOrder p) (j : ℕ) (l : j < p .projects) where
+  -- every project's cells are cells of the frame
   pub last-most : firstCell p j + budgetOf p j ≤ p .cards * p .frame
   last-most = omega (arith, first-suc p j, first-most p o (suc j) (omega arith))
 
@@ -182,6 +191,7 @@ module _ (p : Plan) (o : InOrder p) (j : ℕ) (l : j < p .projects) where
     pub held-most : held p j s ≤ budgetOf p j / p .frame + 1
     held-most = rw held-from (run-most (firstCell p j) (budgetOf p j) (p .frame) s (o .counts .some-slice))
 
+    -- "a project holds at slice s either floor(B/F) or that plus one card"
     pub held-either : (held p j s ≡ budgetOf p j / p .frame) ⊎ (held p j s ≡ budgetOf p j / p .frame + 1)
     held-either = elim (decLe (held p j s) (budgetOf p j / p .frame)) [ yes q ↦ inl (omega (arith, held-least)) | no q ↦ inr (omega (arith, held-most)) ]
 

@@ -53,6 +53,7 @@ sized-says p e =
       frame-most = within-high 64 (p .frame) f;
     }
 
+-- no 2: every count is in range
 pub sizes-says : (p : Plan) → sizes p ≡ Good → Sized p
 unfolding sizes
 sizes-says p e = sized-says p (not-false (sized p) (refuse-good (not (sized p)) (Bare 2) e))
@@ -67,6 +68,7 @@ projects-opened p r e q = sizes-opened p r e q .projects-most
 pub kinds-opened : (p : Plan) (r : Answer) → r ≡ Good → r ≡ sizes p → p .kinds ≤ 16
 kinds-opened p r e q = sizes-opened p r e q .kinds-most
 
+-- and nothing more is asked
 pub sizes-of : (p : Plan) → Sized p → sizes p ≡ Good
 unfolding sizes sized
 sizes-of p s =
@@ -103,6 +105,7 @@ full-place j used n e false q l p t = rw (le-ltb j n (omega arith), ← p)
 
 -- ---- a project and a kind in range
 
+-- no 4: "a ceiling q (1..m) and a budget B (1..qF)"
 pub project-says : (p : Plan) (j : ℕ) → projectInRange p j ≡ Good → ProjectInRange p (projectOf p j)
 unfolding inRange
 project-says p j e =
@@ -117,12 +120,14 @@ project-says p j e =
       budget-most = within-high (v .ceiling * p .frame) (v .budget) b;
     }
 
+-- and nothing more is asked
 pub project-of : (p : Plan) (j : ℕ) → ProjectInRange p (projectOf p j) → projectInRange p j ≡ Good
 unfolding inRange
 project-of p j r =
     let v = projectOf p j in
     rw (within-of (p .cards) (v .ceiling) (r .some-ceiling) (r .ceiling-most), within-of (v .ceiling * p .frame) (v .budget) (r .some-budget) (r .budget-most))
 
+-- no 5 and no 6: "names its project .. with 1 <= C <= D <= T <= 4095"
 pub kind-says : (p : Plan) (i : ℕ) → kindInRangeAt p i ≡ Good → KindInRange p (kindOf p i)
 unfolding kindInRange timed
 kind-says p i e =
@@ -146,6 +151,7 @@ kind-says p i e =
       separation-most = leb-true (v .separation) 4095 (and-right three four s);
     }
 
+-- and nothing more is asked
 pub kind-of : (p : Plan) (i : ℕ) → KindInRange p (kindOf p i) → kindInRangeAt p i ≡ Good
 unfolding kindInRange timed
 kind-of p i r =

@@ -52,6 +52,7 @@ unfolding bytesOf
 bytes-length zero x = refl
 bytes-length (suc n) x = length-append (bytesOf n (x / 256)) (x % 256 ∷ []) ∙ omega (arith, bytes-length n (x / 256))
 
+-- a number written as bytes and read again
 pub number-bytes : (n x : ℕ) → x < 256 ^ n → numberTo n (bytesOf n x) ≡ x
 unfolding numberTo bytesOf
 number-bytes zero x l = omega arith
@@ -62,6 +63,7 @@ number-bytes (suc n) x l =
     let a = number-append n s (x % 256 ∷ []) (omega arith) ∙ number-bytes n (x / 256) h in
     rw (a, getD-at s (x % 256) [] 0 n e) (omega arith)
 
+-- bytes read as a number and written again
 pub bytes-number : (n : ℕ) (s : List ℕ) → AreBytes s → n ≤ length s → bytesOf n (numberTo n s) ≡ take n s
 unfolding numberTo bytesOf
 bytes-number zero s b l = refl

@@ -13,9 +13,16 @@ use Rattle.plan.specs.Record.{noProject, noKind}
 use Rattle.plan.specs.declared.Project.{Project}
 use Rattle.plan.specs.declared.Kind.{Kind}
 use Rattle.plan.specs.declared.Plan.{Plan}
+use Rattle.plan.specs.Order.{Sized}
 use Rattle.plan_bytes.specs.Pack.{bits, pack, unpack}
 use Rattle.plan_bytes.specs.Bytes.{numberTo, bytesOf}
 use Rattle.plan_bytes.specs.Parts.{headerBytes, projectBytes, kindBytes, headerFields, projectFields, kindFields, projectFrom, kindFrom, projectAt, kindAt, projectsFrom, kindsFrom, headed, decoded, size}
+
+-- ---- "at most 99"
+
+pub size-most : (p : Plan) → Sized p → size p ≤ 99
+unfolding size
+size-most p counts = omega (arith, counts .projects-most, counts .kinds-most)
 
 -- ---- a part that is handed on
 

@@ -24,6 +24,7 @@ use Rattle.rack.specs.Form.{InForm, Ready, placeInForm, inForm, ready}
 
 -- ---- the whole state
 
+-- what the test says of each place
 pub form-says : (s : State) → inForm s ≡ true → InForm s
 unfolding inForm
 form-says s e =
@@ -34,6 +35,7 @@ form-says s e =
       unused = λ i l m. empty-says (unitOf s i) (rw (le-ltb i (s .plan .kinds) m) at (places i l));
     }
 
+-- and nothing more is asked
 pub form-of : (s : State) → InForm s → inForm s ≡ true
 unfolding inForm
 form-of s f = and-both (leb (s .clock) 1000000000) (allTo 16 (placeInForm s)) (le-leb (s .clock) 1000000000 (f .clock-most)) (all-of 16 (placeInForm s) place)
@@ -41,6 +43,7 @@ form-of s f = and-both (leb (s .clock) 1000000000) (allTo 16 (placeInForm s)) (l
     place : (i : ℕ) → i < 16 → placeInForm s i ≡ true
     place i l = elim (decLt i (s .plan .kinds)) [ yes m ↦ rw (lt-ltb i (s .plan .kinds) m) (unit-of (s .clock) (kindAt s i .length) (unitOf s i) (f .unit-at i l m)) | no m ↦ rw (le-ltb i (s .plan .kinds) (omega arith)) (empty-of (unitOf s i) (f .unused i l (omega arith))) ]
 
+-- none of the record order and 10: the plan is in order and the state in form
 pub ready-says : (s : State) → ready s ≡ Good → Ready s
 unfolding ready
 ready-says s e =
@@ -50,6 +53,7 @@ ready-says s e =
       form = form-says s (not-false (inForm s) (refuse-good (not (inForm s)) (Bare 10) (andThen-right (checked (s .plan)) ten e)));
     }
 
+-- and nothing more is asked
 pub ready-of : (s : State) → Ready s → ready s ≡ Good
 unfolding ready
 ready-of s r = rw (in-order-good (s .plan) (r .order), form-of s (r .form))

@@ -127,11 +127,13 @@ module _ (s : State) where
 
   -- ---- one kind of a project to a rank, and one rank to a kind
 
+  -- no two kinds of a project share a rank
   pub ranks-distinct : (i k : ℕ) → i < s .plan .kinds → k < s .plan .kinds → working s i ≡ true → working s k ≡ true → project i ≡ project k → rank s i ≡ rank s k → i ≡ k
   unfolding rank
   ranks-distinct i k l m p q e r =
       rank-distinct (s .plan .kinds) (active s (project i)) (outranks s) ranked i k l m (active-of (project i) i refl p) (active-of (project i) k (sym e) q) (r ∙ ap (λ (j : ℕ). rankIn (s .plan .kinds) (active s j) (outranks s) k) (sym e))
 
+  -- and each number below their count is one's
   pub rank-taken : (j r : ℕ) → r < activeKinds s j → (i : ℕ) × (i < s .plan .kinds) × (active s j i ≡ true) × (rank s i ≡ r)
   unfolding activeKinds rank
   rank-taken j r l =

@@ -39,6 +39,7 @@ module _ (F : ℕ) (h : ℕ → ℕ) (C W D : ℕ) where
   unfolding leastWidth
   width-most q = first-le q (fitsAt F h C W D)
 
+  -- the k given fits
   pub width-fits : (q : ℕ) → 0 < leastWidth F h C W D q → leastWidth F h C W D q * C + W ≤ supply F h (leastWidth F h C W D q) D
   unfolding leastWidth fitsAt
   width-fits q p = leb-true _ _ (first-holds q (fitsAt F h C W D) p)
@@ -58,11 +59,13 @@ module _ (F : ℕ) (h : ℕ → ℕ) (C W D : ℕ) where
   unfolding leastWidth fitsAt
   width-none q k e p l = leb-false (k * C + W) (supply F h k D) (first-zero q (fitsAt F h C W D) (sym e) k p l)
 
+  -- the excess given is no more than any k's
   pub excess-most : (q k : ℕ) → 0 < k → k ≤ q → leastExcess F h C W D q ≤ k * C + W - supply F h k D
   unfolding leastExcess excessAt
   excess-most q zero p l = absurd (omega arith)
   excess-most q (suc j) p l = rw (← (add-one j)) (least-le q (λ j. excessAt F h C W D (j + 1)) j (omega arith))
 
+  -- and is some k's
   pub excess-attained : (q : ℕ) → 0 < q → (k : ℕ) × (0 < k) × (k ≤ q) × (leastExcess F h C W D q ≡ k * C + W - supply F h k D)
   unfolding leastExcess excessAt
   excess-attained q p = let t = least-at q (λ j. excessAt F h C W D (j + 1)) p in (t .0 + 1, omega arith, omega (arith, t .1), t .2)

@@ -19,6 +19,7 @@ untouched-of : (v : Unit) → (v .at ≡ 0) × (v .left ≡ 0) → untouched v �
 unfolding untouched
 untouched-of v e = and-both (eqb (v .at) 0) (eqb (v .left) 0) (eq-eqb (v .at) 0 (e .0)) (eq-eqb (v .left) 0 (e .1))
 
+-- what the test says of each field
 pub unit-says : (clock length : ℕ) (v : Unit) → unitInForm clock length v ≡ true → UnitInForm clock length v
 unfolding unitInForm underway
 unit-says clock length v e = go (v .released) refl e
@@ -31,6 +32,7 @@ unit-says clock length v e = go (v .released) refl e
     }
     go false p q = let u = untouched-says v q in record { release-clock = omega arith; left-most = omega arith; never = λ n. u }
 
+-- and nothing more is asked
 pub unit-of : (clock length : ℕ) (v : Unit) → UnitInForm clock length v → unitInForm clock length v ≡ true
 unfolding unitInForm underway
 unit-of clock length v r = go (v .released) refl

@@ -31,6 +31,7 @@ early-of separation v ago h = go (v .released) refl
 
 -- ---- a kind that may start a unit
 
+-- none of 13, 14 and 15
 pub start-says : (k : Kind) (v : Unit) (ago e : ℕ) → startable k v ago e ≡ Good → Startable k v ago e
 unfolding startable
 start-says k v ago e h =
@@ -46,6 +47,7 @@ start-says k v ago e h =
       nothing-left = eqb-true (v .left) 0 (not-false (eqb (v .left) 0) (refuse-good (not (eqb (v .left) 0)) (Bare 15) (andThen-right fourteen fifteen r)));
     }
 
+-- and nothing more is asked
 pub start-of : (k : Kind) (v : Unit) (ago e : ℕ) → Startable k v ago e → startable k v ago e ≡ Good
 unfolding startable
 start-of k v ago e h =

@@ -2,52 +2,46 @@ use Rattle.exports.specs.Exports.Properties.{read-count, read-refused, r
 use borrow.Author.Needs.{needs}
 use Rattle.exports.proofs.parchbeetle_read.Statement.{statement}
 use Rattle.exports.proofs.parchbeetle_read.Tie as tie
-use Rattle.exports.proofs.parchbeetle_read.Reads as reads
-use Rattle.exports.proofs.parchbeetle_read.Lts as lts
-use Rattle.exports.proofs.image.put_plan.Reads as put-plan-reads
-use Rattle.exports.proofs.told.Reads as told-reads
-use Rattle.plan_bytes.proofs.read.Reads as read-reads
 
--- src/lib.rt:55:9
 read-requires : tie.Need-read-requires
 read-requires c κs = search needs
 
 enum-told : tie.Need-enum-told
 enum-told c = search needs
 
--- src/lib.rt:58:9
 enum-told-2 : tie.Need-enum-told-2
 enum-told-2 c = search needs
 
--- src/lib.rt:58:9
 told-requires : tie.Need-told-requires
 told-requires c κs = search needs
 
--- src/lib.rt:58:9
 returns : tie.Need-returns
 returns c = search read-refused
 
--- src/lib.rt:61:9
-told-requires-2 : tie.Need-told-requires-2
-told-requires-2 c κs = search needs
-
--- src/lib.rt:61:9
-returns-2 : tie.Need-returns-2
-returns-2 c = search read-short
-
--- src/lib.rt:63:5
 put-plan-requires : tie.Need-put-plan-requires
 put-plan-requires c κs = search needs
 
--- src/lib.rt:64:5
-told-requires-3 : tie.Need-told-requires-3
-told-requires-3 c κs = search read-count
+enum-told-3 : tie.Need-enum-told-3
+enum-told-3 c = search needs
 
--- src/lib.rt:51:1
+enum-told-4 : tie.Need-enum-told-4
+enum-told-4 c = search needs
+
+told-requires-2 : tie.Need-told-requires-2
+told-requires-2 c κs = search needs
+
 same-length : tie.Need-same-length
 same-length c = search needs
 
--- src/lib.rt:51:1
+returns-2 : tie.Need-returns-2
+returns-2 c = search read-short
+
+told-requires-3 : tie.Need-told-requires-3
+told-requires-3 c κs = search read-count
+
+same-length-2 : tie.Need-same-length-2
+same-length-2 c = search needs
+
 returns-3 : tie.Need-returns-3
 returns-3 c = search read-good
 
@@ -60,9 +54,12 @@ parchbeetle-read-spec =
     enum-told-2
     told-requires
     returns
-    told-requires-2
-    returns-2
     put-plan-requires
-    told-requires-3
+    enum-told-3
+    enum-told-4
+    told-requires-2
     same-length
+    returns-2
+    told-requires-3
+    same-length-2
     returns-3)

@@ -1,66 +1,56 @@
-use Rattle.exports.specs.Exports.Properties.{judge-short, judge-refused, judge-room, judge-good}
+use Rattle.exports.specs.Exports.{verdictAnswer}
+use Rattle.exports.specs.Outcome.Properties.{unfound-outcome}
+use Rattle.exports.specs.Exports.Properties.{judge-refused, judge-short, judge-good}
 use borrow.Author.Needs.{needs}
 use Rattle.exports.proofs.parchbeetle_verdict.Statement.{statement}
 use Rattle.exports.proofs.parchbeetle_verdict.Tie as tie
-use Rattle.exports.proofs.parchbeetle_verdict.Reads as reads
-use Rattle.exports.proofs.parchbeetle_verdict.Lts as lts
-use Rattle.exports.proofs.image.plan_from.Reads as plan-from-reads
-use Rattle.exports.proofs.put_widths.Reads as put-widths-reads
-use Rattle.exports.proofs.told.Reads as told-reads
-use Rattle.verdict.proofs.judge.Reads as judge-reads
 
--- src/lib.rt:110:9
-told-requires : tie.Need-told-requires
-told-requires c κs = search needs
-
--- src/lib.rt:110:9
-returns : tie.Need-returns
-returns c = search judge-short
-
--- src/lib.rt:112:9
-plan-from-requires : tie.Need-plan-from-requires
-plan-from-requires c κs = search needs
-
--- src/lib.rt:113:9
-judge-requires : tie.Need-judge-requires
-judge-requires c κs = search needs
+plan-of-requires : tie.Need-plan-of-requires
+plan-of-requires c κs = search needs
 
 enum-told : tie.Need-enum-told
 enum-told c = search needs
 
--- src/lib.rt:116:9
 enum-told-2 : tie.Need-enum-told-2
 enum-told-2 c = search needs
 
--- src/lib.rt:116:9
+told-requires : tie.Need-told-requires
+told-requires c κs = search needs
+
+returns : tie.Need-returns
+unfolding verdictAnswer
+returns c = search unfound-outcome
+
+judge-requires : tie.Need-judge-requires
+judge-requires c κs = search needs
+
+enum-told-3 : tie.Need-enum-told-3
+enum-told-3 c = search needs
+
+enum-told-4 : tie.Need-enum-told-4
+enum-told-4 c = search needs
+
 told-requires-2 : tie.Need-told-requires-2
 told-requires-2 c κs = search needs
 
--- src/lib.rt:116:9
 returns-2 : tie.Need-returns-2
 returns-2 c = search judge-refused
 
--- src/lib.rt:119:9
 told-requires-3 : tie.Need-told-requires-3
 told-requires-3 c κs = search needs
 
--- src/lib.rt:119:9
 returns-3 : tie.Need-returns-3
-returns-3 c = search judge-room
+returns-3 c = search judge-short
 
--- src/lib.rt:122:5
 put-widths-requires : tie.Need-put-widths-requires
 put-widths-requires c κs = search needs
 
--- src/lib.rt:123:5
 told-requires-4 : tie.Need-told-requires-4
 told-requires-4 c κs = search needs
 
--- src/lib.rt:105:1
 same-length : tie.Need-same-length
 same-length c = search needs
 
--- src/lib.rt:105:1
 returns-4 : tie.Need-returns-4
 returns-4 c = search judge-good
 
@@ -68,12 +58,14 @@ pub parchbeetle-verdict-spec : {M : Type 1} → statement M
 parchbeetle-verdict-spec =
     tie.close
     (tie.spec
-    told-requires
-    returns
-    plan-from-requires
-    judge-requires
+    plan-of-requires
     enum-told
     enum-told-2
+    told-requires
+    returns
+    judge-requires
+    enum-told-3
+    enum-told-4
     told-requires-2
     returns-2
     told-requires-3

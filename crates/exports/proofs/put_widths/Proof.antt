@@ -1,15 +1,13 @@
 use borrow.Author.Needs.{needs}
 use native.Mathlib.Omega.{arith}
 use mathlib.Core.Path.{_≡_, refl}
-use Prim.Native.Nat.{_≤_, _<_, _-_, _+_, _*_}
+use Prim.Native.Nat.{_≤_, _-_}
 use lib.ListN.{length, length-set}
 use Rattle.laws.specs.Written.{written}
 use Rattle.laws.specs.Written.Properties.{written-none, written-again, written-stop}
 use Rattle.exports.specs.Exports.{widthAt}
 use Rattle.exports.proofs.put_widths.Statement.{statement}
 use Rattle.exports.proofs.put_widths.Tie as tie
-use Rattle.exports.proofs.put_widths.Reads as reads
-use Rattle.exports.proofs.put_widths.Lts as lts
 
 abbrev Inv-loop : tie.InvT-loop
 Inv-loop k₀ width i₀ k i = (i ≤ 16) × (k ≡ written i (widthAt width) k₀) × (length k ≡ length k₀)
@@ -17,35 +15,27 @@ Inv-loop k₀ width i₀ k i = (i ≤ 16) × (k ≡ written i (widthAt width) k�
 abbrev μ-loop : tie.MeasureT-loop
 μ-loop k₀ width i₀ k i = 16 - i
 
--- src/lib.rt:97:5
 loop-holds : tie.Need-loop-holds Inv-loop μ-loop
 loop-holds c = (omega arith, written-none _ _, refl)
 
--- src/lib.rt:98:16
 array-read-k : tie.Need-array-read-k Inv-loop μ-loop
 array-read-k c = search needs
 
--- src/lib.rt:98:9
 slice-write-k : tie.Need-slice-write-k Inv-loop μ-loop
 slice-write-k c = search needs
 
--- src/lib.rt:97:9
 add-i : tie.Need-add-i Inv-loop μ-loop
 add-i c = search needs
 
--- src/lib.rt:97:5
 loop-less : tie.Need-loop-less Inv-loop μ-loop
 loop-less c = search needs
 
--- src/lib.rt:97:5
 loop-again : tie.Need-loop-again Inv-loop μ-loop
 loop-again c = (omega arith, search written-again, simp length-set (omega arith))
 
--- src/lib.rt:93:1
 same-length : tie.Need-same-length Inv-loop μ-loop
 same-length c = search needs
 
--- src/lib.rt:93:1
 returns : tie.Need-returns Inv-loop μ-loop
 returns c = search written-stop
 

@@ -93,15 +93,19 @@ releasedTold s = allTo 16 (releasedAt s)
 
 -- ---- the images
 
+-- ceiling u8, budget u16
 unfoldable pub projectBytes : Project → List ℕ
 projectBytes v = v .ceiling ∷ bytesOf 2 (v .budget)
 
+-- project u8, separation u16, deadline u16, length u16
 unfoldable pub kindBytes : Kind → List ℕ
 kindBytes v = v .project ∷ (bytesOf 2 (v .separation) ++ (bytesOf 2 (v .deadline) ++ bytesOf 2 (v .length)))
 
+-- released u8, release clock u32, left u16
 unfoldable pub unitBytes : Unit → List ℕ
 unitBytes v = cond (v .released) 1 0 ∷ (bytesOf 4 (v .at) ++ bytesOf 2 (v .left))
 
+-- cards, projects, kinds, frame
 unfoldable pub countBytes : Plan → List ℕ
 countBytes p = p .cards ∷ p .projects ∷ p .kinds ∷ p .frame ∷ []
 

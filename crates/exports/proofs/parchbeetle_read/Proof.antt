@@ -37,7 +37,7 @@ returns-2 : tie.Need-returns-2
 returns-2 c = search read-short
 
 told-requires-3 : tie.Need-told-requires-3
-told-requires-3 c κs = search read-count
+told-requires-3 c κs = search (read-count, needs)
 
 same-length-2 : tie.Need-same-length-2
 same-length-2 c = search needs

@@ -25,7 +25,7 @@ slot-table-requires : tie.Need-slot-table-requires
 slot-table-requires c κs = search needs
 
 told-requires-2 : tie.Need-told-requires-2
-told-requires-2 c κs = search slots-count
+told-requires-2 c κs = search (slots-count, needs)
 
 same-length : tie.Need-same-length
 same-length c = search needs

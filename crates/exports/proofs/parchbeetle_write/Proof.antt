@@ -25,7 +25,7 @@ write-requires : tie.Need-write-requires
 write-requires c κs = search needs
 
 told-requires-2 : tie.Need-told-requires-2
-told-requires-2 c κs = search write-count
+told-requires-2 c κs = search (write-count, needs)
 
 same-length : tie.Need-same-length
 same-length c = search needs

@@ -17,7 +17,7 @@ use Rattle.plan.specs.declared.answer.Answer.the-variants.{Good, No}
 use Rattle.plan.specs.declared.answer.Refusal.{Refusal}
 use Rattle.plan.specs.declared.answer.Refusal.the-variants.{Bare}
 use Rattle.plan.specs.Answer.{refuse, _andThen_, ifGood}
-use Rattle.plan.specs.Answer.Properties.{andThen-left, opened-no, opened-on, opened-is}
+use Rattle.plan.specs.Answer.Properties.{andThen-left, opened-no, opened-on}
 use Rattle.plan.specs.Order.{checked, within}
 use Rattle.plan.specs.Order.Properties.{InOrder, in-order}
 use Rattle.plan_bytes.specs.declared.Reading.{Reading}
@@ -43,7 +43,7 @@ use Rattle.images.specs.declared.PlanFound.{PlanFound}
 use Rattle.images.specs.declared.StateFound.{StateFound}
 use Rattle.images.specs.Image.{planFrom, planImage, stateFrom, stateImage, releasedTold}
 use Rattle.images.specs.Lent.{room, planFound, foundAnswer, stateFound, StoresPlan, StoresState}
-use Rattle.images.specs.Lent.Properties.{short-room, long-room, plan-answer, plan-is, state-answer, state-is}
+use Rattle.images.specs.Lent.Properties.{short-room, long-room, plan-room, plan-is, plan-no, plan-on, state-room, state-is, state-no, state-on}
 use Rattle.exports.specs.Outcome.{told}
 use Rattle.exports.specs.Outcome.Properties.{refused-outcome, good-outcome, stored-outcome, uncounted}
 use Rattle.exports.specs.Exports.{checkAnswer, readsAnswer, Reads, writesAnswer, WritesBytes, slotsAnswer, WritesSlots, verdictAnswer, widthAt, Judges, freshAnswer, Starts, stateAnswer, releasesAnswer, Releases, slicesAnswer, Slices}
@@ -52,11 +52,11 @@ use Rattle.exports.specs.Exports.{checkAnswer, readsAnswer, Reads, write
 
 pub check-unfound : (plan : List ℕ) (f : PlanFound) (w : Refusal) (r : ℕ) → f ≡ planFound plan → f .answer ≡ No w → r ≡ told (f .answer) 0 → r ≡ told (checkAnswer plan) 0
 unfolding checkAnswer
-check-unfound plan f w r e g h = h ∙ ap (λ (x : Answer). told x 0) (opened-no (f .answer) (room plan 140) (checked (planFrom plan)) w g (plan-answer plan f e))
+check-unfound plan f w r e g h = h ∙ ap (λ (x : Answer). told x 0) (plan-no plan f (checked (planFrom plan)) w e g)
 
 pub check-told : (plan : List ℕ) (f : PlanFound) (a : Answer) (r : ℕ) → f ≡ planFound plan → f .answer ≡ Good → a ≡ checked (f .plan) → r ≡ told a 0 → r ≡ told (checkAnswer plan) 0
 unfolding checkAnswer
-check-told plan f a r e g h t = t ∙ ap (λ (x : Answer). told x 0) (opened-on (f .answer) (room plan 140) (checked (planFrom plan)) a g (plan-answer plan f e) (h ∙ ap checked (plan-is plan f e g)))
+check-told plan f a r e g h t = t ∙ ap (λ (x : Answer). told x 0) (plan-on plan f (checked (planFrom plan)) a e g (h ∙ ap checked (plan-is plan f e g)))
 
 -- ---- `parchbeetle_read`: v is what reading found
 
@@ -110,7 +110,7 @@ write-count p out after w e =
 pub write-told : (plan out after : List ℕ) (f : PlanFound) (w : Written) (r : ℕ) → f ≡ planFound plan → f .answer ≡ Good → Writes (f .plan) out w after → r ≡ told (w .answer) (w .count) → WritesBytes plan out r after
 unfolding writesAnswer
 write-told plan out after f w r e g t h =
-    rw (opened-is (f .answer) (room plan 140) g (plan-answer plan f e), ← plan-is plan f e g) (record { result = h ∙ ap (λ (x : Written). told (x .answer) (x .count)) (t .result); buffer = t .buffer })
+    rw (plan-room plan f e g, ← plan-is plan f e g) (record { result = h ∙ ap (λ (x : Written). told (x .answer) (x .count)) (t .result); buffer = t .buffer })
 
 -- ---- `parchbeetle_slot_table`: w is what writing the table did
 
@@ -134,24 +134,24 @@ slots-count p out after w e =
 
 pub slots-told : (plan out after : List ℕ) (f : PlanFound) (w : TableWritten) (r : ℕ) → f ≡ planFound plan → f .answer ≡ Good → Tabled (f .plan) out after w → r ≡ told (w .answer) (w .count) → WritesSlots plan out r after
 unfolding slotsAnswer
-slots-told plan out after f w r e g t h = rw (opened-is (f .answer) (room plan 140) g (plan-answer plan f e), ← plan-is plan f e g) (record { result = h ∙ ap₂ told (t .answer) (t .count); buffer = t .bytes })
+slots-told plan out after f w r e g t h = rw (plan-room plan f e g, ← plan-is plan f e g) (record { result = h ∙ ap₂ told (t .answer) (t .count); buffer = t .bytes })
 
 -- ---- `parchbeetle_verdict`: v is the verdict
 
 judge-is : (plan : List ℕ) (f : PlanFound) (v : Verdict) → f ≡ planFound plan → f .answer ≡ Good → v ≡ judged (f .plan) → v ≡ judged (planFrom plan)
 judge-is plan f v e g h = h ∙ ap judged (plan-is plan f e g)
 
-judge-stage : (plan k : List ℕ) (f : PlanFound) (v : Verdict) (x : Answer) → f ≡ planFound plan → f .answer ≡ Good → x ≡ (judged (planFrom plan) .answer andThen room k 16) → x ≡ verdictAnswer plan k
+judge-stage : (plan k : List ℕ) (f : PlanFound) (x : Answer) → f ≡ planFound plan → f .answer ≡ Good → x ≡ (judged (planFrom plan) .answer andThen room k 16) → x ≡ verdictAnswer plan k
 unfolding verdictAnswer
-judge-stage plan k f v x e g h = opened-on (f .answer) (room plan 140) (judged (planFrom plan) .answer andThen room k 16) x g (plan-answer plan f e) h
+judge-stage plan k f x e g h = plan-on plan f (judged (planFrom plan) .answer andThen room k 16) x e g h
 
 pub judge-refused : (plan k : List ℕ) (f : PlanFound) (v : Verdict) (w : Refusal) (r : ℕ) → f ≡ planFound plan → f .answer ≡ Good → v ≡ judged (f .plan) → v .answer ≡ No w → r ≡ told (v .answer) 0 → Judges plan k r k
 judge-refused plan k f v w r e g h n t =
     refused-outcome (verdictAnswer plan k) (v .answer) w _ _ k r n t
-    (judge-stage plan k f v (v .answer) e g (opened-no (v .answer) (judged (planFrom plan) .answer) (room k 16) w n (ap (λ (x : Verdict). x .answer) (judge-is plan f v e g h))))
+    (judge-stage plan k f (v .answer) e g (opened-no (v .answer) (judged (planFrom plan) .answer) (room k 16) w n (ap (λ (x : Verdict). x .answer) (judge-is plan f v e g h))))
 
 judge-room : (plan k : List ℕ) (f : PlanFound) (v : Verdict) (x : Answer) → f ≡ planFound plan → f .answer ≡ Good → v ≡ judged (f .plan) → v .answer ≡ Good → x ≡ room k 16 → x ≡ verdictAnswer plan k
-judge-room plan k f v x e g h n m = judge-stage plan k f v x e g (opened-on (v .answer) (judged (planFrom plan) .answer) (room k 16) x n (ap (λ (y : Verdict). y .answer) (judge-is plan f v e g h)) m)
+judge-room plan k f v x e g h n m = judge-stage plan k f x e g (opened-on (v .answer) (judged (planFrom plan) .answer) (room k 16) x n (ap (λ (y : Verdict). y .answer) (judge-is plan f v e g h)) m)
 
 pub judge-short : (plan k : List ℕ) (f : PlanFound) (v : Verdict) (r : ℕ) → f ≡ planFound plan → f .answer ≡ Good → v ≡ judged (f .plan) → v .answer ≡ Good → length k < 16 → r ≡ told (No (Bare 9)) 0 → Judges plan k r k
 judge-short plan k f v r e g h n l t = refused-outcome (verdictAnswer plan k) (No (Bare 9)) (Bare 9) _ _ k r refl t (judge-room plan k f v (No (Bare 9)) e g h n (short-room k 16 l))
@@ -176,7 +176,7 @@ start-state p v e g = ap (λ (x : Next). x .state) e ∙ ap (λ (x : Answer). if
 
 start-stage : (plan state : List ℕ) (f : PlanFound) (x : Answer) → f ≡ planFound plan → f .answer ≡ Good → x ≡ (startAnswer (planFrom plan) andThen room state 256) → x ≡ freshAnswer plan state
 unfolding freshAnswer
-start-stage plan state f x e g h = opened-on (f .answer) (room plan 140) (startAnswer (planFrom plan) andThen room state 256) x g (plan-answer plan f e) h
+start-stage plan state f x e g h = plan-on plan f (startAnswer (planFrom plan) andThen room state 256) x e g h
 
 pub fresh-refused : (plan state : List ℕ) (f : PlanFound) (v : Next) (w : Refusal) (r : ℕ) → f ≡ planFound plan → f .answer ≡ Good → v ≡ startOf (f .plan) → v .answer ≡ No w → r ≡ told (v .answer) 0 → Starts plan state r state
 fresh-refused plan state f v w r e g h n t =
@@ -190,13 +190,14 @@ fresh-stored plan state after f v b r e g h n t u =
     (stored-outcome (freshAnswer plan state) b 0 256 (stateImage (v .state)) state after r t
     (start-stage plan state f b e g (opened-on (v .answer) (startAnswer (planFrom plan)) (room state 256) b n (start-answer (planFrom plan) v i) (t .result))) (uncounted b r u))
 
--- ---- a state's image: the record order, which releases and slices begin with, need not be asked before them too
+-- ---- the record order, with which releases and slices begin, need not be asked before them
 
--- an order that begins with a asks a again to no effect
+-- checking twice is checking once
 again : (a b c : Answer) → (a andThen ((a andThen b) andThen c)) ≡ ((a andThen b) andThen c)
 again Good b c = refl
 again (No w) b c = refl
 
+-- the same behind 9, and before the 10 of a released byte
 once-of : (short order x : Answer) (told : Bool) → (order andThen x) ≡ x → ((short andThen (order andThen refuse (not told) (Bare 10))) andThen x) ≡ ((short andThen cond told Good (order andThen No (Bare 10))) andThen x)
 once-of (No w) order x told e = refl
 once-of Good Good x true e = refl
@@ -204,13 +205,10 @@ once-of Good (No w) x true e = e
 once-of Good Good x false e = refl
 once-of Good (No w) x false e = refl
 
+-- so an operation x that begins with the record order answers as if the image's plan had been checked before
 once : (s : List ℕ) (x : Answer) → (checked (planFrom s) andThen x) ≡ x → (stateAnswer s andThen x) ≡ (foundAnswer s andThen x)
 unfolding stateAnswer foundAnswer
 once s x e = once-of (room s 256) (checked (planFrom s)) x (releasedTold s) e
-
-found-room : (s : List ℕ) (f : StateFound) → f ≡ stateFound s → f .answer ≡ Good → room s 256 ≡ Good
-unfolding foundAnswer
-found-room s f e g = andThen-left (room s 256) (cond (releasedTold s) Good (checked (planFrom s) andThen No (Bare 10))) (opened-is (f .answer) (foundAnswer s) g (state-answer s f e))
 
 -- ---- `parchbeetle_release`
 
@@ -273,12 +271,12 @@ unfolding releaseOf
 release-state s kind e v i n = ap (λ (x : Next). x .state) i ∙ ap (λ (x : Answer). ifGood x (released s kind e) s) (sym (release-answer s kind e v i) ∙ n)
 
 release-stage : (state : List ℕ) (kind e : ℕ) (f : StateFound) (x : Answer) → f ≡ stateFound state → f .answer ≡ Good → x ≡ releaseAnswer (stateFrom state) kind e → x ≡ releasesAnswer state kind e
-release-stage state kind e f x h g t = opened-on (f .answer) (foundAnswer state) (releaseAnswer (stateFrom state) kind e) x g (state-answer state f h) t ∙ sym (release-once state kind e)
+release-stage state kind e f x h g t = state-on state f (releaseAnswer (stateFrom state) kind e) x h g t ∙ sym (release-once state kind e)
 
 pub release-unfound : (state : List ℕ) (kind e : ℕ) (f : StateFound) (w : Refusal) (r : ℕ) → f ≡ stateFound state → f .answer ≡ No w → r ≡ told (f .answer) 0 → Releases state kind e r state
 release-unfound state kind e f w r h g t =
     refused-outcome (releasesAnswer state kind e) (f .answer) w _ _ state r g t
-    (opened-no (f .answer) (foundAnswer state) (releaseAnswer (stateFrom state) kind e) w g (state-answer state f h) ∙ sym (release-once state kind e))
+    (state-no state f (releaseAnswer (stateFrom state) kind e) w h g ∙ sym (release-once state kind e))
 
 pub release-refused : (state : List ℕ) (kind e k x : ℕ) (f : StateFound) (v : Next) (w : Refusal) (r : ℕ) → f ≡ stateFound state → f .answer ≡ Good → k ≡ min kind 16 → x ≡ min e 65536 → v ≡ releaseOf (f .state) k x → v .answer ≡ No w → r ≡ told (v .answer) 0 → Releases state kind e r state
 release-refused state kind e k x f v w r h g p q t n u =
@@ -288,7 +286,7 @@ release-refused state kind e k x f v w r h g p q t n u =
 pub release-stored : (state after : List ℕ) (kind e k x : ℕ) (f : StateFound) (v : Next) (b : Answer) (r : ℕ) → f ≡ stateFound state → f .answer ≡ Good → k ≡ min kind 16 → x ≡ min e 65536 → v ≡ releaseOf (f .state) k x → v .answer ≡ Good → StoresState (v .state) state b after → r ≡ told b 0 → Releases state kind e r after
 release-stored state after kind e k x f v b r h g p q t n u z =
     let i = release-is state kind e k x f v h g p q t in
-    let a : b ≡ v .answer = u .result ∙ found-room state f h g ∙ sym n in
+    let a : b ≡ v .answer = u .result ∙ state-room state f h g ∙ sym n in
     rw (← release-state (stateFrom state) kind e v i n)
     (stored-outcome (releasesAnswer state kind e) b 0 256 (stateImage (v .state)) state after r u (release-stage state kind e f b h g (a ∙ release-answer (stateFrom state) kind e v i)) (uncounted b r z))
 
@@ -300,7 +298,7 @@ slice-once s row = once s (sliceAnswer (stateFrom s) (length row)) (again (check
 
 slice-stage : (state row : List ℕ) (f : StateFound) (x : Answer) → f ≡ stateFound state → f .answer ≡ Good → x ≡ sliceAnswer (f .state) (length row) → x ≡ slicesAnswer state row
 slice-stage state row f x h g t =
-    opened-on (f .answer) (foundAnswer state) (sliceAnswer (stateFrom state) (length row)) x g (state-answer state f h) (t ∙ ap (λ (s : State). sliceAnswer s (length row)) (state-is state f h g)) ∙ sym (slice-once state row)
+    state-on state f (sliceAnswer (stateFrom state) (length row)) x h g (t ∙ ap (λ (s : State). sliceAnswer s (length row)) (state-is state f h g)) ∙ sym (slice-once state row)
 
 slice-answer : (s : State) (row cards : List ℕ) (v : Next) → Sliced s row v cards → v .answer ≡ sliceAnswer s (length row)
 unfolding sliceOf
@@ -316,7 +314,7 @@ slice-state s row cards v t n = ap (λ (x : Next). x .state) (t .result) ∙ ap 
 
 pub slice-unfound : (state row : List ℕ) (f : StateFound) (w : Refusal) (r : ℕ) → f ≡ stateFound state → f .answer ≡ No w → r ≡ told (f .answer) 0 → Slices state row r state row
 slice-unfound state row f w r h g t =
-    let z : slicesAnswer state row ≡ No w = slice-once state row ∙ sym (opened-no (f .answer) (foundAnswer state) (sliceAnswer (stateFrom state) (length row)) w g (state-answer state f h)) ∙ g in
+    let z : slicesAnswer state row ≡ No w = slice-once state row ∙ sym (state-no state f (sliceAnswer (stateFrom state) (length row)) w h g) ∙ g in
     record { result = t ∙ ap (λ (x : Answer). told x 0) (g ∙ sym z); image = rw z; row-bytes = rw z }
 
 pub slice-refused : (state row cards : List ℕ) (f : StateFound) (v : Next) (w : Refusal) (r : ℕ) → f ≡ stateFound state → f .answer ≡ Good → Sliced (f .state) row v cards → v .answer ≡ No w → r ≡ told (v .answer) 0 → Slices state row r state cards
@@ -327,7 +325,7 @@ slice-refused state row cards f v w r h g t n u =
 pub slice-stored : (state row after cards : List ℕ) (f : StateFound) (v : Next) (b : Answer) (r : ℕ) → f ≡ stateFound state → f .answer ≡ Good → Sliced (f .state) row v cards → v .answer ≡ Good → StoresState (v .state) state b after → r ≡ told b 0 → Slices state row r after cards
 slice-stored state row after cards f v b r h g t n u y =
     let z : slicesAnswer state row ≡ Good = sym (slice-stage state row f (v .answer) h g (slice-answer (f .state) row cards v t)) ∙ n in
-    let a = found-room state f h g in
+    let a = state-room state f h g in
     let s = state-is state f h g in
     let d : v .state ≡ advanced (stateFrom state) = slice-state (f .state) row cards v t n ∙ ap advanced s in
     record {

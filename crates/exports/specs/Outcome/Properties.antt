@@ -8,10 +8,9 @@ use Rattle.plan.specs.declared.answer.Answer.{Answer}
 use Rattle.plan.specs.declared.answer.Answer.the-variants.{Good, No}
 use Rattle.plan.specs.declared.answer.Refusal.{Refusal}
 use Rattle.plan.specs.Answer.{number, place, excess, _andThen_, ifGood}
-use Rattle.plan.specs.Answer.Properties.{opened-no}
 use Rattle.images.specs.declared.PlanFound.{PlanFound}
 use Rattle.images.specs.Lent.{room, planFound, Stores}
-use Rattle.images.specs.Lent.Properties.{plan-answer}
+use Rattle.images.specs.Lent.Properties.{plan-no}
 use Rattle.exports.specs.Outcome.{told, Outcome}
 
 -- the parts as the code finds and widens them
@@ -27,7 +26,7 @@ refused-outcome a x w n new old r e f g =
 
 -- refused because no plan was found, whatever the answer would be after that
 pub unfound-outcome : (plan : List ℕ) (f : PlanFound) (w : Refusal) (b : Answer) (n : ℕ) (new old : List ℕ) (r : ℕ) → f ≡ planFound plan → f .answer ≡ No w → r ≡ told (f .answer) 0 → Outcome (room plan 140 andThen b) n new old r old
-unfound-outcome plan f w b n new old r e g h = refused-outcome (room plan 140 andThen b) (f .answer) w n new old r g h (opened-no (f .answer) (room plan 140) b w g (plan-answer plan f e))
+unfound-outcome plan f w b n new old r e g h = refused-outcome (room plan 140 andThen b) (f .answer) w n new old r g h (plan-no plan f b w e g)
 
 -- good
 pub good-outcome : (a : Answer) (n : ℕ) (new old : List ℕ) (r : ℕ) (after : List ℕ) → Good ≡ a → r ≡ told Good n → after ≡ new → Outcome a n new old r after

@@ -1,7 +1,7 @@
 -- Laws of lent buffers: one for each way that an operation leaves, and what a caller that goes on knows.
 -- Assumes nothing.
 use mathlib.Core.Path.{_≡_, refl, sym, ap, _∙_}
-use mathlib.Core.Bool.{Bool, true, false, not}
+use mathlib.Core.Bool.{Bool, true, false, not, cond}
 use mathlib.Core.List.{List, _++_}
 use Prim.Native.Nat.{ℕ, _≤_, _<_}
 use lib.ListN.{length, drop}
@@ -9,9 +9,11 @@ use borrow.Author.Tests.{lt-ltb, le-ltb, not-true, not-false}
 use Rattle.plan.specs.declared.Plan.{Plan}
 use Rattle.plan.specs.declared.answer.Answer.{Answer}
 use Rattle.plan.specs.declared.answer.Answer.the-variants.{Good, No}
+use Rattle.plan.specs.declared.answer.Refusal.{Refusal}
 use Rattle.plan.specs.declared.answer.Refusal.the-variants.{Bare}
 use Rattle.plan.specs.Record.{noPlan}
 use Rattle.plan.specs.Answer.{_andThen_, ifGood}
+use Rattle.plan.specs.Answer.Properties.{andThen-left, opened-no, opened-on, opened-is}
 use Rattle.plan.specs.Order.{checked}
 use Rattle.rack.specs.declared.State.{State}
 use Rattle.rack.specs.State.{noState}
@@ -38,13 +40,23 @@ pub plan-good : (s : List ℕ) (p : Plan) → 140 ≤ length s → p ≡ planFro
 unfolding planFound
 plan-good s p l e = rw (le-ltb (length s) 140 l, e)
 
-pub plan-answer : (s : List ℕ) (f : PlanFound) → f ≡ planFound s → f .answer ≡ room s 140
+plan-answer : (s : List ℕ) (f : PlanFound) → f ≡ planFound s → f .answer ≡ room s 140
 unfolding planFound
 plan-answer s f e = ap (λ (x : PlanFound). x .answer) e
 
+pub plan-room : (s : List ℕ) (f : PlanFound) → f ≡ planFound s → f .answer ≡ Good → room s 140 ≡ Good
+plan-room s f e g = opened-is (f .answer) (room s 140) g (plan-answer s f e)
+
 pub plan-is : (s : List ℕ) (f : PlanFound) → f ≡ planFound s → f .answer ≡ Good → f .plan ≡ planFrom s
 unfolding planFound
-plan-is s f e g = ap (λ (x : PlanFound). x .plan) e ∙ ap (λ (a : Answer). ifGood a (planFrom s) noPlan) (sym (plan-answer s f e) ∙ g)
+plan-is s f e g = ap (λ (x : PlanFound). x .plan) e ∙ ap (λ (a : Answer). ifGood a (planFrom s) noPlan) (plan-room s f e g)
+
+-- an order that begins with it, opened
+pub plan-no : (s : List ℕ) (f : PlanFound) (b : Answer) (w : Refusal) → f ≡ planFound s → f .answer ≡ No w → f .answer ≡ (room s 140 andThen b)
+plan-no s f b w e g = opened-no (f .answer) (room s 140) b w g (plan-answer s f e)
+
+pub plan-on : (s : List ℕ) (f : PlanFound) (b x : Answer) → f ≡ planFound s → f .answer ≡ Good → x ≡ b → x ≡ (room s 140 andThen b)
+plan-on s f b x e g h = opened-on (f .answer) (room s 140) b x g (plan-answer s f e) h
 
 -- ---- a state found
 
@@ -64,13 +76,27 @@ pub state-good : (s : List ℕ) (told : Bool) (v : State) → 256 ≤ length s �
 unfolding stateFound foundAnswer
 state-good s told v l h t e = rw (le-ltb (length s) 256 l, sym h ∙ not-false told t, e)
 
-pub state-answer : (s : List ℕ) (f : StateFound) → f ≡ stateFound s → f .answer ≡ foundAnswer s
+state-answer : (s : List ℕ) (f : StateFound) → f ≡ stateFound s → f .answer ≡ foundAnswer s
 unfolding stateFound
 state-answer s f e = ap (λ (x : StateFound). x .answer) e
 
+found-good : (s : List ℕ) (f : StateFound) → f ≡ stateFound s → f .answer ≡ Good → foundAnswer s ≡ Good
+found-good s f e g = opened-is (f .answer) (foundAnswer s) g (state-answer s f e)
+
+pub state-room : (s : List ℕ) (f : StateFound) → f ≡ stateFound s → f .answer ≡ Good → room s 256 ≡ Good
+unfolding foundAnswer
+state-room s f e g = andThen-left (room s 256) (cond (releasedTold s) Good (checked (planFrom s) andThen No (Bare 10))) (found-good s f e g)
+
 pub state-is : (s : List ℕ) (f : StateFound) → f ≡ stateFound s → f .answer ≡ Good → f .state ≡ stateFrom s
 unfolding stateFound
-state-is s f e g = ap (λ (x : StateFound). x .state) e ∙ ap (λ (a : Answer). ifGood a (stateFrom s) noState) (sym (state-answer s f e) ∙ g)
+state-is s f e g = ap (λ (x : StateFound). x .state) e ∙ ap (λ (a : Answer). ifGood a (stateFrom s) noState) (found-good s f e g)
+
+-- an order that begins with it, opened
+pub state-no : (s : List ℕ) (f : StateFound) (b : Answer) (w : Refusal) → f ≡ stateFound s → f .answer ≡ No w → f .answer ≡ (foundAnswer s andThen b)
+state-no s f b w e g = opened-no (f .answer) (foundAnswer s) b w g (state-answer s f e)
+
+pub state-on : (s : List ℕ) (f : StateFound) (b x : Answer) → f ≡ stateFound s → f .answer ≡ Good → x ≡ b → x ≡ (foundAnswer s andThen b)
+state-on s f b x e g h = opened-on (f .answer) (foundAnswer s) b x g (state-answer s f e) h
 
 -- ---- an image stored
 

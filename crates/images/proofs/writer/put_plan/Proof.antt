@@ -4,7 +4,7 @@ use Rattle.images.proofs.writer.put_plan.Statement.{statement}
 use Rattle.images.proofs.writer.put_plan.Tie as tie
 
 returns : tie.Need-returns
-returns c = search stores-short
+returns c = search (stores-short, needs)
 
 store-plan-requires : tie.Need-store-plan-requires
 store-plan-requires c κs = search needs

@@ -4,7 +4,7 @@ use Rattle.images.proofs.writer.put_state.Statement.{statement}
 use Rattle.images.proofs.writer.put_state.Tie as tie
 
 returns : tie.Need-returns
-returns c = search stores-short
+returns c = search (stores-short, needs)
 
 store-state-requires : tie.Need-store-state-requires
 store-state-requires c κs = search needs

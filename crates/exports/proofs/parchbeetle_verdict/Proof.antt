@@ -40,7 +40,7 @@ told-requires-3 : tie.Need-told-requires-3
 told-requires-3 c κs = search needs
 
 returns-3 : tie.Need-returns-3
-returns-3 c = search (judge-short, needs)
+returns-3 c = search judge-short
 
 put-widths-requires : tie.Need-put-widths-requires
 put-widths-requires c κs = search needs

@@ -1,10 +1,11 @@
+use native.Mathlib.Omega.{arith}
 use Rattle.images.specs.Lent.Properties.{stores-short, stores-good}
 use borrow.Author.Needs.{needs}
 use Rattle.images.proofs.writer.put_plan.Statement.{statement}
 use Rattle.images.proofs.writer.put_plan.Tie as tie
 
 returns : tie.Need-returns
-returns c = search (stores-short, needs)
+returns c = stores-short _ _ _ (omega arith)
 
 store-plan-requires : tie.Need-store-plan-requires
 store-plan-requires c κs = search needs

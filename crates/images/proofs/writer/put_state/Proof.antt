@@ -1,10 +1,11 @@
+use native.Mathlib.Omega.{arith}
 use Rattle.images.specs.Lent.Properties.{stores-short, stores-good}
 use borrow.Author.Needs.{needs}
 use Rattle.images.proofs.writer.put_state.Statement.{statement}
 use Rattle.images.proofs.writer.put_state.Tie as tie
 
 returns : tie.Need-returns
-returns c = search (stores-short, needs)
+returns c = stores-short _ _ _ (omega arith)
 
 store-state-requires : tie.Need-store-state-requires
 store-state-requires c κs = search needs

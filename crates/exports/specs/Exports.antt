@@ -6,7 +6,6 @@ use mathlib.Core.Bool.{not}
 use mathlib.Core.List.{List, _++_}
 use lib.ListN.{length, drop, getD}
 use Rattle.laws.specs.Written.{written}
-use Rattle.plan.specs.declared.Plan.{Plan}
 use Rattle.answer.specs.declared.Answer.{Answer}
 use Rattle.answer.specs.declared.Refusal.the-variants.{Bare}
 use Rattle.answer.specs.Answer.{refuse, _andThen_, ifGood}
@@ -21,8 +20,9 @@ use Rattle.rack.specs.Start.{startAnswer}
 use Rattle.rack.specs.Release.{releaseAnswer, released}
 use Rattle.rack.specs.Slice.{sliceAnswer, advanced}
 use Rattle.rack.specs.Row.{rowOver}
-use Rattle.exports.specs.Image.{planFrom, planImage, stateFrom, stateImage, releasedTold}
-use Rattle.exports.specs.Outcome.{told, room, Outcome}
+use Rattle.images.specs.Image.{planFrom, planImage, stateFrom, stateImage, releasedTold}
+use Rattle.images.specs.Lent.{room}
+use Rattle.exports.specs.Outcome.{told, Outcome}
 pub mod Properties
 
 -- ---- a plan's image

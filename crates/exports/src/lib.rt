@@ -1,14 +1,11 @@
 // The functions that another language calls, on numbers and byte slices. A plan and a state cross
 // as images in lent buffers, and every function answers one number.
-mod image;
-
 ghost use mathlib.Core.Path.{_≡_};
-ghost use mathlib.Core.List.{_++_};
-ghost use Prim.Native.Nat.{_+_, _*_, _≤_, _<_, min};
-ghost use lib.ListN.{length, drop};
+ghost use Prim.Native.Nat.{_≤_, _<_, min};
+ghost use lib.ListN.{length};
 ghost use Rattle.laws.specs.Written.{written};
 ghost use Rattle.exports.specs.Outcome.{told};
-ghost use Rattle.exports.specs.Exports.{checkAnswer, Reads, WritesBytes, WritesSlots, widthAt, Judges, Starts, stateAnswer, Releases, Slices};
+ghost use Rattle.exports.specs.Exports.{checkAnswer, Reads, WritesBytes, WritesSlots, widthAt, Judges, Starts, Releases, Slices};
 use answer::Answer;
 use answer::Refusal;
 use rack::State;
@@ -41,11 +38,14 @@ fn told(answer: Answer, count: usize) -> u64
 pub extern "C" fn parchbeetle_check(plan: &[u8]) -> u64
     ensures { λ r. ⌜ r ≡ told (checkAnswer (now (plan .entry))) 0 ⌝ }
 {
-    if plan.len() < 140 {
-        return told(Answer::No(Refusal::Bare(9)), 0);
-    }
-    let given = image::plan_from(plan);
-    told(given.check(), 0)
+    let found = images::plan_of(plan);
+    let seen = found.answer;
+    let Answer::Good = seen else {
+        return told(seen, 0);
+    };
+    let given = found.plan;
+    let checked = given.check();
+    told(checked, 0)
 }
 
 // Reads plan bytes into an image.
@@ -58,11 +58,11 @@ pub extern "C" fn parchbeetle_read(bytes: &[u8], plan: &mut [u8]) -> u64
     let Answer::Good = answer else {
         return told(answer, 0);
     };
-    if plan.len() < 140 {
-        return told(Answer::No(Refusal::Bare(9)), 0);
-    }
-    image::put_plan(reading.plan, plan);
-    told(answer, reading.taken)
+    let stored = images::put_plan(reading.plan, plan);
+    let Answer::Good = stored else {
+        return told(stored, 0);
+    };
+    told(stored, reading.taken)
 }
 
 // Writes the bytes of an image's plan.
@@ -70,11 +70,12 @@ pub extern "C" fn parchbeetle_read(bytes: &[u8], plan: &mut [u8]) -> u64
 pub extern "C" fn parchbeetle_write(plan: &[u8], out: &mut [u8]) -> u64
     ensures { λ r. ⌜ WritesBytes (now (plan .entry)) (now (out .entry)) r (now (out .exit)) ⌝ }
 {
-    if plan.len() < 140 {
-        return told(Answer::No(Refusal::Bare(9)), 0);
-    }
-    let given = image::plan_from(plan);
-    let done = plan_writer::write(given, out);
+    let found = images::plan_of(plan);
+    let seen = found.answer;
+    let Answer::Good = seen else {
+        return told(seen, 0);
+    };
+    let done = plan_writer::write(found.plan, out);
     let answer = done.answer;
     told(answer, done.count)
 }
@@ -84,11 +85,12 @@ pub extern "C" fn parchbeetle_write(plan: &[u8], out: &mut [u8]) -> u64
 pub extern "C" fn parchbeetle_slot_table(plan: &[u8], out: &mut [u8]) -> u64
     ensures { λ r. ⌜ WritesSlots (now (plan .entry)) (now (out .entry)) r (now (out .exit)) ⌝ }
 {
-    if plan.len() < 140 {
-        return told(Answer::No(Refusal::Bare(9)), 0);
-    }
-    let given = image::plan_from(plan);
-    let table = layout::slot_table(given, out);
+    let found = images::plan_of(plan);
+    let seen = found.answer;
+    let Answer::Good = seen else {
+        return told(seen, 0);
+    };
+    let table = layout::slot_table(found.plan, out);
     let answer = table.answer;
     told(answer, table.count)
 }
@@ -107,11 +109,12 @@ fn put_widths(width: [u8; 16], k: &mut [u8])
 pub extern "C" fn parchbeetle_verdict(plan: &[u8], k: &mut [u8]) -> u64
     ensures { λ r. ⌜ Judges (now (plan .entry)) (now (k .entry)) r (now (k .exit)) ⌝ }
 {
-    if plan.len() < 140 {
-        return told(Answer::No(Refusal::Bare(9)), 0);
-    }
-    let given = image::plan_from(plan);
-    let verdict = verdict::judge(given);
+    let found = images::plan_of(plan);
+    let seen = found.answer;
+    let Answer::Good = seen else {
+        return told(seen, 0);
+    };
+    let verdict = verdict::judge(found.plan);
     let answer = verdict.answer;
     let Answer::Good = answer else {
         return told(answer, 0);
@@ -129,38 +132,17 @@ pub extern "C" fn parchbeetle_verdict(plan: &[u8], k: &mut [u8]) -> u64
 pub extern "C" fn parchbeetle_fresh(plan: &[u8], state: &mut [u8]) -> u64
     ensures { λ r. ⌜ Starts (now (plan .entry)) (now (state .entry)) r (now (state .exit)) ⌝ }
 {
-    if plan.len() < 140 {
-        return told(Answer::No(Refusal::Bare(9)), 0);
-    }
-    let given = image::plan_from(plan);
-    let next = State::start(given);
-    let answer = next.answer;
+    let found = images::plan_of(plan);
+    let seen = found.answer;
+    let Answer::Good = seen else {
+        return told(seen, 0);
+    };
+    let start = State::start(found.plan);
+    let answer = start.answer;
     let Answer::Good = answer else {
         return told(answer, 0);
     };
-    if state.len() < 256 {
-        return told(Answer::No(Refusal::Bare(9)), 0);
-    }
-    image::put_state(next.state, state);
-    told(answer, 0)
-}
-
-// Whether an image is a state's.
-fn is_state(s: &[u8]) -> Answer
-    ensures { λ r. ⌜ r ≡ stateAnswer (now (s .entry)) ⌝ }
-{
-    if s.len() < 256 {
-        return Answer::No(Refusal::Bare(9));
-    }
-    let plan = image::plan_from(s);
-    let checked = plan.check();
-    let Answer::Good = checked else {
-        return checked;
-    };
-    if !image::released_told(s) {
-        return Answer::No(Refusal::Bare(10));
-    }
-    Answer::Good
+    told(images::put_state(start.state, state), 0)
 }
 
 // The kind, or 16: no plan has so many, so that what is too large stays so.
@@ -188,18 +170,18 @@ fn limited_length(e: u64) -> u32
 pub extern "C" fn parchbeetle_release(state: &mut [u8], kind: u64, e: u64) -> u64
     ensures { λ r. ⌜ Releases (now (state .entry)) kind e r (now (state .exit)) ⌝ }
 {
-    let given = is_state(state);
-    let Answer::Good = given else {
-        return told(given, 0);
+    let found = images::state_of(state);
+    let seen = found.answer;
+    let Answer::Good = seen else {
+        return told(seen, 0);
     };
-    let found = image::state_from(state);
-    let next = found.release(limited_kind(kind), limited_length(e));
+    let given = found.state;
+    let next = given.release(limited_kind(kind), limited_length(e));
     let answer = next.answer;
     let Answer::Good = answer else {
         return told(answer, 0);
     };
-    image::put_state(next.state, state);
-    told(answer, 0)
+    told(images::put_state(next.state, state), 0)
 }
 
 // Runs a slice, in a state's image, and writes its row.
@@ -207,16 +189,16 @@ pub extern "C" fn parchbeetle_release(state: &mut [u8], kind: u64, e: u64) -> u6
 pub extern "C" fn parchbeetle_slice(state: &mut [u8], row: &mut [u8]) -> u64
     ensures { λ r. ⌜ Slices (now (state .entry)) (now (row .entry)) r (now (state .exit)) (now (row .exit)) ⌝ }
 {
-    let given = is_state(state);
-    let Answer::Good = given else {
-        return told(given, 0);
+    let found = images::state_of(state);
+    let seen = found.answer;
+    let Answer::Good = seen else {
+        return told(seen, 0);
     };
-    let found = image::state_from(state);
-    let next = found.slice(row);
-    let answer = next.answer;
+    let given = found.state;
+    let after = given.slice(row);
+    let answer = after.answer;
     let Answer::Good = answer else {
         return told(answer, 0);
     };
-    image::put_state(next.state, state);
-    told(answer, 0)
+    told(images::put_state(after.state, state), 0)
 }

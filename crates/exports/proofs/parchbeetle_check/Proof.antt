@@ -1,18 +1,24 @@
 -- `exports::parchbeetle_check` meets its contract.
 -- Assumes nothing.
-use Rattle.exports.specs.Exports.Properties.{check-short, check-told}
+use Rattle.exports.specs.Exports.Properties.{check-unfound, check-told}
 use borrow.Author.Needs.{needs}
 use Rattle.exports.proofs.parchbeetle_check.Statement.{statement}
 use Rattle.exports.proofs.parchbeetle_check.Tie as tie
+
+plan-of-requires : tie.Need-plan-of-requires
+plan-of-requires c κs = search needs
+
+enum-told : tie.Need-enum-told
+enum-told c = search needs
+
+enum-told-2 : tie.Need-enum-told-2
+enum-told-2 c = search needs
 
 told-requires : tie.Need-told-requires
 told-requires c κs = search needs
 
 returns : tie.Need-returns
-returns c = search check-short
-
-plan-from-requires : tie.Need-plan-from-requires
-plan-from-requires c κs = search needs
+returns c = search check-unfound
 
 check-requires : tie.Need-check-requires
 check-requires c κs = search needs
@@ -26,4 +32,12 @@ returns-2 c = search check-told
 pub parchbeetle-check-spec : {M : Type 1} → statement M
 parchbeetle-check-spec =
     tie.close
-    (tie.spec told-requires returns plan-from-requires check-requires told-requires-2 returns-2)
+    (tie.spec
+    plan-of-requires
+    enum-told
+    enum-told-2
+    told-requires
+    returns
+    check-requires
+    told-requires-2
+    returns-2)

@@ -20,20 +20,29 @@ told-requires c κs = search needs
 returns : tie.Need-returns
 returns c = search read-refused
 
+put-plan-requires : tie.Need-put-plan-requires
+put-plan-requires c κs = search needs
+
+enum-told-3 : tie.Need-enum-told-3
+enum-told-3 c = search needs
+
+enum-told-4 : tie.Need-enum-told-4
+enum-told-4 c = search needs
+
 told-requires-2 : tie.Need-told-requires-2
 told-requires-2 c κs = search needs
+
+same-length : tie.Need-same-length
+same-length c = search needs
 
 returns-2 : tie.Need-returns-2
 returns-2 c = search read-short
 
-put-plan-requires : tie.Need-put-plan-requires
-put-plan-requires c κs = search needs
-
 told-requires-3 : tie.Need-told-requires-3
-told-requires-3 c κs = search read-count
+told-requires-3 c κs = search (read-count, needs)
 
-same-length : tie.Need-same-length
-same-length c = search needs
+same-length-2 : tie.Need-same-length-2
+same-length-2 c = search needs
 
 returns-3 : tie.Need-returns-3
 returns-3 c = search read-good
@@ -47,9 +56,12 @@ parchbeetle-read-spec =
     enum-told-2
     told-requires
     returns
-    told-requires-2
-    returns-2
     put-plan-requires
-    told-requires-3
+    enum-told-3
+    enum-told-4
+    told-requires-2
     same-length
+    returns-2
+    told-requires-3
+    same-length-2
     returns-3)

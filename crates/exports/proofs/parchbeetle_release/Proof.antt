@@ -1,12 +1,12 @@
 -- `exports::parchbeetle_release` meets its contract.
 -- Assumes nothing.
-use Rattle.exports.specs.Exports.Properties.{state-long, release-unstated, release-refused, release-good}
+use Rattle.exports.specs.Exports.Properties.{release-unfound, release-refused, release-stored}
 use borrow.Author.Needs.{needs}
 use Rattle.exports.proofs.parchbeetle_release.Statement.{statement}
 use Rattle.exports.proofs.parchbeetle_release.Tie as tie
 
-is-state-requires : tie.Need-is-state-requires
-is-state-requires c κs = search needs
+state-of-requires : tie.Need-state-of-requires
+state-of-requires c κs = search needs
 
 enum-told : tie.Need-enum-told
 enum-told c = search needs
@@ -21,10 +21,7 @@ same-length : tie.Need-same-length
 same-length c = search needs
 
 returns : tie.Need-returns
-returns c = search release-unstated
-
-state-from-requires : tie.Need-state-from-requires
-state-from-requires c κs = search state-long
+returns c = search release-unfound
 
 limited-kind-requires : tie.Need-limited-kind-requires
 limited-kind-requires c κs = search needs
@@ -51,7 +48,7 @@ returns-2 : tie.Need-returns-2
 returns-2 c = search release-refused
 
 put-state-requires : tie.Need-put-state-requires
-put-state-requires c κs = search state-long
+put-state-requires c κs = search needs
 
 told-requires-3 : tie.Need-told-requires-3
 told-requires-3 c κs = search needs
@@ -60,19 +57,18 @@ same-length-3 : tie.Need-same-length-3
 same-length-3 c = search needs
 
 returns-3 : tie.Need-returns-3
-returns-3 c = search release-good
+returns-3 c = search release-stored
 
 pub parchbeetle-release-spec : {M : Type 1} → statement M
 parchbeetle-release-spec =
     tie.close
     (tie.spec
-    is-state-requires
+    state-of-requires
     enum-told
     enum-told-2
     told-requires
     same-length
     returns
-    state-from-requires
     limited-kind-requires
     limited-length-requires
     release-requires

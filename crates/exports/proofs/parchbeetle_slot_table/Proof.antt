@@ -1,24 +1,33 @@
 -- `exports::parchbeetle_slot_table` meets its contract.
 -- Assumes nothing.
-use Rattle.exports.specs.Exports.Properties.{slots-short, slots-count, slots-told}
+use Rattle.exports.specs.Exports.{slotsAnswer}
+use Rattle.exports.specs.Outcome.Properties.{unfound-outcome}
+use Rattle.exports.specs.Exports.Properties.{slots-count, slots-told}
 use borrow.Author.Needs.{needs}
 use Rattle.exports.proofs.parchbeetle_slot_table.Statement.{statement}
 use Rattle.exports.proofs.parchbeetle_slot_table.Tie as tie
+
+plan-of-requires : tie.Need-plan-of-requires
+plan-of-requires c κs = search needs
+
+enum-told : tie.Need-enum-told
+enum-told c = search needs
+
+enum-told-2 : tie.Need-enum-told-2
+enum-told-2 c = search needs
 
 told-requires : tie.Need-told-requires
 told-requires c κs = search needs
 
 returns : tie.Need-returns
-returns c = search slots-short
-
-plan-from-requires : tie.Need-plan-from-requires
-plan-from-requires c κs = search needs
+unfolding slotsAnswer
+returns c = search unfound-outcome
 
 slot-table-requires : tie.Need-slot-table-requires
 slot-table-requires c κs = search needs
 
 told-requires-2 : tie.Need-told-requires-2
-told-requires-2 c κs = search slots-count
+told-requires-2 c κs = search (slots-count, needs)
 
 same-length : tie.Need-same-length
 same-length c = search needs
@@ -30,9 +39,11 @@ pub parchbeetle-slot-table-spec : {M : Type 1} → statement M
 parchbeetle-slot-table-spec =
     tie.close
     (tie.spec
+    plan-of-requires
+    enum-told
+    enum-told-2
     told-requires
     returns
-    plan-from-requires
     slot-table-requires
     told-requires-2
     same-length

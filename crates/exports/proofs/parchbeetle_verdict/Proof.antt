@@ -1,27 +1,36 @@
 -- `exports::parchbeetle_verdict` meets its contract.
 -- Assumes nothing.
-use Rattle.exports.specs.Exports.Properties.{judge-short, judge-refused, judge-room, judge-good}
+use Rattle.exports.specs.Exports.{verdictAnswer}
+use Rattle.exports.specs.Outcome.Properties.{unfound-outcome}
+use Rattle.exports.specs.Exports.Properties.{judge-refused, judge-short, judge-good}
 use borrow.Author.Needs.{needs}
 use Rattle.exports.proofs.parchbeetle_verdict.Statement.{statement}
 use Rattle.exports.proofs.parchbeetle_verdict.Tie as tie
 
-told-requires : tie.Need-told-requires
-told-requires c κs = search needs
-
-returns : tie.Need-returns
-returns c = search judge-short
-
-plan-from-requires : tie.Need-plan-from-requires
-plan-from-requires c κs = search needs
-
-judge-requires : tie.Need-judge-requires
-judge-requires c κs = search needs
+plan-of-requires : tie.Need-plan-of-requires
+plan-of-requires c κs = search needs
 
 enum-told : tie.Need-enum-told
 enum-told c = search needs
 
 enum-told-2 : tie.Need-enum-told-2
 enum-told-2 c = search needs
+
+told-requires : tie.Need-told-requires
+told-requires c κs = search needs
+
+returns : tie.Need-returns
+unfolding verdictAnswer
+returns c = search unfound-outcome
+
+judge-requires : tie.Need-judge-requires
+judge-requires c κs = search needs
+
+enum-told-3 : tie.Need-enum-told-3
+enum-told-3 c = search needs
+
+enum-told-4 : tie.Need-enum-told-4
+enum-told-4 c = search needs
 
 told-requires-2 : tie.Need-told-requires-2
 told-requires-2 c κs = search needs
@@ -33,7 +42,7 @@ told-requires-3 : tie.Need-told-requires-3
 told-requires-3 c κs = search needs
 
 returns-3 : tie.Need-returns-3
-returns-3 c = search judge-room
+returns-3 c = search judge-short
 
 put-widths-requires : tie.Need-put-widths-requires
 put-widths-requires c κs = search needs
@@ -51,12 +60,14 @@ pub parchbeetle-verdict-spec : {M : Type 1} → statement M
 parchbeetle-verdict-spec =
     tie.close
     (tie.spec
-    told-requires
-    returns
-    plan-from-requires
-    judge-requires
+    plan-of-requires
     enum-told
     enum-told-2
+    told-requires
+    returns
+    judge-requires
+    enum-told-3
+    enum-told-4
     told-requires-2
     returns-2
     told-requires-3

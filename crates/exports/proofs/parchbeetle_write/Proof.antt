@@ -1,24 +1,33 @@
 -- `exports::parchbeetle_write` meets its contract.
 -- Assumes nothing.
-use Rattle.exports.specs.Exports.Properties.{write-short, write-count, write-told}
+use Rattle.exports.specs.Exports.{writesAnswer}
+use Rattle.exports.specs.Outcome.Properties.{unfound-outcome}
+use Rattle.exports.specs.Exports.Properties.{write-count, write-told}
 use borrow.Author.Needs.{needs}
 use Rattle.exports.proofs.parchbeetle_write.Statement.{statement}
 use Rattle.exports.proofs.parchbeetle_write.Tie as tie
+
+plan-of-requires : tie.Need-plan-of-requires
+plan-of-requires c κs = search needs
+
+enum-told : tie.Need-enum-told
+enum-told c = search needs
+
+enum-told-2 : tie.Need-enum-told-2
+enum-told-2 c = search needs
 
 told-requires : tie.Need-told-requires
 told-requires c κs = search needs
 
 returns : tie.Need-returns
-returns c = search write-short
-
-plan-from-requires : tie.Need-plan-from-requires
-plan-from-requires c κs = search needs
+unfolding writesAnswer
+returns c = search unfound-outcome
 
 write-requires : tie.Need-write-requires
 write-requires c κs = search needs
 
 told-requires-2 : tie.Need-told-requires-2
-told-requires-2 c κs = search write-count
+told-requires-2 c κs = search (write-count, needs)
 
 same-length : tie.Need-same-length
 same-length c = search needs
@@ -30,9 +39,11 @@ pub parchbeetle-write-spec : {M : Type 1} → statement M
 parchbeetle-write-spec =
     tie.close
     (tie.spec
+    plan-of-requires
+    enum-told
+    enum-told-2
     told-requires
     returns
-    plan-from-requires
     write-requires
     told-requires-2
     same-length

@@ -1,14 +1,14 @@
--- Laws of what the exported functions answer: one for each way that a function leaves.
+-- Laws of what the exported functions answer: one for each way that a function leaves. f is what was found in the image.
 -- Assumes nothing.
 use mathlib.Core.Path.{_≡_, refl, sym, ap, ap₂, _∙_}
-use mathlib.Core.Bool.{Bool, true, false, not, true≢false}
+use mathlib.Core.Bool.{Bool, true, false, not, cond}
 use mathlib.Core.List.{List, _++_}
-use Prim.Native.Nat.{ℕ, _+_, _*_, _≤_, _<_, min}
+use Prim.Native.Nat.{ℕ, _*_, _≤_, _<_, min}
 use native.Mathlib.Nat.{mul-le-mul}
 use native.Mathlib.Decide.{decLt}
 use native.Mathlib.Omega.{arith}
-use lib.Dec.{ltb, leb, eqb}
-use lib.ListN.{length, drop, getD}
+use lib.Dec.{ltb}
+use lib.ListN.{length, drop}
 use borrow.Author.Tests.{lt-ltb, le-ltb, lt-leb, ne-eqb}
 use Rattle.laws.specs.Written.{written}
 use Rattle.plan.specs.declared.Plan.{Plan}
@@ -17,17 +17,17 @@ use Rattle.answer.specs.declared.Answer.the-variants.{Good, No}
 use Rattle.answer.specs.declared.Refusal.{Refusal}
 use Rattle.answer.specs.declared.Refusal.the-variants.{Bare}
 use Rattle.answer.specs.Answer.{refuse, _andThen_, ifGood}
-use Rattle.answer.specs.Answer.Properties.{andThen-left, andThen-right, andThen-good, opened-no, opened-on, refuse-good, refused, passed}
+use Rattle.answer.specs.Answer.Properties.{andThen-left, opened-no, opened-on}
 use Rattle.plan.specs.Order.{checked, within, InOrder}
 use Rattle.plan.specs.Order.Properties.{in-order}
 use Rattle.plan_bytes.specs.declared.Reading.{Reading}
 use Rattle.plan_bytes.specs.declared.Written.{Written}
-use Rattle.plan_bytes.specs.Parts.{encoded, size}
+use Rattle.plan_bytes.specs.Parts.{size}
 use Rattle.plan_bytes.specs.Reading.{readOf}
 use Rattle.plan_bytes.specs.RoundTrip.Writes.{read-checked, read-size}
 use Rattle.plan_bytes.specs.Writing.{writeAnswer, Writes}
 use Rattle.layout.specs.declared.table.TableWritten.{TableWritten}
-use Rattle.layout.specs.Table.{tableAnswer, tableLength, tableOver, Tabled}
+use Rattle.layout.specs.Table.{tableAnswer, tableLength, Tabled}
 use Rattle.verdict.specs.declared.Verdict.{Verdict}
 use Rattle.verdict.specs.Verdict.{judged}
 use Rattle.rack.specs.declared.State.{State}
@@ -36,23 +36,28 @@ use Rattle.rack.specs.State.{freshOf, noState, nextOf, kindAt, unitOf}
 use Rattle.rack.specs.Form.{ready}
 use Rattle.rack.specs.Rank.{gone}
 use Rattle.rack.specs.Start.{startAnswer, startOf}
-use Rattle.rack.specs.Release.{startable, releaseAnswer, released, releaseOf}
+use Rattle.unit.specs.Start.{startable}
+use Rattle.rack.specs.Release.{releaseAnswer, released, releaseOf}
 use Rattle.rack.specs.Slice.{sliceAnswer, sliceOf, advanced, bufferAfter, Sliced}
 use Rattle.rack.specs.Row.{rowOver}
-use Rattle.exports.specs.Image.{planFrom, planImage, stateFrom, stateImage, releasedTold}
-use Rattle.exports.specs.Outcome.{told, room, Outcome}
-use Rattle.exports.specs.Outcome.Properties.{short-room, long-room, short-last, long-last, refused-outcome, good-outcome}
+use Rattle.images.specs.declared.PlanFound.{PlanFound}
+use Rattle.images.specs.declared.StateFound.{StateFound}
+use Rattle.images.specs.Image.{planFrom, planImage, stateFrom, stateImage, releasedTold}
+use Rattle.images.specs.Lent.{room, planFound, foundAnswer, stateFound, StoresPlan, StoresState}
+use Rattle.images.specs.Lent.Properties.{short-room, long-room, plan-room, plan-is, plan-no, plan-on, state-room, state-is, state-no, state-on}
+use Rattle.exports.specs.Outcome.{told}
+use Rattle.exports.specs.Outcome.Properties.{refused-outcome, good-outcome, stored-outcome, uncounted}
 use Rattle.exports.specs.Exports.{checkAnswer, readsAnswer, Reads, writesAnswer, WritesBytes, slotsAnswer, WritesSlots, verdictAnswer, widthAt, Judges, freshAnswer, Starts, stateAnswer, releasesAnswer, Releases, slicesAnswer, Slices}
 
 -- ---- `parchbeetle_check`
 
-pub check-short : (s : List ℕ) (r : ℕ) → length s < 140 → r ≡ told (No (Bare 9)) 0 → r ≡ told (checkAnswer s) 0
+pub check-unfound : (plan : List ℕ) (f : PlanFound) (w : Refusal) (r : ℕ) → f ≡ planFound plan → f .answer ≡ No w → r ≡ told (f .answer) 0 → r ≡ told (checkAnswer plan) 0
 unfolding checkAnswer
-check-short s r l e = e ∙ ap (λ (a : Answer). told a 0) (short-room s 140 (checked (planFrom s)) l)
+check-unfound plan f w r e g h = h ∙ ap (λ (x : Answer). told x 0) (plan-no plan f (checked (planFrom plan)) w e g)
 
-pub check-told : (s : List ℕ) (p : Plan) (a : Answer) (r : ℕ) → 140 ≤ length s → p ≡ planFrom s → a ≡ checked p → r ≡ told a 0 → r ≡ told (checkAnswer s) 0
+pub check-told : (plan : List ℕ) (f : PlanFound) (a : Answer) (r : ℕ) → f ≡ planFound plan → f .answer ≡ Good → a ≡ checked (f .plan) → r ≡ told a 0 → r ≡ told (checkAnswer plan) 0
 unfolding checkAnswer
-check-told s p a r l e f g = g ∙ ap (λ (x : Answer). told x 0) (long-room s 140 a (checked (planFrom s)) l (f ∙ ap checked e))
+check-told plan f a r e g h t = t ∙ ap (λ (x : Answer). told x 0) (plan-on plan f (checked (planFrom plan)) a e g (h ∙ ap checked (plan-is plan f e g)))
 
 -- ---- `parchbeetle_read`: v is what reading found
 
@@ -80,20 +85,17 @@ unfolding readsAnswer
 read-refused bytes plan v w r e g h =
     refused-outcome (readsAnswer bytes plan) (v .answer) w _ _ plan r g h (opened-no (v .answer) (readOf bytes .answer) (room plan 140) w g (ap (λ (x : Reading). x .answer) e))
 
-pub read-short : (bytes plan : List ℕ) (v : Reading) (r : ℕ) → v ≡ readOf bytes → v .answer ≡ Good → length plan < 140 → r ≡ told (No (Bare 9)) 0 → Reads bytes plan r plan
-read-short bytes plan v r e g l h =
-    refused-outcome (readsAnswer bytes plan) (No (Bare 9)) (Bare 9) _ _ plan r refl h (read-stage bytes plan v (No (Bare 9)) e g (short-last plan 140 l))
+read-stored : (bytes plan after : List ℕ) (v : Reading) (b : Answer) (r : ℕ) → v ≡ readOf bytes → v .answer ≡ Good → StoresPlan (v .plan) plan b after → r ≡ told b (ifGood b (v .taken) 0) → Reads bytes plan r after
+read-stored bytes plan after v b r e g t h =
+    rw (← e) (stored-outcome (readsAnswer bytes plan) b (v .taken) 140 (planImage (v .plan)) plan after r t (read-stage bytes plan v b e g (t .result)) h)
 
-pub read-good : (bytes plan after : List ℕ) (v : Reading) (r : ℕ) → v ≡ readOf bytes → v .answer ≡ Good → 140 ≤ length plan → after ≡ planImage (v .plan) ++ drop 140 plan → r ≡ told (v .answer) (v .taken) → Reads bytes plan r after
-read-good bytes plan after v r e g l f h =
-    good-outcome (readsAnswer bytes plan) (readOf bytes .taken) _ plan r after (read-stage bytes plan v Good e g (long-last plan 140 l))
-    (h ∙ ap₂ told g (ap (λ (x : Reading). x .taken) e)) (f ∙ ap (λ (x : Reading). planImage (x .plan) ++ drop 140 plan) e)
+pub read-short : (bytes plan after : List ℕ) (v : Reading) (b : Answer) (w : Refusal) (r : ℕ) → v ≡ readOf bytes → v .answer ≡ Good → StoresPlan (v .plan) plan b after → b ≡ No w → r ≡ told b 0 → Reads bytes plan r after
+read-short bytes plan after v b w r e g t n h = read-stored bytes plan after v b r e g t (h ∙ rw n)
+
+pub read-good : (bytes plan after : List ℕ) (v : Reading) (b : Answer) (r : ℕ) → v ≡ readOf bytes → v .answer ≡ Good → StoresPlan (v .plan) plan b after → b ≡ Good → r ≡ told b (v .taken) → Reads bytes plan r after
+read-good bytes plan after v b r e g t n h = read-stored bytes plan after v b r e g t (h ∙ rw n)
 
 -- ---- `parchbeetle_write`: w is what writing did
-
-pub write-short : (plan out : List ℕ) (r : ℕ) → length plan < 140 → r ≡ told (No (Bare 9)) 0 → WritesBytes plan out r out
-unfolding writesAnswer
-write-short plan out r l h = refused-outcome (writesAnswer plan out) (No (Bare 9)) (Bare 9) _ _ out r refl h (short-room plan 140 (writeAnswer (planFrom plan) out) l)
 
 good-size : (p : Plan) (out : List ℕ) (a : Answer) → writeAnswer p out ≡ a → ifGood a (size p) 0 < 65536
 unfolding writeAnswer
@@ -106,15 +108,12 @@ write-count p out after w e =
     let m = good-size p out (writeAnswer p out) refl in
     omega arith
 
-pub write-told : (plan out after : List ℕ) (p : Plan) (w : Written) (r : ℕ) → 140 ≤ length plan → p ≡ planFrom plan → Writes p out w after → r ≡ told (w .answer) (w .count) → WritesBytes plan out r after
+pub write-told : (plan out after : List ℕ) (f : PlanFound) (w : Written) (r : ℕ) → f ≡ planFound plan → f .answer ≡ Good → Writes (f .plan) out w after → r ≡ told (w .answer) (w .count) → WritesBytes plan out r after
 unfolding writesAnswer
-write-told plan out after p w r l e f h = rw (le-ltb (length plan) 140 l, ← e) (record { result = h ∙ ap (λ (x : Written). told (x .answer) (x .count)) (f .result); buffer = f .buffer })
+write-told plan out after f w r e g t h =
+    rw (plan-room plan f e g, ← plan-is plan f e g) (record { result = h ∙ ap (λ (x : Written). told (x .answer) (x .count)) (t .result); buffer = t .buffer })
 
 -- ---- `parchbeetle_slot_table`: w is what writing the table did
-
-pub slots-short : (plan out : List ℕ) (r : ℕ) → length plan < 140 → r ≡ told (No (Bare 9)) 0 → WritesSlots plan out r out
-unfolding slotsAnswer
-slots-short plan out r l h = refused-outcome (slotsAnswer plan out) (No (Bare 9)) (Bare 9) _ _ out r refl h (short-room plan 140 (tableAnswer (planFrom plan) (length out)) l)
 
 table-most : (p : Plan) → checked p ≡ Good → tableLength p < 65536
 unfolding tableLength
@@ -134,96 +133,83 @@ slots-count p out after w e =
     let m = good-table p (length out) (tableAnswer p (length out)) refl in
     omega arith
 
-pub slots-told : (plan out after : List ℕ) (p : Plan) (w : TableWritten) (r : ℕ) → 140 ≤ length plan → p ≡ planFrom plan → Tabled p out after w → r ≡ told (w .answer) (w .count) → WritesSlots plan out r after
+pub slots-told : (plan out after : List ℕ) (f : PlanFound) (w : TableWritten) (r : ℕ) → f ≡ planFound plan → f .answer ≡ Good → Tabled (f .plan) out after w → r ≡ told (w .answer) (w .count) → WritesSlots plan out r after
 unfolding slotsAnswer
-slots-told plan out after p w r l e f h = rw (le-ltb (length plan) 140 l, ← e) (record { result = h ∙ ap₂ told (f .answer) (f .count); buffer = f .bytes })
+slots-told plan out after f w r e g t h = rw (plan-room plan f e g, ← plan-is plan f e g) (record { result = h ∙ ap₂ told (t .answer) (t .count); buffer = t .bytes })
 
 -- ---- `parchbeetle_verdict`: v is the verdict
 
-judge-stage : (plan k : List ℕ) (p : Plan) (v : Verdict) (x : Answer) → 140 ≤ length plan → p ≡ planFrom plan → v ≡ judged p → v .answer ≡ Good → x ≡ room k 16 → x ≡ verdictAnswer plan k
+judge-is : (plan : List ℕ) (f : PlanFound) (v : Verdict) → f ≡ planFound plan → f .answer ≡ Good → v ≡ judged (f .plan) → v ≡ judged (planFrom plan)
+judge-is plan f v e g h = h ∙ ap judged (plan-is plan f e g)
+
+judge-stage : (plan k : List ℕ) (f : PlanFound) (x : Answer) → f ≡ planFound plan → f .answer ≡ Good → x ≡ (judged (planFrom plan) .answer andThen room k 16) → x ≡ verdictAnswer plan k
 unfolding verdictAnswer
-judge-stage plan k p v x l e f g h =
-    long-room plan 140 x (judged (planFrom plan) .answer andThen room k 16) l (opened-on (v .answer) (judged (planFrom plan) .answer) (room k 16) x g (ap (λ (y : Verdict). y .answer) f ∙ ap (λ (q : Plan). judged q .answer) e) h)
+judge-stage plan k f x e g h = plan-on plan f (judged (planFrom plan) .answer andThen room k 16) x e g h
 
-pub judge-short : (plan k : List ℕ) (r : ℕ) → length plan < 140 → r ≡ told (No (Bare 9)) 0 → Judges plan k r k
-unfolding verdictAnswer
-judge-short plan k r l h = refused-outcome (verdictAnswer plan k) (No (Bare 9)) (Bare 9) _ _ k r refl h (short-room plan 140 (judged (planFrom plan) .answer andThen room k 16) l)
+pub judge-refused : (plan k : List ℕ) (f : PlanFound) (v : Verdict) (w : Refusal) (r : ℕ) → f ≡ planFound plan → f .answer ≡ Good → v ≡ judged (f .plan) → v .answer ≡ No w → r ≡ told (v .answer) 0 → Judges plan k r k
+judge-refused plan k f v w r e g h n t =
+    refused-outcome (verdictAnswer plan k) (v .answer) w _ _ k r n t
+    (judge-stage plan k f (v .answer) e g (opened-no (v .answer) (judged (planFrom plan) .answer) (room k 16) w n (ap (λ (x : Verdict). x .answer) (judge-is plan f v e g h))))
 
-pub judge-refused : (plan k : List ℕ) (p : Plan) (v : Verdict) (w : Refusal) (r : ℕ) → 140 ≤ length plan → p ≡ planFrom plan → v ≡ judged p → v .answer ≡ No w → r ≡ told (v .answer) 0 → Judges plan k r k
-unfolding verdictAnswer
-judge-refused plan k p v w r l e f g h =
-    refused-outcome (verdictAnswer plan k) (v .answer) w _ _ k r g h
-    (long-room plan 140 (v .answer) (judged (planFrom plan) .answer andThen room k 16) l (opened-no (v .answer) (judged (planFrom plan) .answer) (room k 16) w g (ap (λ (y : Verdict). y .answer) f ∙ ap (λ (q : Plan). judged q .answer) e)))
+judge-room : (plan k : List ℕ) (f : PlanFound) (v : Verdict) (x : Answer) → f ≡ planFound plan → f .answer ≡ Good → v ≡ judged (f .plan) → v .answer ≡ Good → x ≡ room k 16 → x ≡ verdictAnswer plan k
+judge-room plan k f v x e g h n m = judge-stage plan k f x e g (opened-on (v .answer) (judged (planFrom plan) .answer) (room k 16) x n (ap (λ (y : Verdict). y .answer) (judge-is plan f v e g h)) m)
 
-pub judge-room : (plan k : List ℕ) (p : Plan) (v : Verdict) (r : ℕ) → 140 ≤ length plan → p ≡ planFrom plan → v ≡ judged p → v .answer ≡ Good → length k < 16 → r ≡ told (No (Bare 9)) 0 → Judges plan k r k
-judge-room plan k p v r l e f g m h = refused-outcome (verdictAnswer plan k) (No (Bare 9)) (Bare 9) _ _ k r refl h (judge-stage plan k p v (No (Bare 9)) l e f g (short-last k 16 m))
+pub judge-short : (plan k : List ℕ) (f : PlanFound) (v : Verdict) (r : ℕ) → f ≡ planFound plan → f .answer ≡ Good → v ≡ judged (f .plan) → v .answer ≡ Good → length k < 16 → r ≡ told (No (Bare 9)) 0 → Judges plan k r k
+judge-short plan k f v r e g h n l t = refused-outcome (verdictAnswer plan k) (No (Bare 9)) (Bare 9) _ _ k r refl t (judge-room plan k f v (No (Bare 9)) e g h n (short-room k 16 l))
 
-pub judge-good : (plan k after : List ℕ) (p : Plan) (v : Verdict) (r : ℕ) → 140 ≤ length plan → p ≡ planFrom plan → v ≡ judged p → v .answer ≡ Good → 16 ≤ length k → after ≡ written 16 (widthAt (v .width)) k → r ≡ told (v .answer) 0 → Judges plan k r after
-judge-good plan k after p v r l e f g m t h =
-    good-outcome (verdictAnswer plan k) 0 _ k r after (judge-stage plan k p v Good l e f g (long-last k 16 m)) (h ∙ ap (λ (x : Answer). told x 0) g)
-    (t ∙ ap (λ (x : Verdict). written 16 (widthAt (x .width)) k) (f ∙ ap judged e))
+pub judge-good : (plan k after : List ℕ) (f : PlanFound) (v : Verdict) (r : ℕ) → f ≡ planFound plan → f .answer ≡ Good → v ≡ judged (f .plan) → v .answer ≡ Good → 16 ≤ length k → after ≡ written 16 (widthAt (v .width)) k → r ≡ told (v .answer) 0 → Judges plan k r after
+judge-good plan k after f v r e g h n l m t =
+    good-outcome (verdictAnswer plan k) 0 _ k r after (judge-room plan k f v Good e g h n (long-room k 16 l)) (t ∙ ap (λ (x : Answer). told x 0) n)
+    (m ∙ ap (λ (x : Verdict). written 16 (widthAt (x .width)) k) (judge-is plan f v e g h))
 
 -- ---- `parchbeetle_fresh`: v is what the start handed back
 
-start-is : (p : Plan) (v : Next) → v ≡ startOf p → v .answer ≡ startAnswer p
+start-is : (plan : List ℕ) (f : PlanFound) (v : Next) → f ≡ planFound plan → f .answer ≡ Good → v ≡ startOf (f .plan) → v ≡ startOf (planFrom plan)
+start-is plan f v e g h = h ∙ ap startOf (plan-is plan f e g)
+
+start-answer : (p : Plan) (v : Next) → v ≡ startOf p → v .answer ≡ startAnswer p
 unfolding startOf
-start-is p v e = ap (λ (x : Next). x .answer) e
+start-answer p v e = ap (λ (x : Next). x .answer) e
 
-start-stage : (plan state : List ℕ) (p : Plan) (v : Next) (x : Answer) → 140 ≤ length plan → p ≡ planFrom plan → v ≡ startOf p → v .answer ≡ Good → x ≡ room state 256 → x ≡ freshAnswer plan state
-unfolding freshAnswer
-start-stage plan state p v x l e f g h =
-    long-room plan 140 x (startAnswer (planFrom plan) andThen room state 256) l (opened-on (v .answer) (startAnswer (planFrom plan)) (room state 256) x g (start-is p v f ∙ ap startAnswer e) h)
-
-pub fresh-short : (plan state : List ℕ) (r : ℕ) → length plan < 140 → r ≡ told (No (Bare 9)) 0 → Starts plan state r state
-unfolding freshAnswer
-fresh-short plan state r l h = refused-outcome (freshAnswer plan state) (No (Bare 9)) (Bare 9) _ _ state r refl h (short-room plan 140 (startAnswer (planFrom plan) andThen room state 256) l)
-
-pub fresh-refused : (plan state : List ℕ) (p : Plan) (v : Next) (w : Refusal) (r : ℕ) → 140 ≤ length plan → p ≡ planFrom plan → v ≡ startOf p → v .answer ≡ No w → r ≡ told (v .answer) 0 → Starts plan state r state
-unfolding freshAnswer
-fresh-refused plan state p v w r l e f g h =
-    refused-outcome (freshAnswer plan state) (v .answer) w _ _ state r g h
-    (long-room plan 140 (v .answer) (startAnswer (planFrom plan) andThen room state 256) l (opened-no (v .answer) (startAnswer (planFrom plan)) (room state 256) w g (start-is p v f ∙ ap startAnswer e)))
-
-pub fresh-room : (plan state : List ℕ) (p : Plan) (v : Next) (r : ℕ) → 140 ≤ length plan → p ≡ planFrom plan → v ≡ startOf p → v .answer ≡ Good → length state < 256 → r ≡ told (No (Bare 9)) 0 → Starts plan state r state
-fresh-room plan state p v r l e f g m h = refused-outcome (freshAnswer plan state) (No (Bare 9)) (Bare 9) _ _ state r refl h (start-stage plan state p v (No (Bare 9)) l e f g (short-last state 256 m))
-
-pub fresh-good : (plan state after : List ℕ) (p : Plan) (v : Next) (r : ℕ) → 140 ≤ length plan → p ≡ planFrom plan → v ≡ startOf p → v .answer ≡ Good → 256 ≤ length state → after ≡ stateImage (v .state) ++ drop 256 state → r ≡ told (v .answer) 0 → Starts plan state r after
+start-state : (p : Plan) (v : Next) → v ≡ startOf p → v .answer ≡ Good → v .state ≡ freshOf p
 unfolding startOf
-fresh-good plan state after p v r l e f g m t h =
-    let a : startAnswer p ≡ Good = sym (start-is p v f) ∙ g in
-    let b : v .state ≡ freshOf p = ap (λ (x : Next). x .state) f ∙ ap (λ (x : Answer). ifGood x (freshOf p) noState) a in
-    good-outcome (freshAnswer plan state) 0 _ state r after (start-stage plan state p v Good l e f g (long-last state 256 m)) (h ∙ ap (λ (x : Answer). told x 0) g)
-    (t ∙ ap (λ (x : State). stateImage x ++ drop 256 state) (b ∙ ap freshOf e))
+start-state p v e g = ap (λ (x : Next). x .state) e ∙ ap (λ (x : Answer). ifGood x (freshOf p) noState) (sym (start-answer p v e) ∙ g)
 
--- ---- whether an image is a state's
+start-stage : (plan state : List ℕ) (f : PlanFound) (x : Answer) → f ≡ planFound plan → f .answer ≡ Good → x ≡ (startAnswer (planFrom plan) andThen room state 256) → x ≡ freshAnswer plan state
+unfolding freshAnswer
+start-stage plan state f x e g h = plan-on plan f (startAnswer (planFrom plan) andThen room state 256) x e g h
 
-pub state-short : (s : List ℕ) → length s < 256 → No (Bare 9) ≡ stateAnswer s
-unfolding stateAnswer
-state-short s l = short-room s 256 (checked (planFrom s) andThen refuse (not (releasedTold s)) (Bare 10)) l
+pub fresh-refused : (plan state : List ℕ) (f : PlanFound) (v : Next) (w : Refusal) (r : ℕ) → f ≡ planFound plan → f .answer ≡ Good → v ≡ startOf (f .plan) → v .answer ≡ No w → r ≡ told (v .answer) 0 → Starts plan state r state
+fresh-refused plan state f v w r e g h n t =
+    refused-outcome (freshAnswer plan state) (v .answer) w _ _ state r n t
+    (start-stage plan state f (v .answer) e g (opened-no (v .answer) (startAnswer (planFrom plan)) (room state 256) w n (start-answer (planFrom plan) v (start-is plan f v e g h))))
 
-pub state-unchecked : (s : List ℕ) (p : Plan) (a : Answer) (w : Refusal) → 256 ≤ length s → p ≡ planFrom s → a ≡ checked p → a ≡ No w → a ≡ stateAnswer s
-unfolding stateAnswer
-state-unchecked s p a w l e f g = long-room s 256 a (checked (planFrom s) andThen refuse (not (releasedTold s)) (Bare 10)) l (opened-no a (checked (planFrom s)) (refuse (not (releasedTold s)) (Bare 10)) w g (f ∙ ap checked e))
+pub fresh-stored : (plan state after : List ℕ) (f : PlanFound) (v : Next) (b : Answer) (r : ℕ) → f ≡ planFound plan → f .answer ≡ Good → v ≡ startOf (f .plan) → v .answer ≡ Good → StoresState (v .state) state b after → r ≡ told b 0 → Starts plan state r after
+fresh-stored plan state after f v b r e g h n t u =
+    let i = start-is plan f v e g h in
+    rw (← start-state (planFrom plan) v i n)
+    (stored-outcome (freshAnswer plan state) b 0 256 (stateImage (v .state)) state after r t
+    (start-stage plan state f b e g (opened-on (v .answer) (startAnswer (planFrom plan)) (room state 256) b n (start-answer (planFrom plan) v i) (t .result))) (uncounted b r u))
 
-state-stage : (s : List ℕ) (p : Plan) (a x : Answer) → 256 ≤ length s → p ≡ planFrom s → a ≡ checked p → a ≡ Good → x ≡ refuse (not (releasedTold s)) (Bare 10) → x ≡ stateAnswer s
-unfolding stateAnswer
-state-stage s p a x l e f g h = long-room s 256 x (checked (planFrom s) andThen refuse (not (releasedTold s)) (Bare 10)) l (opened-on a (checked (planFrom s)) (refuse (not (releasedTold s)) (Bare 10)) x g (f ∙ ap checked e) h)
+-- ---- the record order, with which releases and slices begin, need not be asked before them
 
-pub state-untold : (s : List ℕ) (p : Plan) (a : Answer) (b : Bool) → 256 ≤ length s → p ≡ planFrom s → a ≡ checked p → a ≡ Good → b ≡ releasedTold s → not b ≡ true → No (Bare 10) ≡ stateAnswer s
-state-untold s p a b l e f g h t = state-stage s p a (No (Bare 10)) l e f g (refused (releasedTold s) b (Bare 10) h t)
+-- checking twice is checking once
+again : (a b c : Answer) → (a andThen ((a andThen b) andThen c)) ≡ ((a andThen b) andThen c)
+again Good b c = refl
+again (No w) b c = refl
 
-pub state-good : (s : List ℕ) (p : Plan) (a : Answer) (b : Bool) → 256 ≤ length s → p ≡ planFrom s → a ≡ checked p → a ≡ Good → b ≡ releasedTold s → not b ≡ false → Good ≡ stateAnswer s
-state-good s p a b l e f g h t = state-stage s p a Good l e f g (passed (releasedTold s) b (Bare 10) h t)
+-- the same behind 9, and before the 10 of a released byte
+once-of : (short order x : Answer) (told : Bool) → (order andThen x) ≡ x → ((short andThen (order andThen refuse (not told) (Bare 10))) andThen x) ≡ ((short andThen cond told Good (order andThen No (Bare 10))) andThen x)
+once-of (No w) order x told e = refl
+once-of Good Good x true e = refl
+once-of Good (No w) x true e = e
+once-of Good Good x false e = refl
+once-of Good (No w) x false e = refl
 
-pub state-long : (s : List ℕ) (a : Answer) → a ≡ Good → a ≡ stateAnswer s → 256 ≤ length s
-unfolding stateAnswer
-state-long s a e f =
-    let b : ltb (length s) 256 ≡ false = refuse-good (ltb (length s) 256) (Bare 9) (andThen-left (room s 256) (checked (planFrom s) andThen refuse (not (releasedTold s)) (Bare 10)) (sym f ∙ e)) in
-    elim (decLt (length s) 256) [ yes q ↦ absurd (true≢false (sym (lt-ltb (length s) 256 q) ∙ b)) | no q ↦ omega arith ]
-
-state-checked : (s : List ℕ) → stateAnswer s ≡ Good → checked (stateFrom s .plan) ≡ Good
-unfolding stateAnswer stateFrom
-state-checked s e = andThen-left (checked (planFrom s)) (refuse (not (releasedTold s)) (Bare 10)) (andThen-right (room s 256) (checked (planFrom s) andThen refuse (not (releasedTold s)) (Bare 10)) e)
+-- so an operation x that begins with the record order answers as if the image's plan had been checked before
+once : (s : List ℕ) (x : Answer) → (checked (planFrom s) andThen x) ≡ x → (stateAnswer s andThen x) ≡ (foundAnswer s andThen x)
+unfolding stateAnswer foundAnswer
+once s x e = once-of (room s 256) (checked (planFrom s)) x (releasedTold s) e
 
 -- ---- `parchbeetle_release`
 
@@ -249,8 +235,8 @@ no-length : (s : State) (k e : ℕ) → InOrder (s .plan) → k < s .plan .kinds
 unfolding releaseOf releaseAnswer
 no-length s k e o l m = rw (lt-ltb k (s .plan .kinds) l, too-long s k e o l m) (no-next (ready s) (Bare 13) (released s k e) s s)
 
-pub release-limited : (s : State) (k e : ℕ) → InOrder (s .plan) → releaseOf s (min k 16) (min e 65536) ≡ releaseOf s k e
-release-limited s k e o =
+limited-in-order : (s : State) (k e : ℕ) → InOrder (s .plan) → releaseOf s (min k 16) (min e 65536) ≡ releaseOf s k e
+limited-in-order s k e o =
     let n = o .counts .kinds-most in
     elim (decLt k (s .plan .kinds)) [ yes q ↦ named q (omega arith) | no q ↦ no-kind s (min k 16) (min e 65536) (omega arith) ∙ sym (no-kind s k e (omega arith)) ]
   where
@@ -259,63 +245,92 @@ release-limited s k e o =
         ap (λ (x : ℕ). releaseOf s x (min e 65536)) f
         ∙ elim (decLt e 65536) [ yes m ↦ ap (releaseOf s k) (let g : min e 65536 ≡ e = omega arith in g) | no m ↦ no-length s k (min e 65536) o q (omega arith) ∙ sym (no-length s k e o q (omega arith)) ]
 
-release-is : (state : List ℕ) (kind e k x : ℕ) (s : State) (a : Answer) (v : Next) → a ≡ Good → a ≡ stateAnswer state → s ≡ stateFrom state → k ≡ min kind 16 → x ≡ min e 65536 → v ≡ releaseOf s k x → v ≡ releaseOf (stateFrom state) kind e
-release-is state kind e k x s a v g h f p q r =
-    r ∙ ap (λ (t : State). releaseOf t k x) f ∙ ap₂ (releaseOf (stateFrom state)) p q ∙ release-limited (stateFrom state) kind e (in-order (stateFrom state .plan) (state-checked state (sym h ∙ g)))
+no-order : (s : State) (k e : ℕ) (w : Refusal) → checked (s .plan) ≡ No w → releaseOf s k e ≡ record { answer = No w; state = s }
+unfolding releaseOf releaseAnswer ready
+no-order s k e w h = rw h
 
-release-answer : (state : List ℕ) (kind e : ℕ) (v : Next) → v ≡ releaseOf (stateFrom state) kind e → v .answer ≡ releaseAnswer (stateFrom state) kind e
+pub release-limited : (s : State) (k e : ℕ) → releaseOf s (min k 16) (min e 65536) ≡ releaseOf s k e
+release-limited s k e = by-order (checked (s .plan)) refl
+  where
+    by-order : (a : Answer) → checked (s .plan) ≡ a → releaseOf s (min k 16) (min e 65536) ≡ releaseOf s k e
+    by-order Good h = limited-in-order s k e (in-order (s .plan) h)
+    by-order (No w) h = no-order s (min k 16) (min e 65536) w h ∙ sym (no-order s k e w h)
+
+release-once : (s : List ℕ) (kind e : ℕ) → releasesAnswer s kind e ≡ (foundAnswer s andThen releaseAnswer (stateFrom s) kind e)
+unfolding releasesAnswer releaseAnswer ready stateFrom
+release-once s kind e = once s (releaseAnswer (stateFrom s) kind e) (again (checked (planFrom s)) _ _)
+
+release-is : (state : List ℕ) (kind e k x : ℕ) (f : StateFound) (v : Next) → f ≡ stateFound state → f .answer ≡ Good → k ≡ min kind 16 → x ≡ min e 65536 → v ≡ releaseOf (f .state) k x → v ≡ releaseOf (stateFrom state) kind e
+release-is state kind e k x f v h g p q t = t ∙ ap (λ (s : State). releaseOf s k x) (state-is state f h g) ∙ ap₂ (releaseOf (stateFrom state)) p q ∙ release-limited (stateFrom state) kind e
+
+release-answer : (s : State) (kind e : ℕ) (v : Next) → v ≡ releaseOf s kind e → v .answer ≡ releaseAnswer s kind e
 unfolding releaseOf
-release-answer state kind e v f = ap (λ (x : Next). x .answer) f
+release-answer s kind e v i = ap (λ (x : Next). x .answer) i
 
-pub release-unstated : (state : List ℕ) (kind e : ℕ) (a : Answer) (w : Refusal) (r : ℕ) → a ≡ No w → a ≡ stateAnswer state → r ≡ told a 0 → Releases state kind e r state
-unfolding releasesAnswer
-release-unstated state kind e a w r g h f = refused-outcome (releasesAnswer state kind e) a w _ _ state r g f (opened-no a (stateAnswer state) (releaseAnswer (stateFrom state) kind e) w g h)
+release-state : (s : State) (kind e : ℕ) (v : Next) → v ≡ releaseOf s kind e → v .answer ≡ Good → v .state ≡ released s kind e
+unfolding releaseOf
+release-state s kind e v i n = ap (λ (x : Next). x .state) i ∙ ap (λ (x : Answer). ifGood x (released s kind e) s) (sym (release-answer s kind e v i) ∙ n)
 
-pub release-refused : (state : List ℕ) (kind e k x : ℕ) (s : State) (a : Answer) (v : Next) (w : Refusal) (r : ℕ) → a ≡ Good → a ≡ stateAnswer state → s ≡ stateFrom state → k ≡ min kind 16 → x ≡ min e 65536 → v ≡ releaseOf s k x → v .answer ≡ No w → r ≡ told (v .answer) 0 → Releases state kind e r state
-unfolding releasesAnswer
-release-refused state kind e k x s a v w r g h f p q t n u =
+release-stage : (state : List ℕ) (kind e : ℕ) (f : StateFound) (x : Answer) → f ≡ stateFound state → f .answer ≡ Good → x ≡ releaseAnswer (stateFrom state) kind e → x ≡ releasesAnswer state kind e
+release-stage state kind e f x h g t = state-on state f (releaseAnswer (stateFrom state) kind e) x h g t ∙ sym (release-once state kind e)
+
+pub release-unfound : (state : List ℕ) (kind e : ℕ) (f : StateFound) (w : Refusal) (r : ℕ) → f ≡ stateFound state → f .answer ≡ No w → r ≡ told (f .answer) 0 → Releases state kind e r state
+release-unfound state kind e f w r h g t =
+    refused-outcome (releasesAnswer state kind e) (f .answer) w _ _ state r g t
+    (state-no state f (releaseAnswer (stateFrom state) kind e) w h g ∙ sym (release-once state kind e))
+
+pub release-refused : (state : List ℕ) (kind e k x : ℕ) (f : StateFound) (v : Next) (w : Refusal) (r : ℕ) → f ≡ stateFound state → f .answer ≡ Good → k ≡ min kind 16 → x ≡ min e 65536 → v ≡ releaseOf (f .state) k x → v .answer ≡ No w → r ≡ told (v .answer) 0 → Releases state kind e r state
+release-refused state kind e k x f v w r h g p q t n u =
     refused-outcome (releasesAnswer state kind e) (v .answer) w _ _ state r n u
-    (opened-on a (stateAnswer state) (releaseAnswer (stateFrom state) kind e) (v .answer) g h (release-answer state kind e v (release-is state kind e k x s a v g h f p q t)))
+    (release-stage state kind e f (v .answer) h g (release-answer (stateFrom state) kind e v (release-is state kind e k x f v h g p q t)))
 
-pub release-good : (state after : List ℕ) (kind e k x : ℕ) (s : State) (a : Answer) (v : Next) (r : ℕ) → a ≡ Good → a ≡ stateAnswer state → s ≡ stateFrom state → k ≡ min kind 16 → x ≡ min e 65536 → v ≡ releaseOf s k x → v .answer ≡ Good → after ≡ stateImage (v .state) ++ drop 256 state → r ≡ told (v .answer) 0 → Releases state kind e r after
-unfolding releasesAnswer releaseOf
-release-good state after kind e k x s a v r g h f p q t n u z =
-    let i = release-is state kind e k x s a v g h f p q t in
-    let b = release-answer state kind e v i in
-    let y : v .state ≡ released (stateFrom state) kind e = ap (λ (j : Next). j .state) i ∙ ap (λ (j : Answer). ifGood j (released (stateFrom state) kind e) (stateFrom state)) (sym b ∙ n) in
-    good-outcome (releasesAnswer state kind e) 0 _ state r after (opened-on a (stateAnswer state) (releaseAnswer (stateFrom state) kind e) Good g h (sym n ∙ b)) (z ∙ ap (λ (j : Answer). told j 0) n)
-    (u ∙ ap (λ (j : State). stateImage j ++ drop 256 state) y)
+pub release-stored : (state after : List ℕ) (kind e k x : ℕ) (f : StateFound) (v : Next) (b : Answer) (r : ℕ) → f ≡ stateFound state → f .answer ≡ Good → k ≡ min kind 16 → x ≡ min e 65536 → v ≡ releaseOf (f .state) k x → v .answer ≡ Good → StoresState (v .state) state b after → r ≡ told b 0 → Releases state kind e r after
+release-stored state after kind e k x f v b r h g p q t n u z =
+    let i = release-is state kind e k x f v h g p q t in
+    let a : b ≡ v .answer = u .result ∙ state-room state f h g ∙ sym n in
+    rw (← release-state (stateFrom state) kind e v i n)
+    (stored-outcome (releasesAnswer state kind e) b 0 256 (stateImage (v .state)) state after r u (release-stage state kind e f b h g (a ∙ release-answer (stateFrom state) kind e v i)) (uncounted b r z))
 
 -- ---- `parchbeetle_slice`
 
-pub slice-unstated : (state row : List ℕ) (a : Answer) (w : Refusal) (r : ℕ) → a ≡ No w → a ≡ stateAnswer state → r ≡ told a 0 → Slices state row r state row
-unfolding slicesAnswer
-slice-unstated state row a w r g h f =
-    let z : slicesAnswer state row ≡ No w = sym (opened-no a (stateAnswer state) (sliceAnswer (stateFrom state) (length row)) w g h) ∙ g in
-    record { result = f ∙ ap (λ (x : Answer). told x 0) (g ∙ sym z); image = rw z; row-bytes = rw z }
+slice-once : (s row : List ℕ) → slicesAnswer s row ≡ (foundAnswer s andThen sliceAnswer (stateFrom s) (length row))
+unfolding slicesAnswer sliceAnswer ready stateFrom
+slice-once s row = once s (sliceAnswer (stateFrom s) (length row)) (again (checked (planFrom s)) _ _)
 
-slice-stage : (state row cards : List ℕ) (s : State) (a : Answer) (v : Next) → a ≡ Good → a ≡ stateAnswer state → s ≡ stateFrom state → Sliced s row v cards → v .answer ≡ slicesAnswer state row
-unfolding slicesAnswer sliceOf
-slice-stage state row cards s a v g h f t =
-    opened-on a (stateAnswer state) (sliceAnswer (stateFrom state) (length row)) (v .answer) g h (ap (λ (x : Next). x .answer) (t .result) ∙ ap (λ (x : State). sliceAnswer x (length row)) f)
+slice-stage : (state row : List ℕ) (f : StateFound) (x : Answer) → f ≡ stateFound state → f .answer ≡ Good → x ≡ sliceAnswer (f .state) (length row) → x ≡ slicesAnswer state row
+slice-stage state row f x h g t =
+    state-on state f (sliceAnswer (stateFrom state) (length row)) x h g (t ∙ ap (λ (s : State). sliceAnswer s (length row)) (state-is state f h g)) ∙ sym (slice-once state row)
 
 slice-answer : (s : State) (row cards : List ℕ) (v : Next) → Sliced s row v cards → v .answer ≡ sliceAnswer s (length row)
 unfolding sliceOf
 slice-answer s row cards v t = ap (λ (x : Next). x .answer) (t .result)
 
-pub slice-refused : (state row cards : List ℕ) (s : State) (a : Answer) (v : Next) (w : Refusal) (r : ℕ) → a ≡ Good → a ≡ stateAnswer state → s ≡ stateFrom state → Sliced s row v cards → v .answer ≡ No w → r ≡ told (v .answer) 0 → Slices state row r state cards
+slice-row : (s : State) (row cards : List ℕ) (v : Next) (a : Answer) → Sliced s row v cards → v .answer ≡ a → cards ≡ ifGood a (rowOver s row) row
 unfolding bufferAfter
-slice-refused state row cards s a v w r g h f t n u =
-    let z : slicesAnswer state row ≡ No w = sym (slice-stage state row cards s a v g h f t) ∙ n in
-    let y : sliceAnswer s (length row) ≡ No w = sym (slice-answer s row cards v t) ∙ n in
-    let b : cards ≡ row = t .buffer ∙ ap (λ (x : Answer). ifGood x (rowOver s row) row) y in
-    record { result = u ∙ ap (λ (x : Answer). told x 0) (n ∙ sym z); image = rw z; row-bytes = rw z b }
+slice-row s row cards v a t n = t .buffer ∙ ap (λ (x : Answer). ifGood x (rowOver s row) row) (sym (slice-answer s row cards v t) ∙ n)
 
-pub slice-good : (state row after cards : List ℕ) (s : State) (a : Answer) (v : Next) (r : ℕ) → a ≡ Good → a ≡ stateAnswer state → s ≡ stateFrom state → Sliced s row v cards → v .answer ≡ Good → after ≡ stateImage (v .state) ++ drop 256 state → r ≡ told (v .answer) 0 → Slices state row r after cards
-unfolding bufferAfter sliceOf
-slice-good state row after cards s a v r g h f t n m u =
-    let z : slicesAnswer state row ≡ Good = sym (slice-stage state row cards s a v g h f t) ∙ n in
-    let y : sliceAnswer s (length row) ≡ Good = sym (slice-answer s row cards v t) ∙ n in
-    let b : cards ≡ rowOver (stateFrom state) row = t .buffer ∙ ap (λ (x : Answer). ifGood x (rowOver s row) row) y ∙ ap (λ (x : State). rowOver x row) f in
-    let d : v .state ≡ advanced (stateFrom state) = ap (λ (x : Next). x .state) (t .result) ∙ ap (λ (x : Answer). ifGood x (advanced s) s) y ∙ ap advanced f in
-    record { result = u ∙ ap (λ (x : Answer). told x 0) (n ∙ sym z); image = rw z (m ∙ ap (λ (x : State). stateImage x ++ drop 256 state) d); row-bytes = rw z b }
+slice-state : (s : State) (row cards : List ℕ) (v : Next) → Sliced s row v cards → v .answer ≡ Good → v .state ≡ advanced s
+unfolding sliceOf
+slice-state s row cards v t n = ap (λ (x : Next). x .state) (t .result) ∙ ap (λ (x : Answer). ifGood x (advanced s) s) (sym (slice-answer s row cards v t) ∙ n)
+
+pub slice-unfound : (state row : List ℕ) (f : StateFound) (w : Refusal) (r : ℕ) → f ≡ stateFound state → f .answer ≡ No w → r ≡ told (f .answer) 0 → Slices state row r state row
+slice-unfound state row f w r h g t =
+    let z : slicesAnswer state row ≡ No w = slice-once state row ∙ sym (state-no state f (sliceAnswer (stateFrom state) (length row)) w h g) ∙ g in
+    record { result = t ∙ ap (λ (x : Answer). told x 0) (g ∙ sym z); image = rw z; row-bytes = rw z }
+
+pub slice-refused : (state row cards : List ℕ) (f : StateFound) (v : Next) (w : Refusal) (r : ℕ) → f ≡ stateFound state → f .answer ≡ Good → Sliced (f .state) row v cards → v .answer ≡ No w → r ≡ told (v .answer) 0 → Slices state row r state cards
+slice-refused state row cards f v w r h g t n u =
+    let z : slicesAnswer state row ≡ No w = sym (slice-stage state row f (v .answer) h g (slice-answer (f .state) row cards v t)) ∙ n in
+    record { result = u ∙ ap (λ (x : Answer). told x 0) (n ∙ sym z); image = rw z; row-bytes = rw z (slice-row (f .state) row cards v (No w) t n) }
+
+pub slice-stored : (state row after cards : List ℕ) (f : StateFound) (v : Next) (b : Answer) (r : ℕ) → f ≡ stateFound state → f .answer ≡ Good → Sliced (f .state) row v cards → v .answer ≡ Good → StoresState (v .state) state b after → r ≡ told b 0 → Slices state row r after cards
+slice-stored state row after cards f v b r h g t n u y =
+    let z : slicesAnswer state row ≡ Good = sym (slice-stage state row f (v .answer) h g (slice-answer (f .state) row cards v t)) ∙ n in
+    let a = state-room state f h g in
+    let s = state-is state f h g in
+    let d : v .state ≡ advanced (stateFrom state) = slice-state (f .state) row cards v t n ∙ ap advanced s in
+    record {
+      result = y ∙ ap (λ (x : Answer). told x 0) (u .result ∙ a ∙ sym z);
+      image = rw z (u .buffer ∙ ap (λ (x : Answer). ifGood x (stateImage (v .state) ++ drop 256 state) state) a ∙ ap (λ (x : State). stateImage x ++ drop 256 state) d);
+      row-bytes = rw z (slice-row (f .state) row cards v Good t n ∙ ap (λ (x : State). rowOver x row) s);
+    }

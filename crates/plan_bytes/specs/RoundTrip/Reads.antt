@@ -60,7 +60,7 @@ kind-fields p v rest m r =
     unpacked kindWidths (v .project ∷ v .separation ∷ v .deadline ∷ v .length ∷ 0 ∷ []) 5 rest (omega arith, (omega arith, (omega arith, (omega arith, (omega arith, tt))))) refl
 
 -- what stands behind the first parts begins with the next
-parts-drop : (n w : ℕ) (f : ℕ → List ℕ) (rest : List ℕ) (i : ℕ) → ((j : ℕ) → length (f j) ≡ w) → i < n → (more : List ℕ) × (drop (w * i) (partsTo n f ++ rest) ≡ f i ++ more)
+pub parts-drop : (n w : ℕ) (f : ℕ → List ℕ) (rest : List ℕ) (i : ℕ) → ((j : ℕ) → length (f j) ≡ w) → i < n → (more : List ℕ) × (drop (w * i) (partsTo n f ++ rest) ≡ f i ++ more)
 unfolding partsTo
 parts-drop zero w f rest i h l = absurd (omega arith)
 parts-drop (suc n) w f rest i h l = elim (decLt i n) [ yes q ↦ earlier (parts-drop n w f (f n ++ rest) i h q) | no q ↦ (rest, here (omega arith)) ]

@@ -222,20 +222,7 @@ pub fn example() -> (Vec<u8>, &'static str) {
     for (kind, e) in [(1, 2), (2, 1)] {
         input.extend(release_bytes(kind, e));
     }
-    let lines = "\
-plan ok
-r 0 6 ok
-r 1 2 ok
-r 2 2 ok
-t 0: 1 2
-t 1: 1 2
-t 2: 1 3
-t 3: 3 0
-r 1 2 ok
-r 2 1 refused 14
-end 4
-";
-    (input, lines)
+    (input, include_str!("../../samples/example.txt"))
 }
 
 /// "Run and compared" where a stream can show it, and its lines: n = 0, two bytes, all cells, T-1 and T.

@@ -26,19 +26,7 @@ fn the_example() {
     }
     input.extend(release_bytes(1, 2));
     input.extend(release_bytes(2, 1));
-    let lines = "\
-plan ok
-r 0 6 ok
-r 1 2 ok
-r 2 2 ok
-t 0: 1 2
-t 1: 1 2
-t 2: 1 3
-t 3: 3 0
-r 1 2 ok
-r 2 1 refused 14
-end 4
-";
+    let lines = include_str!("../../samples/example.txt");
     assert_eq!(lines.lines().count(), 11);
     assert_eq!(played(&input), lines);
 }

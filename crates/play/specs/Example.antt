@@ -19,6 +19,7 @@ use Rattle.plan_bytes.specs.Reading.{headerSpare, projectSpare, kindSpare, proj
 use Rattle.layout.specs.Layout.{cellAt, firstCell, owns, held}
 use Rattle.supply.specs.Supply.{window, supply}
 use Rattle.supply.specs.Workload.{workloadPart}
+use Rattle.supply.specs.Fit.{fitsAt, leastWidth, excessAt, leastExcess}
 use Rattle.verdict.specs.Workload.{besides, partOf, workload}
 use Rattle.verdict.specs.Verdict.{widthOf, excessOf, fitted, admitted}
 use Rattle.unit.specs.Form.{untouched, underway, unitInForm, emptyUnit}
@@ -45,5 +46,5 @@ abbrev pub output : List ℕ
 output = ascii "plan ok\nr 0 6 ok\nr 1 2 ok\nr 2 2 ok\nt 0: 1 2\nt 1: 1 2\nt 2: 1 3\nt 3: 3 0\nr 1 2 ok\nr 2 1 refused 14\nend 4\n"
 
 pub example : played input ≡ output
-unfolding sumTo leastTo firstTo countTo allTo written rankIn firstIn sooner eachTo within sized emptyProject emptyKind tidyProjects tidyKinds inRange timed budgets sizes unused projectsInRange kindInRange kindsInRange budgetsFit ranges checked bits unpack numberTo size partsTo headerFields projectFields kindFields projectFrom kindFrom projectsFrom kindsFrom headed decoded headerSpare projectSpare kindSpare projectsSpare kindsSpare placesSpare spareZero bodyAnswer readAnswer readOf cellAt firstCell owns held window supply workloadPart besides partOf workload widthOf excessOf fitted admitted untouched underway unitInForm emptyUnit early startable inForm ready gone due working active outranks rank served holds cardsBefore takes rowByte startAnswer startOf releaseAnswer released releaseOf unitAfter advanced roomAndTime sliceAnswer sliceOf commandFields fieldsSay commandOf decimalIn decimal planLine outcome releaseLine rowText sliceLine endLine lineOf after turns opening played
+unfolding sumTo leastTo firstTo countTo allTo written rankIn firstIn sooner eachTo within sized emptyProject emptyKind tidyProjects tidyKinds inRange timed budgets sizes unused projectsInRange kindInRange kindsInRange budgetsFit ranges checked bits unpack numberTo size partsTo headerFields projectFields kindFields projectFrom kindFrom projectsFrom kindsFrom headed decoded headerSpare projectSpare kindSpare projectsSpare kindsSpare placesSpare spareZero bodyAnswer readAnswer readOf cellAt firstCell owns held window supply workloadPart fitsAt leastWidth excessAt leastExcess besides partOf workload widthOf excessOf fitted admitted untouched underway unitInForm emptyUnit early startable inForm ready gone due working active outranks rank served holds cardsBefore takes rowByte startAnswer startOf releaseAnswer released releaseOf unitAfter advanced roomAndTime sliceAnswer sliceOf commandFields fieldsSay commandOf decimalIn decimal planLine outcome releaseLine rowText sliceLine endLine lineOf after turns opening played
 example = refl

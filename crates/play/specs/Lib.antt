@@ -1,0 +1,3 @@
+-- Document 01, "The player": its example.
+-- Assumes nothing.
+pub mod Example

@@ -4,11 +4,9 @@ use mathlib.Core.Path.{_≡_, sym, _∙_}
 use mathlib.Core.List.{List}
 use Prim.Native.Nat.{ℕ}
 use Rattle.plan.specs.declared.Plan.{Plan}
-use Rattle.answer.specs.declared.Answer.{Answer}
 use Rattle.rack.specs.declared.State.{State}
 use Rattle.rack.specs.declared.Next.{Next}
 use Rattle.rack.specs.State.{freshOf, noState}
-use Rattle.rack.specs.Form.{ready}
 use Rattle.rack.specs.Release.{releaseOf}
 use Rattle.rack.specs.Slice.{Sliced}
 use Rattle.rack.specs.Start.{startOf}
@@ -20,10 +18,6 @@ empty-one-outcome a b p q = p ∙ sym q
 -- `State::fresh`
 pub fresh-one-outcome : (plan : Plan) (a b : State) → a ≡ freshOf plan → b ≡ freshOf plan → a ≡ b
 fresh-one-outcome plan a b p q = p ∙ sym q
-
--- `State::check`
-pub check-one-outcome : (s : State) (a b : Answer) → a ≡ ready s → b ≡ ready s → a ≡ b
-check-one-outcome s a b p q = p ∙ sym q
 
 -- `State::start`
 pub start-one-outcome : (plan : Plan) (a b : Next) → a ≡ startOf plan → b ≡ startOf plan → a ≡ b

@@ -24,7 +24,7 @@ impl State {
     }
 
     // Whether the plan is in order and the state in form: the record order, 10.
-    pub fn check(self) -> Answer
+    pub(crate) fn check(self) -> Answer
         ensures { λ r. ⌜ r ≡ ready self ⌝ }
     {
         let plan = self.plan;

@@ -38,7 +38,7 @@ fn told(answer: Answer, count: usize) -> u64
 pub extern "C" fn parchbeetle_check(plan: &[u8]) -> u64
     ensures { λ r. ⌜ r ≡ told (checkAnswer (now (plan .entry))) 0 ⌝ }
 {
-    let found = images::plan_of(plan);
+    let found = image_reader::plan_of(plan);
     let seen = found.answer;
     let Answer::Good = seen else {
         return told(seen, 0);
@@ -58,7 +58,7 @@ pub extern "C" fn parchbeetle_read(bytes: &[u8], plan: &mut [u8]) -> u64
     let Answer::Good = answer else {
         return told(answer, 0);
     };
-    let stored = images::put_plan(reading.plan, plan);
+    let stored = image_writer::put_plan(reading.plan, plan);
     let Answer::Good = stored else {
         return told(stored, 0);
     };
@@ -70,7 +70,7 @@ pub extern "C" fn parchbeetle_read(bytes: &[u8], plan: &mut [u8]) -> u64
 pub extern "C" fn parchbeetle_write(plan: &[u8], out: &mut [u8]) -> u64
     ensures { λ r. ⌜ WritesBytes (now (plan .entry)) (now (out .entry)) r (now (out .exit)) ⌝ }
 {
-    let found = images::plan_of(plan);
+    let found = image_reader::plan_of(plan);
     let seen = found.answer;
     let Answer::Good = seen else {
         return told(seen, 0);
@@ -85,7 +85,7 @@ pub extern "C" fn parchbeetle_write(plan: &[u8], out: &mut [u8]) -> u64
 pub extern "C" fn parchbeetle_slot_table(plan: &[u8], out: &mut [u8]) -> u64
     ensures { λ r. ⌜ WritesSlots (now (plan .entry)) (now (out .entry)) r (now (out .exit)) ⌝ }
 {
-    let found = images::plan_of(plan);
+    let found = image_reader::plan_of(plan);
     let seen = found.answer;
     let Answer::Good = seen else {
         return told(seen, 0);
@@ -109,7 +109,7 @@ fn put_widths(width: [u8; 16], k: &mut [u8])
 pub extern "C" fn parchbeetle_verdict(plan: &[u8], k: &mut [u8]) -> u64
     ensures { λ r. ⌜ Judges (now (plan .entry)) (now (k .entry)) r (now (k .exit)) ⌝ }
 {
-    let found = images::plan_of(plan);
+    let found = image_reader::plan_of(plan);
     let seen = found.answer;
     let Answer::Good = seen else {
         return told(seen, 0);
@@ -132,7 +132,7 @@ pub extern "C" fn parchbeetle_verdict(plan: &[u8], k: &mut [u8]) -> u64
 pub extern "C" fn parchbeetle_fresh(plan: &[u8], state: &mut [u8]) -> u64
     ensures { λ r. ⌜ Starts (now (plan .entry)) (now (state .entry)) r (now (state .exit)) ⌝ }
 {
-    let found = images::plan_of(plan);
+    let found = image_reader::plan_of(plan);
     let seen = found.answer;
     let Answer::Good = seen else {
         return told(seen, 0);
@@ -142,7 +142,7 @@ pub extern "C" fn parchbeetle_fresh(plan: &[u8], state: &mut [u8]) -> u64
     let Answer::Good = answer else {
         return told(answer, 0);
     };
-    told(images::put_state(start.state, state), 0)
+    told(image_writer::put_state(start.state, state), 0)
 }
 
 // The kind, or 16: no plan has so many, so that what is too large stays so.
@@ -170,7 +170,7 @@ fn limited_length(e: u64) -> u32
 pub extern "C" fn parchbeetle_release(state: &mut [u8], kind: u64, e: u64) -> u64
     ensures { λ r. ⌜ Releases (now (state .entry)) kind e r (now (state .exit)) ⌝ }
 {
-    let found = images::state_of(state);
+    let found = image_reader::state_of(state);
     let seen = found.answer;
     let Answer::Good = seen else {
         return told(seen, 0);
@@ -181,7 +181,7 @@ pub extern "C" fn parchbeetle_release(state: &mut [u8], kind: u64, e: u64) -> u6
     let Answer::Good = answer else {
         return told(answer, 0);
     };
-    told(images::put_state(next.state, state), 0)
+    told(image_writer::put_state(next.state, state), 0)
 }
 
 // Runs a slice, in a state's image, and writes its row.
@@ -189,7 +189,7 @@ pub extern "C" fn parchbeetle_release(state: &mut [u8], kind: u64, e: u64) -> u6
 pub extern "C" fn parchbeetle_slice(state: &mut [u8], row: &mut [u8]) -> u64
     ensures { λ r. ⌜ Slices (now (state .entry)) (now (row .entry)) r (now (state .exit)) (now (row .exit)) ⌝ }
 {
-    let found = images::state_of(state);
+    let found = image_reader::state_of(state);
     let seen = found.answer;
     let Answer::Good = seen else {
         return told(seen, 0);
@@ -200,5 +200,5 @@ pub extern "C" fn parchbeetle_slice(state: &mut [u8], row: &mut [u8]) -> u64
     let Answer::Good = answer else {
         return told(answer, 0);
     };
-    told(images::put_state(after.state, state), 0)
+    told(image_writer::put_state(after.state, state), 0)
 }

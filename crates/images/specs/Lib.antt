@@ -2,5 +2,4 @@
 -- Assumes nothing.
 pub mod Image
 pub mod Lent
-pub mod OneOutcome
 pub mod RoundTrip

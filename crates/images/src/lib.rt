@@ -1,15 +1,9 @@
 // The images of a plan and of a state: bytes of a fixed size, in which both cross to another
-// language. Every buffer is answered, whatever its length and its bytes.
-mod reader;
-mod writer;
-
+// language. specs/Image.antt has their layout, by which `image_reader` finds and `image_writer`
+// stores.
 use answer::Answer;
 use plan::Plan;
 use rack::State;
-pub use reader::plan_of;
-pub use reader::state_of;
-pub use writer::put_plan;
-pub use writer::put_state;
 
 // What looking at a plan's image found: the answer, and the plan (all zero where it is refused).
 pub struct PlanFound {

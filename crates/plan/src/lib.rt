@@ -33,7 +33,7 @@ pub struct Plan {
 }
 
 impl Project {
-    pub fn empty() -> Self
+    fn empty() -> Self
         ensures { λ r. ⌜ r ≡ noProject ⌝ }
     {
         Project {
@@ -46,7 +46,7 @@ impl Project {
 impl Kind {
     pub const LONGEST: u16 = 4095;
 
-    pub fn empty() -> Self
+    fn empty() -> Self
         ensures { λ r. ⌜ r ≡ noKind ⌝ }
     {
         Kind {

@@ -50,7 +50,8 @@ fn projects_from(s: &[u8], count: u8) -> Projects
     requires { ⌜ (count ≤ 8) × (2 * count ≤ length (now s)) ⌝ }
     ensures { λ r. ⌜ (r .project ≡ projectsFrom count (now (s .entry))) × (r .clean ≡ projectsSpare count (now (s .entry))) ⌝ }
 {
-    let mut project = [Project::empty(); 8];
+    let none = Plan::empty();
+    let mut project = none.project;
     let mut clean = true;
     for j in 0..count as usize {
         let at = 2 * j;
@@ -67,7 +68,8 @@ fn kinds_from(s: &[u8], count: u8) -> Kinds
     requires { ⌜ (count ≤ 16) × (5 * count ≤ length (now s)) ⌝ }
     ensures { λ r. ⌜ (r .kind ≡ kindsFrom count (now (s .entry))) × (r .clean ≡ kindsSpare count (now (s .entry))) ⌝ }
 {
-    let mut kind = [Kind::empty(); 16];
+    let none = Plan::empty();
+    let mut kind = none.kind;
     let mut clean = true;
     for i in 0..count as usize {
         let at = 5 * i;

@@ -6,7 +6,7 @@ use Prim.Native.Nat.{ℕ}
 use Rattle.plan.specs.declared.Plan.{Plan}
 use Rattle.rack.specs.declared.State.{State}
 use Rattle.rack.specs.declared.Next.{Next}
-use Rattle.rack.specs.State.{freshOf, noState}
+use Rattle.rack.specs.State.{noState}
 use Rattle.rack.specs.Release.{releaseOf}
 use Rattle.rack.specs.Slice.{Sliced}
 use Rattle.rack.specs.Start.{startOf}
@@ -14,10 +14,6 @@ use Rattle.rack.specs.Start.{startOf}
 -- `State::empty`
 pub empty-one-outcome : (a b : State) → a ≡ noState → b ≡ noState → a ≡ b
 empty-one-outcome a b p q = p ∙ sym q
-
--- `State::fresh`
-pub fresh-one-outcome : (plan : Plan) (a b : State) → a ≡ freshOf plan → b ≡ freshOf plan → a ≡ b
-fresh-one-outcome plan a b p q = p ∙ sym q
 
 -- `State::start`
 pub start-one-outcome : (plan : Plan) (a b : Next) → a ≡ startOf plan → b ≡ startOf plan → a ≡ b

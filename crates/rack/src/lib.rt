@@ -34,7 +34,7 @@ impl State {
     pub const LAST: u32 = 1000000000;
 
     // The plan at clock 0, with no kind ever released.
-    pub fn fresh(plan: Plan) -> Self
+    pub(crate) fn fresh(plan: Plan) -> Self
         ensures { λ r. ⌜ r ≡ freshOf plan ⌝ }
     {
         State {

@@ -21,7 +21,7 @@ empty-requires : tie.Need-empty-requires Inv-loop μ-loop
 empty-requires c κs = search needs
 
 loop-holds : tie.Need-loop-holds Inv-loop μ-loop
-loop-holds c = (omega arith, refl, rw (c .empty .ensures) (projects-none _), projects-spare-none _)
+loop-holds c = (omega arith, refl, rw (c .before .empty .ensures) (projects-none _), projects-spare-none _)
 
 mul-at : tie.Need-mul-at Inv-loop μ-loop
 mul-at c = search needs

@@ -1,0 +1,67 @@
+-- `image_reader::kinds_from` meets its contract.
+-- Assumes nothing.
+use borrow.Author.Needs.{needs}
+use native.Mathlib.Omega.{arith}
+use mathlib.Core.Path.{_≡_}
+use Prim.Native.Nat.{_≤_, _-_}
+use Rattle.images.specs.Image.{kindsFrom}
+use Rattle.images.specs.Image.Properties.{kinds-none, kinds-again, kinds-stop}
+use Rattle.image_reader.proofs.kinds_from.Statement.{statement}
+use Rattle.image_reader.proofs.kinds_from.Tie as tie
+
+abbrev Inv-loop : tie.InvT-loop
+Inv-loop s kind₀ i₀ kind i = (i ≤ 16) × (kind ≡ kindsFrom i s)
+
+abbrev μ-loop : tie.MeasureT-loop
+μ-loop s kind₀ i₀ kind i = 16 - i
+
+empty-requires : tie.Need-empty-requires Inv-loop μ-loop
+empty-requires c κs = search needs
+
+loop-holds : tie.Need-loop-holds Inv-loop μ-loop
+loop-holds c = (omega arith, rw (c .before .empty .ensures) (kinds-none _))
+
+mul-kind-from : tie.Need-mul-kind-from Inv-loop μ-loop
+mul-kind-from c = search needs
+
+add-kind-from : tie.Need-add-kind-from Inv-loop μ-loop
+add-kind-from c = search needs
+
+kind-from-requires : tie.Need-kind-from-requires Inv-loop μ-loop
+kind-from-requires c κs = search needs
+
+mul-kind : tie.Need-mul-kind Inv-loop μ-loop
+mul-kind c = search needs
+
+array-set-from-kind : tie.Need-array-set-from-kind Inv-loop μ-loop
+array-set-from-kind c = search needs
+
+add-i : tie.Need-add-i Inv-loop μ-loop
+add-i c = search needs
+
+loop-less : tie.Need-loop-less Inv-loop μ-loop
+loop-less c = search needs
+
+loop-again : tie.Need-loop-again Inv-loop μ-loop
+loop-again c = (omega arith, search kinds-again)
+
+returns : tie.Need-returns Inv-loop μ-loop
+returns c = search kinds-stop
+
+pub kinds-from-spec : {M : Type 1} → statement M
+kinds-from-spec =
+    tie.close
+    (tie.spec
+    Inv-loop
+    μ-loop
+    empty-requires
+    loop-holds
+    mul-kind-from
+    add-kind-from
+    kind-from-requires
+    mul-kind
+    array-set-from-kind
+    add-i
+    loop-less
+    loop-again
+    returns)

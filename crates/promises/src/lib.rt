@@ -1,1 +1,1 @@
-// The promises: deadlines and budgets, as theorems. They stand in specs/; there is no code here.
+// The three demands, as theorems. They stand in specs/; there is no code here.

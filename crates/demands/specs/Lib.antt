@@ -1,0 +1,22 @@
+-- The three demands: `Outcomes` (1), `Verdicts` (2) and `Deadlines` (3) state them, the last over `Run`, `Since` and `Named`. The other modules tie
+-- the theory of one project (`analysis`) to the rack.
+-- Assumes nothing.
+-- ---- the statements
+pub mod Run
+pub mod Since
+pub mod Named
+pub mod Outcomes
+pub mod Excess
+pub mod Verdicts
+pub mod Deadlines
+-- ---- what a row is
+pub mod Row
+-- ---- the rack as a project sees it: the ranking, and the rack's calls as steps of the theory
+pub mod View
+-- ---- runs
+pub mod Safe
+pub mod Served
+pub mod InTime
+pub mod Budget
+pub mod Refusals
+pub mod Kept

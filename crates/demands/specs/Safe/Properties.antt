@@ -1,0 +1,104 @@
+-- A fresh start on an admitted plan is safe, every call keeps it so, and what that says of a kind.
+-- Assumes nothing.
+use mathlib.Core.Path.{_≡_, refl, ap}
+use mathlib.Core.Bool.{Bool, true, false, cond}
+use mathlib.Core.List.{List}
+use Prim.Native.Nat.{ℕ, _-_, _≤_, _<_}
+use native.Mathlib.Omega.{arith}
+use lib.ListN.{length, getD-replicate}
+use borrow.Author.Tests.{eq-eqb}
+use Rattle.plan.specs.declared.Plan.{Plan}
+use Rattle.answer.specs.declared.Answer.the-variants.{Good}
+use Rattle.verdict.specs.Verdict.{judged}
+use Rattle.verdict.specs.Admission.Properties.{judged-in-order}
+use Rattle.unit.specs.declared.Unit.{Unit}
+use Rattle.rack.specs.declared.State.{State}
+use Rattle.unit.specs.Unit.{noUnit}
+use Rattle.rack.specs.State.{unitOf, kindAt, freshOf}
+use Rattle.unit.specs.Form.{UnitInForm}
+use Rattle.rack.specs.Rank.{gone, until, served}
+use Rattle.rack.specs.Start.{startAnswer, startOf}
+use Rattle.rack.specs.Start.Properties.{start-good, fresh-form, fresh-places}
+use Rattle.rack.specs.Release.{released, releaseAnswer}
+use Rattle.rack.specs.Release.Properties.{release-says, release-form, release-places}
+use Rattle.rack.specs.Slice.{advanced, sliceAnswer}
+use Rattle.rack.specs.Slice.Properties.{slice-says, slice-form, slice-places}
+use Rattle.analysis.specs.Setup.{Own}
+use Rattle.analysis.specs.OnTrack.Properties.{idle-on-track, slice-on-track, release-on-track, left-until, wait-left}
+use Rattle.demands.specs.View.{setupOf, waitOf, momentOf}
+use Rattle.demands.specs.View.Properties.{view-admitted}
+use Rattle.demands.specs.View.Steps.{slice-step, release-step}
+use Rattle.demands.specs.Run.{Call, runFrom, after}
+use Rattle.demands.specs.Run.Properties.{along}
+use Rattle.demands.specs.Safe.{Safe}
+
+-- ---- what it says of a kind
+
+module _ (s : State) (safe : Safe s) (i : ℕ) (l : i < s .plan .kinds) where
+  own : Own (setupOf (s .plan) (kindAt s i .project)) i
+  own = record { below = l; mine = eq-eqb (kindAt s i .project) (kindAt s i .project) refl }
+
+  pub safe-unit : UnitInForm (s .clock) (kindAt s i .length) (unitOf s i)
+  safe-unit = safe .ready .form .unit-at i (omega (arith, safe .ready .order .counts .kinds-most)) l
+
+  -- no more is left of a unit than there are slices until it is due
+  pub safe-left : unitOf s i .left ≤ until s i
+  safe-left = left-until (setupOf (s .plan) (kindAt s i .project)) (view-admitted (s .plan) (safe .admitted) (kindAt s i .project)) (momentOf s) (safe .on-track (kindAt s i .project)) i own
+
+  -- where no unit was released fewer than T slices ago, nothing is left
+  pub safe-none-left : (unitOf s i .released ≡ true → kindAt s i .separation ≤ gone s i) → unitOf s i .left ≡ 0
+  unfolding waitOf
+  safe-none-left h = wait-left (setupOf (s .plan) (kindAt s i .project)) (view-admitted (s .plan) (safe .admitted) (kindAt s i .project)) (momentOf s) (safe .on-track (kindAt s i .project)) i own (go (unitOf s i .released) h)
+    where
+      go : (b : Bool) → (b ≡ true → kindAt s i .separation ≤ gone s i) → cond b (kindAt s i .separation - gone s i) 0 ≡ 0
+      go true r = omega (arith, r refl)
+      go false r = refl
+
+-- ---- what keeps it
+
+fresh-safe : (p : Plan) → judged p .answer ≡ Good → Safe (freshOf p)
+fresh-safe p good =
+    let order = judged-in-order p good in
+    record {
+      admitted = good;
+      ready = fresh-form p order;
+      places = fresh-places p;
+      on-track = λ j. idle-on-track (setupOf p j) (view-admitted p good j) (momentOf (freshOf p)) (λ i o. ap (λ (v : Unit). v .left) (getD-replicate 16 i noUnit noUnit (omega (arith, o .below, order .counts .kinds-most))));
+    }
+
+-- the fresh start refuses what the verdict does
+pub start-admitted : (p : Plan) → startOf p .answer ≡ Good → judged p .answer ≡ Good
+unfolding startOf startAnswer judged
+start-admitted p good = good
+
+pub start-safe : (p : Plan) → startOf p .answer ≡ Good → Safe (startOf p .state)
+start-safe p good = rw (start-good p good) (fresh-safe p (start-admitted p good))
+
+pub slice-safe : (s : State) → Safe s → (room : ℕ) → sliceAnswer s room ≡ Good → Safe (advanced s)
+unfolding advanced
+slice-safe s safe room good =
+    let may = slice-says s room good in
+    record {
+      admitted = safe .admitted;
+      ready = slice-form s room may (safe .places);
+      places = slice-places s room may (safe .places);
+      on-track = λ j. slice-on-track (setupOf (s .plan) j) (view-admitted (s .plan) (safe .admitted) j) (served s) (momentOf s) (momentOf (advanced s)) (slice-step s room may (safe .places) j) (safe .on-track j);
+    }
+
+pub release-safe : (s : State) → Safe s → (k e : ℕ) → releaseAnswer s k e ≡ Good → Safe (released s k e)
+unfolding released
+release-safe s safe k e good =
+    let may = release-says s k e good in
+    record {
+      admitted = safe .admitted;
+      ready = release-form s k e may (safe .places);
+      places = release-places s k e may (safe .places);
+      on-track = λ j. release-on-track (setupOf (s .plan) j) (view-admitted (s .plan) (safe .admitted) j) (momentOf s) (momentOf (released s k e)) k e (release-step s k e may (safe .places) j) (safe .on-track j);
+    }
+
+pub run-safe : (calls : List Call) (s : State) → Safe s → Safe (runFrom s calls)
+run-safe = along (λ s slices end. Safe s → Safe end) (λ s h. h) (λ s end bytes slices g h t. h (slice-safe s t (length bytes) g)) (λ s end i e slices g h t. h (release-safe s t i e g))
+
+-- every state that a run from a fresh start on an admitted plan comes to
+pub after-safe : (p : Plan) → startOf p .answer ≡ Good → (calls : List Call) → Safe (after p calls)
+after-safe p good calls = run-safe calls (startOf p .state) (start-safe p good)

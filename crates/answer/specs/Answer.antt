@@ -10,6 +10,22 @@ use Rattle.answer.specs.declared.Refusal.{Refusal}
 use Rattle.answer.specs.declared.Refusal.the-variants.{Bare, ByProject, ByKind}
 pub mod Properties
 
+-- a refusal whose place is 0
+abbrev pub bare : ℕ → Answer
+bare n = No (Bare n)
+
+-- a refusal whose place is a project: "first such project"
+abbrev pub atProject : ℕ → ℕ → Answer
+atProject n j = No (ByProject n j)
+
+-- a refusal whose place is a kind: "that kind"
+abbrev pub atKind : ℕ → ℕ → Answer
+atKind n i = No (ByKind n i 0)
+
+-- 8: "first kind with no k, with its excess"
+abbrev pub notAdmitted : ℕ → ℕ → Answer
+notAdmitted i x = No (ByKind 8 i x)
+
 -- "A good answer has number and place 0"; else the number that the refusal carries
 abbrev pub number : Answer → ℕ
 number Good = 0

@@ -1,14 +1,12 @@
--- What an admitted plan gives a project: document 01, "What the base holds" and "Supply and verdict".
+-- The test that admits a project: document 01, "Supply and verdict".
+-- It compares with S(k,t) alone. What cards a project holds when is said of its moments (`Supplied`), so it stands however the slices of the frame are
+-- numbered, and when an idle project is given other cards with the same supply.
 -- Assumes nothing.
 use Prim.Native.Nat.{ℕ, _+_, _*_, _≤_}
-use Rattle.supply.specs.Supply.{window}
-use Rattle.analysis.specs.Setup.{Setup, Own}
-use Rattle.analysis.specs.Workload.{workload}
+use Rattle.analysis.specs.Setup.{Setup, Own, Timed}
 
--- "1 <= C <= D <= T", and "Kind i fits at k when kCi + W <= S(k,Di)": from every start
-pub record Admitted (S : Setup) : Type 0 where
-  pub some-length : (i : ℕ) → Own S i → 1 ≤ S .length i
-  pub length-fits : (i : ℕ) → Own S i → S .length i ≤ S .deadline i
-  pub deadline-fits : (i : ℕ) → Own S i → S .deadline i ≤ S .separation i
+-- with W for the workload: "Kind i fits at k when kCi + W <= S(k,Di)", its reach for Di
+pub record Admitted (S : Setup) (workload : ℕ → ℕ) : Type 0 where
+  pub timed : (i : ℕ) → Own S i → Timed S i
   pub some-width : (i : ℕ) → Own S i → 1 ≤ S .width i
-  pub fits : (i : ℕ) → Own S i → (a : ℕ) → S .width i * S .length i + workload S i ≤ window (S .width i) (S .held) a (S .deadline i)
+  pub fits : (i : ℕ) → Own S i → S .width i * S .length i + workload i ≤ S .supply (S .width i) (S .reach i)

@@ -1,12 +1,15 @@
--- A project's view of a plan and of a state: the quantities that the invariant speaks of, counted from now.
+-- A project's view of a plan and of a state: the quantities that the theory speaks of. They are counted from now, and what is above this view
+-- reads them and no clock.
 -- Assumes nothing.
-use Prim.Native.Nat.{ℕ, _-_}
+use Prim.Native.Nat.{ℕ, _+_, _-_}
 use mathlib.Core.Bool.{cond}
 use lib.Dec.{eqb}
+use lib.ListN.{getD}
 use Rattle.plan.specs.declared.Plan.{Plan}
 use Rattle.plan.specs.Order.{kindOf}
 use Rattle.layout.specs.Layout.{held}
-use Rattle.verdict.specs.Verdict.{widthOf}
+use Rattle.supply.specs.Supply.{supply}
+use Rattle.verdict.specs.Verdict.{judged}
 use Rattle.rack.specs.declared.State.{State}
 use Rattle.rack.specs.State.{unitOf, kindAt}
 use Rattle.rack.specs.Rank.{gone, until}
@@ -16,22 +19,27 @@ pub mod Properties
 pub mod Ranks
 pub mod Steps
 
--- project j of a plan
+-- project j of a plan; a unit comes when it is released, so its reach is its deadline
 abbrev pub setupOf : Plan → ℕ → Setup
 setupOf p j = record {
   kinds = p .kinds;
   mine = λ i. eqb (kindOf p i .project) j;
   separation = λ i. kindOf p i .separation;
   deadline = λ i. kindOf p i .deadline;
+  reach = λ i. kindOf p i .deadline;
   length = λ i. kindOf p i .length;
-  width = widthOf p;
-  held = held p j;
+  width = λ i. getD (judged p .width) i 0;
+  supply = supply (p .frame) (held p j);
 }
+
+-- the cards that project j holds x slices from now
+unfoldable pub cardsFrom : State → ℕ → ℕ → ℕ
+cardsFrom s j x = held (s .plan) j (s .clock + x)
 
 -- the slices until a kind's next unit may be released
 unfoldable pub waitOf : State → ℕ → ℕ
 waitOf s i = cond (unitOf s i .released) (kindAt s i .separation - gone s i) 0
 
--- where the projects stand in a state
-abbrev pub momentOf : State → Moment
-momentOf s = record { clock = s .clock; left = λ i. unitOf s i .left; until = until s; wait = waitOf s }
+-- where project j stands in a state
+abbrev pub momentOf : State → ℕ → Moment
+momentOf s j = record { cards = cardsFrom s j; left = λ i. unitOf s i .left; until = until s; wait = waitOf s }

@@ -1,89 +1,163 @@
--- The invariant holds where nothing is left, every step keeps it, and it gives the deadlines.
+-- The invariant holds where nothing is left, every step keeps it, and it gives the deadlines: of every policy, by its laws alone.
 -- Assumes nothing.
-use mathlib.Core.Path.{_≡_, refl, ap, ap₂}
+use mathlib.Core.Path.{_≡_, refl, ap, ap₂, _∙_}
 use mathlib.Core.Logic.{_≢_}
-use mathlib.Core.Bool.{Bool, true, false}
+use mathlib.Core.Bool.{Bool, true, false, _&&_}
 use Prim.Native.Nat.{ℕ, suc, _+_, _*_, _≤_, _<_, min}
-use native.Mathlib.Decide.{decLt, ℕ-discrete}
+use native.Mathlib.Decide.{decLe, decLt, ℕ-discrete}
 use native.Mathlib.Nat.{le-of-mul-le-mul-left, mul-le-mul-left}
 use native.Mathlib.Omega.{arith}
+use Rattle.laws.specs.Count.{countTo}
 use Rattle.supply.specs.Supply.{window}
-use Rattle.supply.specs.Supply.Properties.{window-first, window-most}
+use Rattle.supply.specs.Supply.Properties.{window-most}
 use Rattle.analysis.specs.Setup.{Setup, Own}
-use Rattle.analysis.specs.Admitted.{Admitted}
-use Rattle.analysis.specs.Moment.{Moment}
-use Rattle.analysis.specs.Step.{Slice, Release}
+use Rattle.analysis.specs.Moment.{Moment, Supplied, Running, Idle}
+use Rattle.analysis.specs.Moment.Properties.{window-now, window-kept, supplied-later, supplied-kept}
+use Rattle.analysis.specs.Step.{Priority, Slice, Release}
 use Rattle.analysis.specs.Step.Properties.{left-served, left-unserved, left-no-more}
-use Rattle.analysis.specs.OnTrack.{ahead, Running, Enough, OnTrack}
-use Rattle.analysis.specs.OnTrack.Ahead.{ahead-slice, ahead-release, ahead-window}
+use Rattle.analysis.specs.Reached.{Reached, idle, slice, release}
+use Rattle.analysis.specs.Admitted.{Admitted}
+use Rattle.analysis.specs.Policy.{Policy}
+use Rattle.analysis.specs.OnTrack.{Enough, OnTrack}
 
-module _ (S : Setup) (a : Admitted S) where
+module _ (S : Setup) (prior : Priority) (workload : ℕ → ℕ) (P : Policy S prior workload) (a : Admitted S workload) where
+  abbrev Enough' : Moment → ℕ → Type 0
+  Enough' = Enough S prior workload P
+
+  abbrev OnTrack' : Moment → Type 0
+  OnTrack' = OnTrack S prior workload P
+
   -- ---- what it gives
 
-  -- no more is left of a unit than there are slices until it is due
-  pub left-until : (m : Moment) → OnTrack S m → (i : ℕ) → Own S i → m .left i ≤ m .until i
-  left-until m t i o =
-      elim (decLt 0 (m .left i)) [ yes p ↦ le-of-mul-le-mul-left {k = S .width i} (omega (arith, t .enough i o p, window-most (S .width i) (S .held) (m .clock) (m .until i))) (a .some-width i o) | no p ↦ omega arith ]
+  -- with supply enough, no more is left than there are slices until it is due
+  enough-until : (m : Moment) (i : ℕ) → Own S i → Enough' m i → m .left i ≤ m .until i
+  enough-until m i o e = le-of-mul-le-mul-left {k = S .width i} (omega (arith, e, window-most (S .width i) (m .cards) 0 (m .until i))) (a .some-width i o)
 
-  -- a kind that may be released has nothing left
-  pub wait-left : (m : Moment) → OnTrack S m → (i : ℕ) → Own S i → m .wait i ≡ 0 → m .left i ≡ 0
-  wait-left m t i o e = elim (decLt 0 (m .left i)) [ yes p ↦ absurd (omega (arith, t .running i o p .wait, left-until m t i o, a .deadline-fits i o)) | no p ↦ omega arith ]
+  -- before a unit comes within its reach, its own length is the least that is still to come
+  far-until : (m : Moment) (i : ℕ) → Own S i → Running S m i → S .reach i ≤ m .until i → m .left i ≤ m .until i
+  far-until m i o r l = omega (arith, r .left, a .timed i o .length-fits)
+
+  pub left-until : (m : Moment) → OnTrack' m → (i : ℕ) → Own S i → m .left i ≤ m .until i
+  left-until m t i o =
+      elim (decLt 0 (m .left i)) [
+        | yes p ↦ elim (decLe (m .until i) (S .reach i)) [ yes q ↦ enough-until m i o (t .enough i o p q) | no q ↦ far-until m i o (t .running i o p) (omega arith) ]
+        | no p ↦ omega arith
+      ]
+
+  -- where a kind's next unit may come, nothing is left of the last
+  pub next-left : (m : Moment) → OnTrack' m → (i : ℕ) → Own S i → m .wait i + S .reach i ≤ S .deadline i → m .left i ≡ 0
+  next-left m t i o l =
+      elim (decLt 0 (m .left i)) [ yes p ↦ absurd (omega (arith, t .running i o p .wait, left-until m t i o, a .timed i o .deadline-fits)) | no p ↦ omega arith ]
+
+  -- ---- where a unit comes within its reach
+
+  start-enough : (m : Moment) → Supplied S m → ((j : ℕ) → Own S j → 0 < m .left j → Running S m j) → ((j : ℕ) → Own S j → m .left j ≤ m .until j) →
+      (i : ℕ) → Own S i → 0 < m .left i → m .until i ≡ S .reach i → Enough' m i
+  start-enough m s r t i o p e =
+      omega (arith, a .fits i o, s 0 (S .width i) (S .reach i), mul-le-mul-left (S .width i) (r i o p .left), P .at-start m r t i o e, ap (window (S .width i) (m .cards) 0) e)
 
   -- ---- what keeps it
 
-  -- nothing is left
-  pub idle-on-track : (m : Moment) → ((i : ℕ) → Own S i → m .left i ≡ 0) → OnTrack S m
-  idle-on-track m h = record { running = λ i o p. absurd (omega (arith, h i o)); enough = λ i o p. absurd (omega (arith, h i o)) }
+  pub idle-on-track : (m : Moment) → Idle S m → OnTrack' m
+  idle-on-track m h = record {
+    supplied = h .supplied;
+    running = λ i o p. absurd (omega (arith, h .none-left i o));
+    enough = λ i o p q. absurd (omega (arith, h .none-left i o));
+  }
 
-  pub slice-on-track : (served : ℕ → Bool) (before after : Moment) → Slice S served before after → OnTrack S before → OnTrack S after
-  slice-on-track served before after s t = record { running = running; enough = enough }
-    where
-      was : (i : ℕ) → Own S i → 0 < after .left i → 0 < before .left i
-      was i o p = omega (arith, left-no-more S served before after s i o)
+  module _ (served : ℕ → Bool) (before after : Moment) (s : Slice S prior served before after) (t : OnTrack' before) where
+    was : (i : ℕ) → Own S i → 0 < after .left i → 0 < before .left i
+    was i o p = omega (arith, left-no-more S prior served before after s i o)
 
-      not-yet : (i : ℕ) → Own S i → 0 < after .left i → 0 < before .until i
-      not-yet i o p = omega (arith, was i o p, left-until before t i o)
+    not-yet : (i : ℕ) → Own S i → 0 < after .left i → 0 < before .until i
+    not-yet i o p = omega (arith, was i o p, left-until before t i o)
 
-      running : (i : ℕ) → Own S i → 0 < after .left i → Running S after i
-      running i o p =
-          let r = t .running i o (was i o p) in
-          let d = a .deadline-fits i o in
-          record { left = omega (arith, left-no-more S served before after s i o); until = omega (arith, s .until i o p); wait = omega (arith, s .until i o p, s .wait i o, not-yet i o p) }
+    slice-supplied : Supplied S after
+    slice-supplied = supplied-later before after (s .cards) S (t .supplied)
 
-      enough : (i : ℕ) → Own S i → 0 < after .left i → Enough S after i
-      enough i o p = go (served i) refl
-        where
-          before-it : S .width i * before .left i + ahead S before i ≤ min (S .width i) (S .held (before .clock)) + window (S .width i) (S .held) (after .clock) (after .until i)
-          before-it =
-              let u : before .until i ≡ suc (after .until i) = omega (arith, s .until i o p, not-yet i o p) in
-              rw (s .clock, ← (window-first (S .width i) (S .held) (before .clock) (after .until i)), ← u) (t .enough i o (was i o p))
+    slice-running : (i : ℕ) → Own S i → 0 < after .left i → Running S after i
+    slice-running i o p =
+        let r = t .running i o (was i o p) in
+        let u = s .until i o p in
+        let k = a .timed i o in
+        record {
+          left = omega (arith, left-no-more S prior served before after s i o);
+          until = omega arith;
+          wait = omega (arith, s .wait i o, not-yet i o p, k .reach-fits, k .deadline-fits);
+        }
 
-          go : (b : Bool) → served i ≡ b → Enough S after i
-          go true e = omega (arith, before-it, ahead-slice S a served before after s i o p (not-yet i o p), ap (λ (l : ℕ). S .width i * l) (left-served S served before after s i o e))
-          go false e = omega (arith, before-it, ahead-slice S a served before after s i o p (not-yet i o p), ap (λ (l : ℕ). S .width i * l) (left-unserved S served before after s i o e), s .serves .waits i o (was i o p) e)
+    -- a unit that was within its reach: what a slice takes of its cards, it has itself, or others before it
+    slice-within : (i : ℕ) → Own S i → 0 < after .left i → before .until i ≤ S .reach i → Enough' after i
+    slice-within i o p q = go (served i) refl
+      where
+        falls : P .ahead after i + countTo (S .kinds) (λ j. served j && prior before j i) ≤ P .ahead before i
+        falls = P .after-slice served before after s i o p (not-yet i o p)
 
-  pub release-on-track : (before after : Moment) (j e : ℕ) → Release S j e before after → OnTrack S before → OnTrack S after
-  release-on-track before after j e r t = record { running = running; enough = enough }
-    where
-      old : (i : ℕ) → Own S i → i ≢ j → 0 < after .left i → Running S after i
-      old i o d p = let k = r .others i o d in let h = t .running i o (omega arith) in record { left = omega arith; until = omega arith; wait = omega arith }
+        before-it : S .width i * before .left i + P .ahead before i ≤ min (S .width i) (before .cards 0) + window (S .width i) (after .cards) 0 (after .until i)
+        before-it =
+            let u : before .until i ≡ suc (after .until i) = omega (arith, s .until i o p, not-yet i o p) in
+            omega (arith, t .enough i o (was i o p) q, ap (window (S .width i) (before .cards) 0) u, window-now before after (s .cards) (S .width i) (after .until i))
 
-      old-enough : (i : ℕ) → Own S i → i ≢ j → 0 < after .left i → Enough S after i
-      old-enough i o d p =
-          let k = r .others i o d in
-          omega (arith, t .enough i o (omega arith), ahead-release S a before after j e r i o d, ap (λ (l : ℕ). S .width i * l) (k .left), ap₂ (window (S .width i) (S .held)) (r .clock) (k .until))
+        go : (b : Bool) → served i ≡ b → Enough' after i
+        go true e = omega (arith, before-it, falls, ap (λ (l : ℕ). S .width i * l) (left-served S prior served before after s i o e))
+        go false e = omega (arith, before-it, falls, ap (λ (l : ℕ). S .width i * l) (left-unserved S prior served before after s i o e), s .serves .waits i o (was i o p) e)
 
-      new : Own S j → Running S after j
-      new o = let s = r .started o in record { left = omega arith; until = omega arith; wait = omega arith }
+    slice-until : (i : ℕ) → Own S i → after .left i ≤ after .until i
+    slice-until i o = elim (decLt 0 (after .left i)) [ yes p ↦ some p | no p ↦ omega arith ]
+      where
+        some : 0 < after .left i → after .left i ≤ after .until i
+        some p =
+            elim (decLe (before .until i) (S .reach i)) [
+              | yes q ↦ enough-until after i o (slice-within i o p q)
+              | no q ↦ far-until after i o (slice-running i o p) (omega (arith, s .until i o p))
+            ]
 
-      new-enough : Own S j → Enough S after j
-      new-enough o =
-          let s = r .started o in
-          let w = ahead-window S a after j (s .until) old (λ i x d. let k = r .others i x d in omega (arith, left-until before t i x)) in
-          omega (arith, a .fits j o (after .clock), mul-le-mul-left (S .width j) (new o .left), w, ap (window (S .width j) (S .held) (after .clock)) (s .until))
+    slice-enough : (i : ℕ) → Own S i → 0 < after .left i → after .until i ≤ S .reach i → Enough' after i
+    slice-enough i o p q =
+        elim (decLe (before .until i) (S .reach i)) [
+          | yes r ↦ slice-within i o p r
+          | no r ↦ start-enough after slice-supplied slice-running slice-until i o p (omega (arith, s .until i o p))
+        ]
 
-      running : (i : ℕ) → Own S i → 0 < after .left i → Running S after i
-      running i o p = elim (ℕ-discrete i j) [ yes q ↦ rw q (new (rw q at o)) | no q ↦ old i o q p ]
+    pub slice-on-track : OnTrack' after
+    slice-on-track = record { supplied = slice-supplied; running = slice-running; enough = slice-enough }
 
-      enough : (i : ℕ) → Own S i → 0 < after .left i → Enough S after i
-      enough i o p = elim (ℕ-discrete i j) [ yes q ↦ rw q (new-enough (rw q at o)) | no q ↦ old-enough i o q p ]
+  module _ (before after : Moment) (j e : ℕ) (r : Release S j e before after) (t : OnTrack' before) where
+    release-supplied : Supplied S after
+    release-supplied = supplied-kept before after (r .cards) S (t .supplied)
+
+    new : Own S j → Running S after j
+    new o = let s = r .started o in record { left = omega arith; until = s .until; wait = s .wait }
+
+    -- what kind i was, or what is new of it
+    either : (Q : ℕ → Type 0) → (Own S j → Q j) → ((i : ℕ) → Own S i → i ≢ j → Q i) → (i : ℕ) → Own S i → Q i
+    either Q here there i o = elim (ℕ-discrete i j) [ yes q ↦ rw q (here (rw q at o)) | no q ↦ there i o q ]
+
+    release-running : (i : ℕ) → Own S i → 0 < after .left i → Running S after i
+    release-running = either (λ i. 0 < after .left i → Running S after i) (λ o p. new o) old
+      where
+        old : (i : ℕ) → Own S i → i ≢ j → 0 < after .left i → Running S after i
+        old i o d p = let k = r .others i o d in let h = t .running i o (omega arith) in record { left = omega arith; until = omega arith; wait = omega arith }
+
+    release-until : (i : ℕ) → Own S i → after .left i ≤ after .until i
+    release-until = either (λ i. after .left i ≤ after .until i) (λ o. let s = r .started o in omega (arith, a .timed j o .length-fits)) (λ i o d. let k = r .others i o d in omega (arith, left-until before t i o))
+
+    release-enough : (i : ℕ) → Own S i → 0 < after .left i → after .until i ≤ S .reach i → Enough' after i
+    release-enough = either (λ i. 0 < after .left i → after .until i ≤ S .reach i → Enough' after i) here there
+      where
+        here : Own S j → 0 < after .left j → after .until j ≤ S .reach j → Enough' after j
+        here o p q = start-enough after release-supplied release-running release-until j o p (let s = r .started o in omega arith)
+
+        there : (i : ℕ) → Own S i → i ≢ j → 0 < after .left i → after .until i ≤ S .reach i → Enough' after i
+        there i o d p q =
+            let k = r .others i o d in
+            omega (arith, t .enough i o (omega arith) (omega arith), P .after-release before after j e r i o d, ap (λ (l : ℕ). S .width i * l) (k .left), window-kept before after (r .cards) (S .width i) 0 (after .until i), ap (window (S .width i) (before .cards) 0) (k .until))
+
+    pub release-on-track : OnTrack' after
+    release-on-track = record { supplied = release-supplied; running = release-running; enough = release-enough }
+
+  -- at every moment reached
+  pub reached-on-track : {m : Moment} → Reached S prior m → OnTrack' m
+  reached-on-track (idle {m = m} h) = idle-on-track m h
+  reached-on-track (slice {before = m} {after = n} served r s) = slice-on-track served m n s (reached-on-track r)
+  reached-on-track (release {before = m} {after = n} j e r s) = release-on-track m n j e s (reached-on-track r)

@@ -24,9 +24,10 @@ use Rattle.rack.specs.Release.Properties.{release-says, release-form, release-p
 use Rattle.rack.specs.Slice.{advanced, sliceAnswer}
 use Rattle.rack.specs.Slice.Properties.{slice-says, slice-form, slice-places}
 use Rattle.analysis.specs.Setup.{Own}
-use Rattle.analysis.specs.OnTrack.Properties.{idle-on-track, slice-on-track, release-on-track, left-until, wait-left}
+use Rattle.analysis.specs.Reached.{idle, slice, release}
+use Rattle.analysis.specs.InTime.{in-time, next-clear}
 use Rattle.demands.specs.View.{setupOf, waitOf, momentOf}
-use Rattle.demands.specs.View.Properties.{view-admitted}
+use Rattle.demands.specs.View.Properties.{view-admitted, cards-supplied}
 use Rattle.demands.specs.View.Steps.{slice-step, release-step}
 use Rattle.demands.specs.Run.{Call, runFrom, after}
 use Rattle.demands.specs.Run.Properties.{along}
@@ -35,7 +36,10 @@ use Rattle.demands.specs.Safe.{Safe}
 -- ---- what it says of a kind
 
 module _ (s : State) (safe : Safe s) (i : ℕ) (l : i < s .plan .kinds) where
-  own : Own (setupOf (s .plan) (kindAt s i .project)) i
+  abbrev j : ℕ
+  j = kindAt s i .project
+
+  own : Own (setupOf (s .plan) j) i
   own = record { below = l; mine = eq-eqb (kindAt s i .project) (kindAt s i .project) refl }
 
   pub safe-unit : UnitInForm (s .clock) (kindAt s i .length) (unitOf s i)
@@ -43,12 +47,12 @@ module _ (s : State) (safe : Safe s) (i : ℕ) (l : i < s .plan .kinds) where
 
   -- no more is left of a unit than there are slices until it is due
   pub safe-left : unitOf s i .left ≤ until s i
-  safe-left = left-until (setupOf (s .plan) (kindAt s i .project)) (view-admitted (s .plan) (safe .admitted) (kindAt s i .project)) (momentOf s) (safe .on-track (kindAt s i .project)) i own
+  safe-left = in-time (setupOf (s .plan) j) (view-admitted (s .plan) (safe .admitted) j) (momentOf s j) (safe .reached j) i own
 
   -- where no unit was released fewer than T slices ago, nothing is left
   pub safe-none-left : (unitOf s i .released ≡ true → kindAt s i .separation ≤ gone s i) → unitOf s i .left ≡ 0
   unfolding waitOf
-  safe-none-left h = wait-left (setupOf (s .plan) (kindAt s i .project)) (view-admitted (s .plan) (safe .admitted) (kindAt s i .project)) (momentOf s) (safe .on-track (kindAt s i .project)) i own (go (unitOf s i .released) h)
+  safe-none-left h = next-clear (setupOf (s .plan) j) (view-admitted (s .plan) (safe .admitted) j) (momentOf s j) (safe .reached j) i own (omega (arith, go (unitOf s i .released) h))
     where
       go : (b : Bool) → (b ≡ true → kindAt s i .separation ≤ gone s i) → cond b (kindAt s i .separation - gone s i) 0 ≡ 0
       go true r = omega (arith, r refl)
@@ -63,7 +67,10 @@ fresh-safe p good =
       admitted = good;
       ready = fresh-form p order;
       places = fresh-places p;
-      on-track = λ j. idle-on-track (setupOf p j) (view-admitted p good j) (momentOf (freshOf p)) (λ i o. ap (λ (v : Unit). v .left) (getD-replicate 16 i noUnit noUnit (omega (arith, o .below, order .counts .kinds-most))));
+      reached = λ j. idle (record {
+        supplied = cards-supplied (freshOf p) j (order .counts .some-slice);
+        none-left = λ i o. ap (λ (v : Unit). v .left) (getD-replicate 16 i noUnit noUnit (omega (arith, o .below, order .counts .kinds-most)));
+      });
     }
 
 -- the fresh start refuses what the verdict does
@@ -82,7 +89,7 @@ slice-safe s safe room good =
       admitted = safe .admitted;
       ready = slice-form s room may (safe .places);
       places = slice-places s room may (safe .places);
-      on-track = λ j. slice-on-track (setupOf (s .plan) j) (view-admitted (s .plan) (safe .admitted) j) (served s) (momentOf s) (momentOf (advanced s)) (slice-step s room may (safe .places) j) (safe .on-track j);
+      reached = λ j. slice (served s) (safe .reached j) (slice-step s room may (safe .places) j);
     }
 
 pub release-safe : (s : State) → Safe s → (k e : ℕ) → releaseAnswer s k e ≡ Good → Safe (released s k e)
@@ -93,7 +100,7 @@ release-safe s safe k e good =
       admitted = safe .admitted;
       ready = release-form s k e may (safe .places);
       places = release-places s k e may (safe .places);
-      on-track = λ j. release-on-track (setupOf (s .plan) j) (view-admitted (s .plan) (safe .admitted) j) (momentOf s) (momentOf (released s k e)) k e (release-step s k e may (safe .places) j) (safe .on-track j);
+      reached = λ j. release k e (safe .reached j) (release-step s k e may (safe .places) j);
     }
 
 pub run-safe : (calls : List Call) (s : State) → Safe s → Safe (runFrom s calls)

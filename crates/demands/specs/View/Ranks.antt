@@ -17,10 +17,11 @@ use Rattle.rack.specs.Rank.{until, active, outranks, rank, served}
 use Rattle.rack.specs.Rank.Properties.{working-left, working-of, active-of, active-project, ranked, outranks-due, served-working, unserved-rank}
 use Rattle.analysis.specs.Setup.{Own}
 use Rattle.analysis.specs.Setup.Properties.{other-of}
-use Rattle.analysis.specs.Step.{noLater, Serves}
-use Rattle.analysis.specs.Step.Properties.{later-of}
-use Rattle.demands.specs.View.{setupOf, momentOf}
-use Rattle.demands.specs.View.Properties.{own-project}
+use Rattle.analysis.specs.Step.{Serves}
+use Rattle.analysis.specs.EarliestFirst.{noLater}
+use Rattle.analysis.specs.EarliestFirst.Ahead.{later-of}
+use Rattle.demands.specs.View.{setupOf, momentOf, cardsFrom}
+use Rattle.demands.specs.View.Properties.{own-project, cards-now}
 
 module _ (s : State) where
   -- whom a project's first cards go to
@@ -35,23 +36,23 @@ module _ (s : State) where
   first-served j k e = ap (λ (x : ℕ). firstOf x k) (first-project j k e) ∙ e
 
   -- they are due no later than one that they outrank
-  first-no-later : (j i k : ℕ) → k < s .plan .kinds → firstOf j k ≡ true → outranks s k i ≡ true → noLater (setupOf (s .plan) j) (momentOf s) i k ≡ true
+  first-no-later : (j i k : ℕ) → k < s .plan .kinds → firstOf j k ≡ true → outranks s k i ≡ true → noLater (setupOf (s .plan) j) (momentOf s j) k i ≡ true
   unfolding until
   first-no-later j i k l e a =
       let own : Own (setupOf (s .plan) j) k = record { below = l; mine = eq-eqb (kindAt s k .project) j (first-project j k e) } in
-      later-of (setupOf (s .plan) j) (momentOf s) i k (other-of (setupOf (s .plan) j) i k own (λ x. false≢true (sym (ranked s .never-itself i) ∙ (rw x at a)))) (omega (arith, outranks-due s k i a))
+      later-of (setupOf (s .plan) j) (momentOf s j) i k (other-of (setupOf (s .plan) j) i k own (λ x. false≢true (sym (ranked s .never-itself i) ∙ (rw x at a)))) (omega (arith, outranks-due s k i a))
 
   -- one that has slices left and is not served waits for as many of them as the project holds cards
-  waiting : (j i : ℕ) → Own (setupOf (s .plan) j) i → 0 < unitOf s i .left → served s i ≡ false → held (s .plan) j (s .clock) ≤ countTo (s .plan .kinds) (λ k. served s k && noLater (setupOf (s .plan) j) (momentOf s) i k)
+  waiting : (j i : ℕ) → Own (setupOf (s .plan) j) i → 0 < unitOf s i .left → served s i ≡ false → held (s .plan) j (s .clock) ≤ countTo (s .plan .kinds) (λ k. served s k && noLater (setupOf (s .plan) j) (momentOf s j) k i)
   unfolding rank
   waiting j i o w e =
       let p = own-project (s .plan) i j o in
-      omega (arith, first-above (s .plan .kinds) (active s j) (outranks s) (ranked s) (held (s .plan) j (s .clock)) i (o .below) (active-of s j i p (working-of s i w)) (rw p at (unserved-rank s i (working-of s i w) e)), count-le-count (s .plan .kinds) (λ k. firstOf j k && outranks s k i) (λ k. served s k && noLater (setupOf (s .plan) j) (momentOf s) i k) one)
+      omega (arith, first-above (s .plan .kinds) (active s j) (outranks s) (ranked s) (held (s .plan) j (s .clock)) i (o .below) (active-of s j i p (working-of s i w)) (rw p at (unserved-rank s i (working-of s i w) e)), count-le-count (s .plan .kinds) (λ k. firstOf j k && outranks s k i) (λ k. served s k && noLater (setupOf (s .plan) j) (momentOf s j) k i) one)
     where
-      one : (k : ℕ) → k < s .plan .kinds → (firstOf j k && outranks s k i) ≡ true → (served s k && noLater (setupOf (s .plan) j) (momentOf s) i k) ≡ true
+      one : (k : ℕ) → k < s .plan .kinds → (firstOf j k && outranks s k i) ≡ true → (served s k && noLater (setupOf (s .plan) j) (momentOf s j) k i) ≡ true
       one k l t =
           let a = and-left (firstOf j k) (outranks s k i) t in
-          and-both (served s k) (noLater (setupOf (s .plan) j) (momentOf s) i k) (first-served j k a) (first-no-later j i k l a (and-right (firstOf j k) (outranks s k i) t))
+          and-both (served s k) (noLater (setupOf (s .plan) j) (momentOf s j) k i) (first-served j k a) (first-no-later j i k l a (and-right (firstOf j k) (outranks s k i) t))
 
-  pub view-serves : (j : ℕ) → Serves (setupOf (s .plan) j) (momentOf s) (served s)
-  view-serves j = record { some-left = λ i o e. working-left s i (served-working s i e); waits = waiting j }
+  pub view-serves : (j : ℕ) → Serves (setupOf (s .plan) j) (noLater (setupOf (s .plan) j)) (momentOf s j) (served s)
+  view-serves j = record { some-left = λ i o e. working-left s i (served-working s i e); waits = λ i o w e. omega (arith, waiting j i o w e, cards-now s j) }

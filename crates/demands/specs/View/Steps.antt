@@ -4,6 +4,7 @@ use mathlib.Core.Path.{_≡_, refl, ap}
 use mathlib.Core.Logic.{_≢_}
 use mathlib.Core.Bool.{Bool, true, false, cond}
 use Prim.Native.Nat.{ℕ, _+_, _-_, _<_}
+use native.Mathlib.Nat.{add-assoc}
 use native.Mathlib.Omega.{arith}
 use lib.ListN.{length}
 use Rattle.unit.specs.declared.Unit.{Unit}
@@ -14,8 +15,10 @@ use Rattle.rack.specs.Release.{released, Releasable}
 use Rattle.rack.specs.Release.Properties.{release-unit, release-others}
 use Rattle.rack.specs.Slice.{unitAfter, advanced, Sliceable}
 use Rattle.rack.specs.Slice.Properties.{unit-after}
+use Rattle.layout.specs.Layout.{held}
 use Rattle.analysis.specs.Step.{Slice, Release}
-use Rattle.demands.specs.View.{setupOf, waitOf, momentOf}
+use Rattle.analysis.specs.EarliestFirst.{noLater}
+use Rattle.demands.specs.View.{setupOf, cardsFrom, waitOf, momentOf}
 use Rattle.demands.specs.View.Ranks.{view-serves}
 
 -- ---- a slice
@@ -46,11 +49,16 @@ module _ (s : State) (room : ℕ) (may : Sliceable s room) (places : length (s .
         go true = omega (arith, may .ready .form .unit-at i (omega (arith, may .ready .order .counts .kinds-most)) l .release-clock)
         go false = refl
 
-  pub slice-step : (j : ℕ) → Slice (setupOf (s .plan) j) (served s) (momentOf s) (momentOf (advanced s))
+  -- the cards from the next slice on
+  pub sliced-cards : (j x : ℕ) → cardsFrom (advanced s) j x ≡ cardsFrom s j (1 + x)
+  unfolding cardsFrom advanced
+  sliced-cards j x = ap (held (s .plan) j) (add-assoc (s .clock) 1 x)
+
+  pub slice-step : (j : ℕ) → Slice (setupOf (s .plan) j) (noLater (setupOf (s .plan) j)) (served s) (momentOf s j) (momentOf (advanced s) j)
   unfolding advanced
   slice-step j = record {
     serves = view-serves s j;
-    clock = refl;
+    cards = sliced-cards j;
     left = λ i o. sliced-left i (o .below);
     until = λ i o p. sliced-until i (o .below);
     wait = λ i o. sliced-wait i (o .below);
@@ -83,17 +91,17 @@ module _ (s : State) (k e : ℕ) (may : Releasable s k e) (places : length (s .u
   unfolding waitOf gone released
   kept-wait i d = ap (λ (v : Unit). cond (v .released) (kindAt s i .separation - (s .clock - v .at)) 0) (release-others s k e may places i d)
 
-  pub release-step : (j : ℕ) → Release (setupOf (s .plan) j) k e (momentOf s) (momentOf (released s k e))
-  unfolding released
+  pub release-step : (j : ℕ) → Release (setupOf (s .plan) j) k e (momentOf s j) (momentOf (released s k e) j)
+  unfolding released cardsFrom
   release-step j = record {
-    clock = refl;
+    cards = λ x. refl;
     started = λ o. record {
       some = may .start .some;
       fits = may .start .length-most;
-      may = waited;
       left = ap (λ (v : Unit). v .left) (release-unit s k e may places);
-      until = new-until;
-      wait = new-wait;
+      until = omega (arith, new-until);
+      may = omega (arith, waited, new-until);
+      wait = omega (arith, new-until, new-wait);
     };
     others = λ i o d. record { left = ap (λ (v : Unit). v .left) (release-others s k e may places i d); until = kept-until i d; wait = kept-wait i d };
   }

@@ -15,7 +15,7 @@ use Rattle.plan.specs.Order.{kindOf}
 use Rattle.unit.specs.declared.Unit.{Unit}
 use Rattle.rack.specs.declared.State.{State}
 use Rattle.rack.specs.State.{unitOf, kindAt}
-use Rattle.rack.specs.Rank.{gone, due, until, served}
+use Rattle.rack.specs.Rank.{due, until, served}
 use Rattle.rack.specs.Rank.Properties.{working-left, served-working}
 use Rattle.rack.specs.Release.{released, releaseAnswer}
 use Rattle.rack.specs.Release.Properties.{release-says, release-unit, release-others}
@@ -25,6 +25,8 @@ use Rattle.demands.specs.Run.{Call, runFrom, Accepted, rowWritten, slice
 use Rattle.demands.specs.Run.Properties.{along, now-at, run-clock, run-plan}
 use Rattle.demands.specs.Named.{namesKind, bytesIn, bytesNaming}
 use Rattle.demands.specs.Named.Properties.{kind-named}
+use Rattle.demands.specs.View.{cardsFrom}
+use Rattle.demands.specs.View.Properties.{until-gone}
 use Rattle.demands.specs.View.Steps.{sliced-released, sliced-left, sliced-until, new-until, kept-until}
 use Rattle.demands.specs.Safe.{Safe}
 use Rattle.demands.specs.Safe.Properties.{safe-unit, safe-left, slice-safe, release-safe, run-safe}
@@ -79,15 +81,15 @@ module _ (i : ℕ) where
   step-slice s end bytes slices good h u =
       let may = slice-says s (length bytes) good in
       let next : Under i (advanced s) = record { safe = slice-safe s (u .safe) (length bytes) good; its-kind = u .its-kind; released = sliced-released s (length bytes) may (u .safe .places) i (u .its-kind) ∙ u .released } in
-      one-more i (unitOf s i .left) (until s i) (cond (served s i) 1 0) (record { before = s; row = rowWritten s bytes }) slices (safe-left s (u .safe) i (u .its-kind)) (kind-named (s .plan) (s .clock) (record { before = s; row = rowWritten s bytes }) (now-at s bytes good) i (u .its-kind)) (served-left s i)
+      one-more i (unitOf s i .left) (until s i) (cond (served s i) 1 0) (record { before = s; row = rowWritten s bytes }) slices (safe-left s (u .safe) i (u .its-kind)) (kind-named (s .plan) (λ j. cardsFrom s j 0) (record { before = s; row = rowWritten s bytes }) (now-at s bytes good) i (u .its-kind)) (served-left s i)
       (rw (← (sliced-left s (length bytes) may (u .safe .places) i (u .its-kind)), ← (sliced-until s (length bytes) may (u .safe .places) i (u .its-kind))) (h next))
 
   -- where the kind is released again, its unit's deadline has come
   again : (s : State) (e : ℕ) → releaseAnswer s i e ≡ Good → Under i s → until s i ≡ 0
-  unfolding until due gone
   again s e good u =
       let r = release-says s i e good in
-      omega (arith, r .start .separated (u .released), u .safe .ready .order .kind-at i (u .its-kind) .deadline-most, safe-unit s (u .safe) i (u .its-kind) .release-clock)
+      let g = until-gone s i (safe-unit s (u .safe) i (u .its-kind) .release-clock) in
+      omega (arith, g, r .start .separated (u .released), u .safe .ready .order .kind-at i (u .its-kind) .deadline-most)
 
   step-release : (s end : State) (k e : ℕ) (slices : List Accepted) → releaseAnswer s k e ≡ Good → Claim (released s k e) slices end → Claim s slices end
   unfolding released

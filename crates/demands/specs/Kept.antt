@@ -27,6 +27,7 @@ use Rattle.rack.specs.Slice.{sliceAnswer, advanced, sliceOf}
 use Rattle.demands.specs.Run.{Call, slice, release, nextAfter, runFrom, after, noSlice, slicesOf, rowWritten}
 use Rattle.demands.specs.Since.{never, sinceFrom, fewer}
 use Rattle.demands.specs.Run.Properties.{run-clock, run-plan, At, slices-at}
+use Rattle.demands.specs.View.{cardsFrom}
 use Rattle.demands.specs.Named.{namesKind, namesProject, bytesIn, bytesNaming, Orderly}
 use Rattle.demands.specs.Served.{named-falls}
 use Rattle.demands.specs.Named.Properties.{orderly}
@@ -89,10 +90,10 @@ module _ (p : Plan) (admitted : startOf p .answer ≡ Good) where
   -- ---- a row
 
   pub row-orderly : (calls : List Call) (x : ℕ) → x < length (slicesOf (startOf p .state) calls) → Orderly p (getD (slicesOf (startOf p .state) calls) x noSlice .row)
-  row-orderly calls x l = ap-plan (slices-at noSlice calls (startOf p .state) x l)
-    where
-      ap-plan : At (startOf p .state .plan) (startOf p .state .clock + x) (getD (slicesOf (startOf p .state) calls) x noSlice) → Orderly p (getD (slicesOf (startOf p .state) calls) x noSlice .row)
-      ap-plan a = orderly p (startOf p .state .clock + x) (getD (slicesOf (startOf p .state) calls) x noSlice) (rw start-plan at a)
+  row-orderly calls x l =
+      let holds : ℕ → ℕ = λ j. cardsFrom (startOf p .state) j x in
+      let a : At p holds (getD (slicesOf (startOf p .state) calls) x noSlice) = rw start-plan at (slices-at noSlice calls (startOf p .state) x l) in
+      orderly p holds (getD (slicesOf (startOf p .state) calls) x noSlice) a
 
   -- ---- a project
 

@@ -18,6 +18,7 @@ use Rattle.demands.specs.Run.Properties.{now-at}
 use Rattle.demands.specs.Named.{namesKind, bytesIn}
 use Rattle.demands.specs.Named.Properties.{kind-named}
 use Rattle.demands.specs.Safe.{Safe}
+use Rattle.demands.specs.View.{cardsFrom}
 use Rattle.demands.specs.View.Steps.{sliced-left}
 
 module _ (s : State) (safe : Safe s) (bytes : List ℕ) (good : sliceAnswer s (length bytes) ≡ Good) (i : ℕ) (l : i < s .plan .kinds) where
@@ -25,7 +26,7 @@ module _ (s : State) (safe : Safe s) (bytes : List ℕ) (good : sliceAnswer s (l
   falls = sliced-left s (length bytes) (slice-says s (length bytes) good) (safe .places) i l
 
   named : bytesIn (namesKind i) (rowWritten s bytes) ≡ cond (served s i) 1 0
-  named = kind-named (s .plan) (s .clock) (record { before = s; row = rowWritten s bytes }) (now-at s bytes good) i l
+  named = kind-named (s .plan) (λ j. cardsFrom s j 0) (record { before = s; row = rowWritten s bytes }) (now-at s bytes good) i l
 
   pub named-falls : unitOf (advanced s) i .left + bytesIn (namesKind i) (rowWritten s bytes) ≡ unitOf s i .left
   named-falls = go (served s i) refl

@@ -14,7 +14,7 @@ use Rattle.laws.specs.Count.Properties.{count-cong}
 use Rattle.laws.specs.Sum.{sumTo}
 use Rattle.laws.specs.Sum.Properties.{sum-none, sum-split, sum-cong}
 use Rattle.plan.specs.declared.Plan.{Plan}
-use Rattle.layout.specs.Layout.{held}
+use Rattle.plan.specs.Order.{projectOf}
 use Rattle.layout.specs.Layout.Properties.{held-ceiling}
 use Rattle.rack.specs.Rank.{activeKinds, served}
 use Rattle.rack.specs.Row.{rowByte}
@@ -25,7 +25,7 @@ use Rattle.demands.specs.Named.{namesKind, namesProject, bytesIn, bytesN
 
 -- ---- one row
 
-module _ (p : Plan) (clock : ℕ) (w : Accepted) (at : At p clock w) where
+module _ (p : Plan) (holds : ℕ → ℕ) (w : Accepted) (at : At p holds w) where
   -- the bytes of the row are those that the state shows
   bytes-shown : (test : ℕ → Bool) → bytesIn test (w .row) ≡ countTo (w .before .plan .cards) (λ card. test (rowByte (w .before) card))
   unfolding bytesIn
@@ -39,21 +39,27 @@ module _ (p : Plan) (clock : ℕ) (w : Accepted) (at : At p clock w) where
   kind-named i l = bytes-shown (namesKind i) ∙ kind-cards (w .before) (at .ready) i (omega (arith, ap (λ (q : Plan). q .kinds) (at .plan)))
 
   -- as many as the project holds cards, or all its kinds with slices left
-  pub project-named : (j : ℕ) → j < p .projects → bytesIn (namesProject p j) (w .row) ≡ min (held p j clock) (activeKinds (w .before) j)
+  pub project-named : (j : ℕ) → j < p .projects → bytesIn (namesProject p j) (w .row) ≡ min (holds j) (activeKinds (w .before) j)
   project-named j l =
       ap (λ (q : Plan). bytesIn (namesProject q j) (w .row)) (sym (at .plan))
       ∙ bytes-shown (namesProject (w .before .plan) j)
       ∙ project-cards (w .before) (at .ready) j (omega (arith, ap (λ (q : Plan). q .projects) (at .plan)))
-      ∙ ap₂ (λ (q : Plan) (c : ℕ). min (held q j c) (activeKinds (w .before) j)) (at .plan) (at .clock)
+      ∙ ap (λ (n : ℕ). min n (activeKinds (w .before) j)) (at .cards j)
 
 -- every row written
-pub orderly : (p : Plan) (clock : ℕ) (w : Accepted) → At p clock w → Orderly p (w .row)
+pub orderly : (p : Plan) (holds : ℕ → ℕ) (w : Accepted) → At p holds w → Orderly p (w .row)
 unfolding namesKind
-orderly p clock w at = record {
+orderly p holds w at = record {
   cards = at .size ∙ ap (λ (q : Plan). q .cards) (at .plan);
   one-unit = λ card i k a b. omega (arith, eqb-true (getD (w .row) card 0) (i + 1) a, eqb-true (getD (w .row) card 0) (k + 1) b);
-  one-card = kind-at-most p clock w at;
-  ceiling = λ j l. omega (arith, project-named p clock w at j l, held-ceiling p (rw (at .plan) at (at .ready .order)) j l clock);
+  one-card = kind-at-most p holds w at;
+  ceiling = λ j l. omega (
+    arith,
+    project-named p holds w at j l,
+    at .cards j,
+    held-ceiling (w .before .plan) (at .ready .order) j (omega (arith, ap (λ (q : Plan). q .projects) (at .plan))) (w .before .clock),
+    ap (λ (q : Plan). projectOf q j .ceiling) (at .plan),
+  );
 }
 
 -- ---- several rows

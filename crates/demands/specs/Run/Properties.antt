@@ -1,8 +1,9 @@
 -- Laws of a run: it is its accepted calls, one after the other, and the rows that it writes are those that its states show.
 -- Assumes nothing.
-use mathlib.Core.Path.{_≡_, refl, _∙_}
+use mathlib.Core.Path.{_≡_, refl, sym, ap, _∙_}
 use mathlib.Core.List.{List, [], _∷_}
 use Prim.Native.Nat.{ℕ, zero, suc, _+_, _≤_, _<_}
+use native.Mathlib.Numerals.{one-add}
 use native.Mathlib.Omega.{arith}
 use lib.ListN.{length, getD, take}
 use lib.Seq.{length-take-le, getD-take}
@@ -10,12 +11,15 @@ use Rattle.laws.specs.Written.Properties.{written-at, written-length}
 use Rattle.plan.specs.declared.Plan.{Plan}
 use Rattle.answer.specs.declared.Answer.{Answer}
 use Rattle.answer.specs.declared.Answer.the-variants.{Good, No}
+use Rattle.layout.specs.Layout.{held}
 use Rattle.rack.specs.declared.State.{State}
 use Rattle.rack.specs.Form.{Ready}
 use Rattle.rack.specs.Row.{rowByte, rowOver}
 use Rattle.rack.specs.Release.{released, releaseAnswer, releaseOf}
 use Rattle.rack.specs.Slice.{advanced, sliceAnswer, sliceOf, bufferAfter}
 use Rattle.rack.specs.Slice.Properties.{slice-says}
+use Rattle.demands.specs.View.{cardsFrom}
+use Rattle.demands.specs.View.Properties.{cards-now, cards-later, cards-kept}
 use Rattle.demands.specs.Run.{Call, slice, release, runFrom, Accepted, rowWritten, acceptedIn, slicesOf}
 
 -- ---- the calls that are accepted: refusals change nothing
@@ -66,22 +70,25 @@ module _ (s : State) (bytes : List ℕ) (good : sliceAnswer s (length bytes) ≡
   unfolding rowOver
   row-at card l = rw row-over (getD-take (s .plan .cards) (rowOver s bytes) card 0 l ∙ written-at (s .plan .cards) (rowByte s) bytes 0 card l row-room)
 
--- an accepted slice on a plan and at a clock
-pub record At (p : Plan) (c : ℕ) (w : Accepted) : Type 0 where
+-- an accepted slice on a plan, at which each project holds so many cards
+pub record At (p : Plan) (holds : ℕ → ℕ) (w : Accepted) : Type 0 where
   pub plan : w .before .plan ≡ p
-  pub clock : w .before .clock ≡ c
+  pub cards : (j : ℕ) → held (w .before .plan) j (w .before .clock) ≡ holds j
   pub ready : Ready (w .before)
   pub size : length (w .row) ≡ w .before .plan .cards
   pub shows : (card : ℕ) → card < w .before .plan .cards → getD (w .row) card 0 ≡ rowByte (w .before) card
 
-pub now-at : (s : State) (bytes : List ℕ) → sliceAnswer s (length bytes) ≡ Good → At (s .plan) (s .clock) (record { before = s; row = rowWritten s bytes })
-now-at s bytes g = record { plan = refl; clock = refl; ready = slice-says s (length bytes) g .ready; size = row-length s bytes g; shows = row-at s bytes g }
+pub now-at : (s : State) (bytes : List ℕ) → sliceAnswer s (length bytes) ≡ Good → At (s .plan) (λ j. cardsFrom s j 0) (record { before = s; row = rowWritten s bytes })
+now-at s bytes g = record { plan = refl; cards = λ j. sym (cards-now s j); ready = slice-says s (length bytes) g .ready; size = row-length s bytes g; shows = row-at s bytes g }
 
--- the accepted slices of a run are one clock after the other, on one plan
-pub slices-at : (none : Accepted) (calls : List Call) (s : State) (x : ℕ) → x < length (slicesOf s calls) → At (s .plan) (s .clock + x) (getD (slicesOf s calls) x none)
+-- the accepted slices of a run are one after the other, on one plan: at each a project holds the cards that it was to hold then
+pub slices-at : (none : Accepted) (calls : List Call) (s : State) (x : ℕ) → x < length (slicesOf s calls) → At (s .plan) (λ j. cardsFrom s j x) (getD (slicesOf s calls) x none)
 unfolding advanced released
-slices-at none = along (λ s slices end. (x : ℕ) → x < length slices → At (s .plan) (s .clock + x) (getD slices x none)) (λ s x l. absurd (omega arith)) first (λ s end i e slices g h. h)
+slices-at none = along (λ s slices end. (x : ℕ) → x < length slices → At (s .plan) (λ j. cardsFrom s j x) (getD slices x none)) (λ s x l. absurd (omega arith)) first same
   where
-    first : (s end : State) (bytes : List ℕ) (slices : List Accepted) → sliceAnswer s (length bytes) ≡ Good → ((x : ℕ) → x < length slices → At (s .plan) (s .clock + 1 + x) (getD slices x none)) → (x : ℕ) → x < suc (length slices) → At (s .plan) (s .clock + x) (getD (record { before = s; row = rowWritten s bytes } ∷ slices) x none)
-    first s end bytes slices g h zero l = let a = now-at s bytes g in record { plan = a .plan; clock = omega arith; ready = a .ready; size = a .size; shows = a .shows }
-    first s end bytes slices g h (suc x) l = let a = h x (omega arith) in record { plan = a .plan; clock = omega (arith, a .clock); ready = a .ready; size = a .size; shows = a .shows }
+    first : (s end : State) (bytes : List ℕ) (slices : List Accepted) → sliceAnswer s (length bytes) ≡ Good → ((x : ℕ) → x < length slices → At (s .plan) (λ j. cardsFrom (advanced s) j x) (getD slices x none)) → (x : ℕ) → x < suc (length slices) → At (s .plan) (λ j. cardsFrom s j x) (getD (record { before = s; row = rowWritten s bytes } ∷ slices) x none)
+    first s end bytes slices g h zero l = now-at s bytes g
+    first s end bytes slices g h (suc x) l = let a = h x (omega arith) in record { plan = a .plan; cards = λ j. a .cards j ∙ cards-later s j x ∙ ap (cardsFrom s j) (one-add x); ready = a .ready; size = a .size; shows = a .shows }
+
+    same : (s end : State) (i e : ℕ) (slices : List Accepted) → releaseAnswer s i e ≡ Good → ((x : ℕ) → x < length slices → At (s .plan) (λ j. cardsFrom (released s i e) j x) (getD slices x none)) → (x : ℕ) → x < length slices → At (s .plan) (λ j. cardsFrom s j x) (getD slices x none)
+    same s end i e slices g h x l = let a = h x l in record { plan = a .plan; cards = λ j. a .cards j ∙ cards-kept s j i e x; ready = a .ready; size = a .size; shows = a .shows }

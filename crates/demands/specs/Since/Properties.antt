@@ -1,9 +1,10 @@
--- Laws of the slices since a release: a safe state's release clock says how many they are.
+-- Laws of the slices since a release: a safe state counts them too.
 -- Assumes nothing.
-use mathlib.Core.Path.{_≡_, refl, sym, _∙_}
+use mathlib.Core.Path.{_≡_, refl, sym, ap, _∙_}
+use mathlib.Core.Logic.{_≢_}
 use mathlib.Core.Bool.{true, false, cond}
 use mathlib.Core.List.{List, [], _∷_}
-use Prim.Native.Nat.{ℕ, _+_, _-_, _<_}
+use Prim.Native.Nat.{ℕ, _+_, _<_}
 use native.Mathlib.Decide.{ℕ-discrete}
 use native.Mathlib.Omega.{arith}
 use lib.Dec.{eqb}
@@ -17,30 +18,37 @@ use Rattle.rack.specs.declared.State.{State}
 use Rattle.rack.specs.State.{unitOf, kindAt}
 use Rattle.rack.specs.Rank.{gone}
 use Rattle.unit.specs.Start.{early}
-use Rattle.rack.specs.Release.{releaseAnswer, released, releaseOf}
+use Rattle.rack.specs.Release.{releaseAnswer, released, releaseOf, Releasable}
 use Rattle.rack.specs.Release.Properties.{release-says, release-unit, release-others}
 use Rattle.rack.specs.Slice.{sliceAnswer, advanced, sliceOf}
 use Rattle.rack.specs.Slice.Properties.{slice-says}
 use Rattle.demands.specs.Run.{Call, slice, release, nextAfter, runFrom}
-use Rattle.demands.specs.View.Steps.{sliced-at, sliced-released}
+use Rattle.demands.specs.View.Steps.{sliced-released, sliced-gone, new-gone, kept-gone}
 use Rattle.demands.specs.Safe.{Safe}
 use Rattle.demands.specs.Safe.Properties.{slice-safe, release-safe}
 use Rattle.demands.specs.Since.{Since, never, ago, later, sinceCall, sinceFrom, fewer}
 
--- the unit's release clock says the same
-abbrev pub Tells : Unit → ℕ → Since → Type 0
-Tells v clock never = v .released ≡ false
-Tells v clock (ago slices) = (v .released ≡ true) × (v .at + slices ≡ clock)
+-- the state counts the same of kind i
+abbrev pub Tells : State → ℕ → Since → Type 0
+Tells s i never = unitOf s i .released ≡ false
+Tells s i (ago slices) = (unitOf s i .released ≡ true) × (gone s i ≡ slices)
 
 -- what the run counts is what the state's release clock says
-pub tells-early : (s : State) (i : ℕ) (since : Since) → Tells (unitOf s i) (s .clock) since → early (kindAt s i .separation) (unitOf s i) (gone s i) ≡ fewer (kindAt s i .separation) since
-unfolding early gone
+pub tells-early : (s : State) (i : ℕ) (since : Since) → Tells s i since →
+    early (kindAt s i .separation) (unitOf s i) (gone s i) ≡ fewer (kindAt s i .separation) since
+unfolding early
 tells-early s i never t = rw t
-tells-early s i (ago slices) t = let g : s .clock - unitOf s i .at ≡ slices = omega (arith, t .1) in rw (t .0, g)
+tells-early s i (ago slices) t = rw (t .0, t .1)
 
-tells-later : (v w : Unit) (clock : ℕ) (since : Since) → w .released ≡ v .released → w .at ≡ v .at → Tells v clock since → Tells w (clock + 1) (later since)
-tells-later v w clock never p q t = p ∙ t
-tells-later v w clock (ago slices) p q t = (p ∙ t .0, omega (arith, t .1))
+tells-later : (s next : State) (i : ℕ) (since : Since) → unitOf next i .released ≡ unitOf s i .released → gone next i ≡ gone s i + 1 →
+    Tells s i since → Tells next i (later since)
+tells-later s next i never p q t = p ∙ t
+tells-later s next i (ago slices) p q t = (p ∙ t .0, omega (arith, t .1))
+
+tells-kept : (s next : State) (i : ℕ) (since : Since) → unitOf next i .released ≡ unitOf s i .released → gone next i ≡ gone s i →
+    Tells s i since → Tells next i since
+tells-kept s next i never p q t = p ∙ t
+tells-kept s next i (ago slices) p q t = (p ∙ t .0, q ∙ t .1)
 
 -- what a good answer moves, and a refusal keeps
 chosen : (P : State → Since → Type 0) (a : Answer) (new old : State) (more since : Since) → (a ≡ Good → P new more) → P old since → P (ifGood a new old) (ifGood a more since)
@@ -51,7 +59,7 @@ chosen P (No r) new old more since g h = h
 pub record Told (i : ℕ) (s : State) (since : Since) : Type 0 where
   pub safe : Safe s
   pub its-kind : i < s .plan .kinds
-  pub tells : Tells (unitOf s i) (s .clock) since
+  pub tells : Tells s i since
 
 module _ (i : ℕ) where
   told-slice : (s : State) (since : Since) (room : ℕ) → Told i s since → sliceAnswer s room ≡ Good → Told i (advanced s) (later since)
@@ -61,18 +69,26 @@ module _ (i : ℕ) where
       record {
         safe = slice-safe s (t .safe) room good;
         its-kind = t .its-kind;
-        tells = tells-later (unitOf s i) (unitOf (advanced s) i) (s .clock) since (sliced-released s room may (t .safe .places) i (t .its-kind)) (sliced-at s room may (t .safe .places) i (t .its-kind)) (t .tells);
+        tells =
+            tells-later s (advanced s) i since (sliced-released s room may (t .safe .places) i (t .its-kind))
+            (sliced-gone s room may (t .safe .places) i (t .its-kind)) (t .tells);
       }
 
   told-release : (s : State) (since : Since) (k e : ℕ) → Told i s since → releaseAnswer s k e ≡ Good → Told i (released s k e) (cond (eqb k i) (ago 0) since)
   unfolding released
   told-release s since k e t good = record { safe = release-safe s (t .safe) k e good; its-kind = t .its-kind; tells = elim (ℕ-discrete k i) [ yes q ↦ rw (eq-eqb k i q) (same q) | no q ↦ rw (ne-eqb k i q) (other q) ] }
     where
-      same : k ≡ i → Tells (unitOf (released s k e) i) (s .clock) (ago 0)
-      same q = rw (← q) (rw (release-unit s k e (release-says s k e good) (t .safe .places)) (refl, omega arith))
+      may : Releasable s k e
+      may = release-says s k e good
 
-      other : (k ≡ i → ⊥) → Tells (unitOf (released s k e) i) (s .clock) since
-      other q = rw (release-others s k e (release-says s k e good) (t .safe .places) i (λ z. q (sym z))) (t .tells)
+      same : k ≡ i → Tells (released s k e) i (ago 0)
+      same q = rw (← q) (ap (λ (v : Unit). v .released) (release-unit s k e may (t .safe .places)), new-gone s k e may (t .safe .places))
+
+      other : (k ≡ i → ⊥) → Tells (released s k e) i since
+      other q =
+          let d : i ≢ k = λ z. q (sym z) in
+          tells-kept s (released s k e) i since (ap (λ (v : Unit). v .released) (release-others s k e may (t .safe .places) i d))
+          (kept-gone s k e may (t .safe .places) i d) (t .tells)
 
   told-call : (s : State) (since : Since) (call : Call) → Told i s since → Told i (nextAfter s call .state) (sinceCall i s since call)
   unfolding sliceOf releaseOf sinceCall

@@ -1,7 +1,7 @@
 -- Laws of a project's view: an admitted plan admits each of its projects, and a state's cards give each its supply, and its budget in a frame.
 -- Assumes nothing.
-use mathlib.Core.Path.{_≡_, sym, ap, _∙_}
-use Prim.Native.Nat.{ℕ, _+_, _*_, _≤_, _<_}
+use mathlib.Core.Path.{_≡_, refl, sym, ap, _∙_}
+use Prim.Native.Nat.{ℕ, _+_, _-_, _*_, _≤_, _<_}
 use native.Mathlib.Nat.{add-assoc, add-zero}
 use native.Mathlib.Omega.{arith}
 use lib.ListN.{getD}
@@ -21,6 +21,10 @@ use Rattle.verdict.specs.Workload.{besides, partOf}
 use Rattle.verdict.specs.Verdict.{judged}
 use Rattle.verdict.specs.Admission.Properties.{judged-in-order, given-fits}
 use Rattle.rack.specs.declared.State.{State}
+use Rattle.rack.specs.State.{unitOf, kindAt}
+use Rattle.rack.specs.Rank.{gone, due, until}
+use Rattle.rack.specs.Release.{released}
+use Rattle.rack.specs.Slice.{advanced}
 use Rattle.analysis.specs.Setup.{Own, Timed, other}
 use Rattle.analysis.specs.Moment.{Supplied}
 use Rattle.analysis.specs.Moment.Properties.{window-same}
@@ -55,6 +59,13 @@ module _ (p : Plan) (good : judged p .answer ≡ Good) where
           let e = own-project p i j o in
           omega (arith, given-fits p good i (o .below) .room, workload-view p i j e, ap (λ (x : ℕ). supply (p .frame) (held p x) k (kindOf p i .deadline)) e)
 
+-- ---- the slices until a deadline
+
+-- as many as D has more than are gone since the release
+pub until-gone : (s : State) (i : ℕ) → unitOf s i .at ≤ s .clock → until s i ≡ kindAt s i .deadline - gone s i
+unfolding until due gone
+until-gone s i l = omega arith
+
 -- ---- the cards from now on
 
 module _ (s : State) (j : ℕ) where
@@ -63,6 +74,17 @@ module _ (s : State) (j : ℕ) where
   unfolding cardsFrom
   cards-now = ap (held (s .plan) j) (add-zero (s .clock))
 
+  -- a slice later
+  pub cards-later : (x : ℕ) → cardsFrom (advanced s) j x ≡ cardsFrom s j (1 + x)
+  unfolding cardsFrom advanced
+  cards-later x = ap (held (s .plan) j) (add-assoc (s .clock) 1 x)
+
+  -- a release takes no time
+  pub cards-kept : (k e x : ℕ) → cardsFrom (released s k e) j x ≡ cardsFrom s j x
+  unfolding cardsFrom released
+  cards-kept k e x = refl
+
+  -- they give the supply from every slice on
   pub cards-supplied : 0 < s .plan .frame → Supplied (setupOf (s .plan) j) (momentOf s j)
   unfolding cardsFrom
   cards-supplied some start k t =

@@ -4,7 +4,6 @@ use mathlib.Core.Path.{_≡_, refl, ap}
 use mathlib.Core.Logic.{_≢_}
 use mathlib.Core.Bool.{Bool, true, false, cond}
 use Prim.Native.Nat.{ℕ, _+_, _-_, _<_}
-use native.Mathlib.Nat.{add-assoc}
 use native.Mathlib.Omega.{arith}
 use lib.ListN.{length}
 use Rattle.unit.specs.declared.Unit.{Unit}
@@ -15,10 +14,10 @@ use Rattle.rack.specs.Release.{released, Releasable}
 use Rattle.rack.specs.Release.Properties.{release-unit, release-others}
 use Rattle.rack.specs.Slice.{unitAfter, advanced, Sliceable}
 use Rattle.rack.specs.Slice.Properties.{unit-after}
-use Rattle.layout.specs.Layout.{held}
 use Rattle.analysis.specs.Step.{Slice, Release}
 use Rattle.analysis.specs.EarliestFirst.{noLater}
-use Rattle.demands.specs.View.{setupOf, cardsFrom, waitOf, momentOf}
+use Rattle.demands.specs.View.{setupOf, waitOf, momentOf}
+use Rattle.demands.specs.View.Properties.{cards-later, cards-kept}
 use Rattle.demands.specs.View.Ranks.{view-serves}
 
 -- ---- a slice
@@ -29,7 +28,7 @@ module _ (s : State) (room : ℕ) (may : Sliceable s room) (places : length (s .
     unfolding unitAfter
     sliced-released = ap (λ (v : Unit). v .released) (unit-after s room may places i l)
 
-    pub sliced-at : unitOf (advanced s) i .at ≡ unitOf s i .at
+    sliced-at : unitOf (advanced s) i .at ≡ unitOf s i .at
     unfolding unitAfter
     sliced-at = ap (λ (v : Unit). v .at) (unit-after s room may places i l)
 
@@ -37,28 +36,27 @@ module _ (s : State) (room : ℕ) (may : Sliceable s room) (places : length (s .
     unfolding unitAfter
     sliced-left = ap (λ (v : Unit). v .left) (unit-after s room may places i l)
 
+    pub sliced-gone : gone (advanced s) i ≡ gone s i + 1
+    unfolding gone advanced
+    sliced-gone = omega (arith, sliced-at, may .ready .form .unit-at i (omega (arith, may .ready .order .counts .kinds-most)) l .release-clock)
+
     pub sliced-until : until (advanced s) i ≡ until s i - 1
     unfolding until due advanced
     sliced-until = omega (arith, sliced-at)
 
     sliced-wait : waitOf (advanced s) i ≡ waitOf s i - 1
-    unfolding waitOf gone advanced
-    sliced-wait = rw (sliced-released, sliced-at) (go (unitOf s i .released))
+    unfolding waitOf advanced
+    sliced-wait = rw (sliced-released, sliced-gone) (go (unitOf s i .released))
       where
-        go : (b : Bool) → cond b (kindAt s i .separation - (s .clock + 1 - unitOf s i .at)) 0 ≡ cond b (kindAt s i .separation - (s .clock - unitOf s i .at)) 0 - 1
-        go true = omega (arith, may .ready .form .unit-at i (omega (arith, may .ready .order .counts .kinds-most)) l .release-clock)
+        go : (b : Bool) → cond b (kindAt s i .separation - (gone s i + 1)) 0 ≡ cond b (kindAt s i .separation - gone s i) 0 - 1
+        go true = omega arith
         go false = refl
-
-  -- the cards from the next slice on
-  pub sliced-cards : (j x : ℕ) → cardsFrom (advanced s) j x ≡ cardsFrom s j (1 + x)
-  unfolding cardsFrom advanced
-  sliced-cards j x = ap (held (s .plan) j) (add-assoc (s .clock) 1 x)
 
   pub slice-step : (j : ℕ) → Slice (setupOf (s .plan) j) (noLater (setupOf (s .plan) j)) (served s) (momentOf s j) (momentOf (advanced s) j)
   unfolding advanced
   slice-step j = record {
     serves = view-serves s j;
-    cards = sliced-cards j;
+    cards = cards-later s j;
     left = λ i o. sliced-left i (o .below);
     until = λ i o p. sliced-until i (o .below);
     wait = λ i o. sliced-wait i (o .below);
@@ -75,26 +73,34 @@ module _ (s : State) (k e : ℕ) (may : Releasable s k e) (places : length (s .u
       go true r = omega (arith, may .start .separated r)
       go false r = refl
 
+  pub new-gone : gone (released s k e) k ≡ 0
+  unfolding gone released
+  new-gone = omega (arith, ap (λ (v : Unit). v .at) (release-unit s k e may places))
+
   pub new-until : until (released s k e) k ≡ kindAt s k .deadline
   unfolding until due released
   new-until = omega (arith, ap (λ (v : Unit). v .at) (release-unit s k e may places))
 
   new-wait : waitOf (released s k e) k ≡ kindAt s k .separation
-  unfolding waitOf gone released
-  new-wait = rw (release-unit s k e may places) (omega arith)
+  unfolding waitOf released
+  new-wait = rw (new-gone, release-unit s k e may places) (omega arith)
+
+  pub kept-gone : (i : ℕ) → i ≢ k → gone (released s k e) i ≡ gone s i
+  unfolding gone released
+  kept-gone i d = ap (λ (v : Unit). s .clock - v .at) (release-others s k e may places i d)
 
   pub kept-until : (i : ℕ) → i ≢ k → until (released s k e) i ≡ until s i
   unfolding until due released
   kept-until i d = ap (λ (v : Unit). v .at + kindAt s i .deadline - s .clock) (release-others s k e may places i d)
 
   kept-wait : (i : ℕ) → i ≢ k → waitOf (released s k e) i ≡ waitOf s i
-  unfolding waitOf gone released
-  kept-wait i d = ap (λ (v : Unit). cond (v .released) (kindAt s i .separation - (s .clock - v .at)) 0) (release-others s k e may places i d)
+  unfolding waitOf released
+  kept-wait i d = rw (kept-gone i d) (ap (λ (v : Unit). cond (v .released) (kindAt s i .separation - gone s i) 0) (release-others s k e may places i d))
 
   pub release-step : (j : ℕ) → Release (setupOf (s .plan) j) k e (momentOf s j) (momentOf (released s k e) j)
-  unfolding released cardsFrom
+  unfolding released
   release-step j = record {
-    cards = λ x. refl;
+    cards = cards-kept s j k e;
     started = λ o. record {
       some = may .start .some;
       fits = may .start .length-most;

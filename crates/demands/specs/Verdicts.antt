@@ -10,7 +10,7 @@ use Rattle.answer.specs.declared.Answer.the-variants.{Good, No}
 use Rattle.answer.specs.declared.Refusal.the-variants.{ByKind}
 use Rattle.plan.specs.declared.Plan.{Plan}
 use Rattle.plan.specs.Order.{InOrder, checked}
-use Rattle.plan_bytes.specs.Bytes.{AreBytes}
+use Rattle.codec.specs.Bytes.{AreBytes}
 use Rattle.plan_bytes.specs.Parts.{Shaped, encoded, size}
 use Rattle.plan_bytes.specs.Reading.{readOf}
 use Rattle.plan_bytes.specs.RoundTrip.{read-written, written-read, one-encoding}

@@ -12,8 +12,8 @@ use Rattle.plan.specs.declared.Kind.{Kind}
 use Rattle.plan.specs.declared.Plan.{Plan}
 use Rattle.plan.specs.Record.{noProject, noKind}
 use Rattle.plan.specs.Order.{projectOf, kindOf}
-use Rattle.plan_bytes.specs.Bytes.{numberTo, bytesOf}
-use Rattle.plan_bytes.specs.Parts.{partsTo}
+use Rattle.codec.specs.Bytes.{numberTo, bytesOf}
+use Rattle.codec.specs.Places.{partsTo}
 use Rattle.unit.specs.declared.Unit.{Unit}
 use Rattle.rack.specs.declared.State.{State}
 use Rattle.unit.specs.Unit.{noUnit}

@@ -18,11 +18,11 @@ use Rattle.plan.specs.declared.Kind.{Kind}
 use Rattle.plan.specs.declared.Plan.{Plan}
 use Rattle.plan.specs.Record.{noProject, noKind}
 use Rattle.plan.specs.Order.{projectOf, kindOf}
-use Rattle.plan_bytes.specs.Bytes.{numberTo, bytesOf}
-use Rattle.plan_bytes.specs.Bytes.Properties.{bytes-length, number-append, number-bytes}
-use Rattle.plan_bytes.specs.Parts.{partsTo, Shaped}
-use Rattle.plan_bytes.specs.Put.Properties.{parts-length}
-use Rattle.plan_bytes.specs.RoundTrip.Reads.{parts-drop}
+use Rattle.codec.specs.Bytes.{numberTo, bytesOf}
+use Rattle.codec.specs.Bytes.Properties.{bytes-length, number-append, number-bytes}
+use Rattle.codec.specs.Places.{partsTo}
+use Rattle.plan_bytes.specs.Parts.{Shaped}
+use Rattle.codec.specs.Places.Properties.{parts-length, parts-drop}
 use Rattle.unit.specs.declared.Unit.{Unit}
 use Rattle.rack.specs.declared.State.{State}
 use Rattle.unit.specs.Unit.{noUnit}

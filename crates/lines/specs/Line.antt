@@ -8,7 +8,7 @@ use lib.ListN.{length, getD}
 use Rattle.answer.specs.declared.Answer.{Answer}
 use Rattle.answer.specs.declared.Answer.the-variants.{Good, No}
 use Rattle.answer.specs.Answer.{number, place}
-use Rattle.plan_bytes.specs.Parts.{partsTo}
+use Rattle.codec.specs.Places.{partsTo}
 use Rattle.lines.specs.declared.line.Line.{Line}
 use Rattle.lines.specs.declared.line.Line.the-variants.{Plan, Release, Slice, Bad, End}
 use Rattle.lines.specs.Ascii.{ascii}

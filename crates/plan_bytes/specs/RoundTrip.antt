@@ -8,7 +8,7 @@ use Rattle.plan.specs.declared.Plan.{Plan}
 use Rattle.answer.specs.declared.Answer.the-variants.{Good}
 use Rattle.plan.specs.Order.{checked}
 use Rattle.plan_bytes.specs.declared.Reading.{Reading}
-use Rattle.plan_bytes.specs.Bytes.{AreBytes}
+use Rattle.codec.specs.Bytes.{AreBytes}
 use Rattle.plan_bytes.specs.Parts.{Shaped, encoded, size}
 use Rattle.plan_bytes.specs.Reading.{readOf}
 use Rattle.plan_bytes.specs.RoundTrip.Reads.{read-encoded}

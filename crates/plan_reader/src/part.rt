@@ -2,7 +2,7 @@
 ghost use mathlib.Core.Path.{_≡_};
 ghost use Prim.Native.Nat.{_+_, _^_, _≤_, _<_};
 ghost use lib.ListN.{length};
-ghost use Rattle.plan_bytes.specs.Bytes.{numberTo};
+ghost use Rattle.codec.specs.Bytes.{numberTo};
 ghost use Rattle.plan_bytes.specs.Parts.{headed, projectFrom, kindFrom};
 ghost use Rattle.plan_bytes.specs.Reading.{headerSpare, projectSpare, kindSpare};
 use plan::Kind;

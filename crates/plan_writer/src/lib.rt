@@ -7,7 +7,7 @@ ghost use Prim.Native.Nat.{_+_, _*_, _≤_};
 ghost use mathlib.Core.List.{_++_};
 ghost use lib.ListN.{length, drop};
 ghost use Rattle.plan_bytes.specs.Parts.{size, encoded, projectBytesAt, kindBytesAt};
-ghost use Rattle.plan_bytes.specs.Put.{putTo};
+ghost use Rattle.codec.specs.Places.{putTo};
 ghost use Rattle.plan_bytes.specs.Writing.{Writes};
 use answer::Answer;
 use answer::Refusal;

@@ -12,9 +12,10 @@ use Rattle.laws.specs.Written.{written}
 use Rattle.laws.specs.Ranking.{rankIn, firstIn, sooner}
 use Rattle.answer.specs.Answer.{eachTo}
 use Rattle.plan.specs.Order.{within, sized, emptyProject, emptyKind, tidyProjects, tidyKinds, inRange, timed, budgets, sizes, unused, projectsInRange, kindInRange, kindsInRange, budgetsFit, ranges, checked}
-use Rattle.plan_bytes.specs.Pack.{bits, unpack}
-use Rattle.plan_bytes.specs.Bytes.{numberTo}
-use Rattle.plan_bytes.specs.Parts.{size, partsTo, headerFields, projectFields, kindFields, projectFrom, kindFrom, projectsFrom, kindsFrom, headed, decoded}
+use Rattle.codec.specs.Pack.{bits, unpack}
+use Rattle.codec.specs.Bytes.{numberTo}
+use Rattle.codec.specs.Places.{partsTo}
+use Rattle.plan_bytes.specs.Parts.{size, headerFields, projectFields, kindFields, projectFrom, kindFrom, projectsFrom, kindsFrom, headed, decoded}
 use Rattle.plan_bytes.specs.Reading.{headerSpare, projectSpare, kindSpare, projectsSpare, kindsSpare, placesSpare, spareZero, bodyAnswer, readAnswer, readOf}
 use Rattle.layout.specs.Layout.{cellAt, firstCell, owns, held}
 use Rattle.supply.specs.Supply.{window, supply}

@@ -7,8 +7,8 @@ use native.Mathlib.Nat.{div-one}
 use native.Mathlib.Omega.{arith}
 use lib.ListN.{length, getD}
 use borrow.Author.Tests.{lt-ltb, le-ltb}
-use Rattle.plan_bytes.specs.Pack.{bits, unpack}
-use Rattle.plan_bytes.specs.Bytes.{numberTo}
+use Rattle.codec.specs.Pack.{bits, unpack}
+use Rattle.codec.specs.Bytes.{numberTo}
 use Rattle.commands.specs.declared.command.Command.{Command}
 use Rattle.commands.specs.declared.command.Command.the-variants.{Bad}
 use Rattle.commands.specs.Command.{commandFields, fieldsSay, commandOf}

@@ -5,8 +5,8 @@ use native.Mathlib.Omega.{arith}
 use mathlib.Core.Path.{_≡_, refl}
 use Prim.Native.Nat.{_≤_, _-_}
 use lib.ListN.{length}
-use Rattle.plan_bytes.specs.Put.{putTo}
-use Rattle.plan_bytes.specs.Put.Properties.{put-none, put-again, put-stop}
+use Rattle.codec.specs.Places.{putTo}
+use Rattle.codec.specs.Places.Properties.{put-none, put-again, put-stop}
 use Rattle.images.specs.Image.{unitBytesAt}
 use Rattle.image_writer.proofs.put_units.Statement.{statement}
 use Rattle.image_writer.proofs.put_units.Tie as tie

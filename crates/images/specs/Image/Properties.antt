@@ -16,11 +16,10 @@ use Rattle.plan.specs.declared.Kind.{Kind}
 use Rattle.plan.specs.declared.Plan.{Plan}
 use Rattle.plan.specs.Record.{noProject, noKind}
 use Rattle.plan.specs.Order.{projectOf, kindOf}
-use Rattle.plan_bytes.specs.Bytes.{numberTo, bytesOf}
-use Rattle.plan_bytes.specs.Bytes.Properties.{bytes-length}
-use Rattle.plan_bytes.specs.Parts.{partsTo}
-use Rattle.plan_bytes.specs.Put.{putTo}
-use Rattle.plan_bytes.specs.Put.Properties.{parts-length, front-sets, front-put}
+use Rattle.codec.specs.Bytes.{numberTo, bytesOf}
+use Rattle.codec.specs.Bytes.Properties.{bytes-length}
+use Rattle.codec.specs.Places.{partsTo, putTo}
+use Rattle.codec.specs.Places.Properties.{parts-length, front-sets, front-put}
 use Rattle.unit.specs.declared.Unit.{Unit}
 use Rattle.rack.specs.declared.State.{State}
 use Rattle.unit.specs.Unit.{noUnit}

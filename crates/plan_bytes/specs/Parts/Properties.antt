@@ -1,34 +1,31 @@
 -- Laws of the layout: each part's fields as the code takes them off a number n, and each part's bytes as the code stores them.
 -- Assumes nothing.
-use mathlib.Core.Path.{_≡_, ap, _∙_}
-use mathlib.Core.List.{List, [], _∷_}
+use mathlib.Core.Path.{_≡_, refl, ap, _∙_}
+use mathlib.Core.List.{List, [], _∷_, _++_}
 use Prim.Native.Nat.{ℕ, _+_, _*_, _-_, _/_, _%_, _≤_}
 use native.Mathlib.Nat.{div-one}
 use native.Mathlib.Numerals.{add-one, add-two, add-three, add-four}
 use native.Mathlib.Omega.{arith}
-use lib.ListN.{length, take, drop, set, length-drop, replicate}
-use lib.Seq.{sets, take-all}
+use lib.ListN.{length, take, drop, set, length-append, length-drop, replicate}
+use lib.Seq.{sets}
 use Rattle.laws.specs.Written.Properties.{written-none, written-again, written-stop}
 use Rattle.plan.specs.Record.{noProject, noKind}
 use Rattle.plan.specs.declared.Project.{Project}
 use Rattle.plan.specs.declared.Kind.{Kind}
 use Rattle.plan.specs.declared.Plan.{Plan}
-use Rattle.plan.specs.Order.{Sized}
-use Rattle.plan_bytes.specs.Pack.{bits, pack, unpack}
-use Rattle.plan_bytes.specs.Bytes.{numberTo, bytesOf}
-use Rattle.plan_bytes.specs.Parts.{headerBytes, projectBytes, kindBytes, headerFields, projectFields, kindFields, projectFrom, kindFrom, projectAt, kindAt, projectsFrom, kindsFrom, headed, decoded, size}
+use Rattle.plan.specs.Order.{projectOf, kindOf, Sized}
+use Rattle.codec.specs.Pack.{bits, pack, unpack}
+use Rattle.codec.specs.Bytes.{numberTo, bytesOf}
+use Rattle.codec.specs.Bytes.Properties.{bytes-length}
+use Rattle.codec.specs.Places.{partsTo, putTo}
+use Rattle.codec.specs.Places.Properties.{handed-on, parts-length, front-sets, front-put}
+use Rattle.plan_bytes.specs.Parts.{headerBytes, projectBytes, kindBytes, projectBytesAt, kindBytesAt, encoded, headerFields, projectFields, kindFields, projectFrom, kindFrom, projectAt, kindAt, projectsFrom, kindsFrom, headed, decoded, size}
 
 -- ---- "at most 99"
 
 pub size-most : (p : Plan) → Sized p → size p ≤ 99
 unfolding size
 size-most p counts = omega (arith, counts .projects-most, counts .kinds-most)
-
--- ---- a part that is handed on
-
--- what `&s[a..]` hands on is what starts at a
-pub handed-on : (s : List ℕ) (a : ℕ) → take (length s - a) (drop a s) ≡ drop a s
-handed-on s a = take-all (length s - a) (drop a s) (omega (arith, length-drop a s))
 
 -- ---- fields off a number
 
@@ -137,3 +134,31 @@ plan-placed s p projects kinds e f g =
     let b : kinds ≡ kindsFrom (headed s .kinds) (drop (3 + 2 * headed s .projects) s) =
     g ∙ ap (kindsFrom (p .kinds)) (handed-on s (3 + 2 * p .projects)) ∙ ap (λ (q : Plan). kindsFrom (q .kinds) (drop (3 + 2 * q .projects) s)) e in
     λ i. record { cards = e i .cards; projects = e i .projects; kinds = e i .kinds; frame = e i .frame; project = a i; kind = b i }
+
+-- ---- a plan's parts
+
+pub header-length : (p : Plan) → length (headerBytes p) ≡ 3
+unfolding headerBytes
+header-length p = bytes-length 3 _
+
+pub project-length : (v : Project) → length (projectBytes v) ≡ 2
+unfolding projectBytes
+project-length v = bytes-length 2 _
+
+pub kind-length : (v : Kind) → length (kindBytes v) ≡ 5
+unfolding kindBytes
+kind-length v = bytes-length 5 _
+
+-- the header, the projects and the unit kinds, stored in that order, are the plan's bytes before what was there
+pub put-plan : (p : Plan) (out a b after : List ℕ) → size p ≤ length out → a ≡ sets out 0 (headerBytes p) → b ≡ putTo (p .projects) (projectBytesAt p) 3 2 a → after ≡ putTo (p .kinds) (kindBytesAt p) (3 + 2 * p .projects) 5 b
+    → after ≡ encoded p ++ drop (size p) out
+unfolding encoded size
+put-plan p out a b after l e f g =
+    let h = header-length p in
+    let n : 0 + length (headerBytes p) ≡ 3 = omega arith in
+    let x : a ≡ headerBytes p ++ drop 3 out = e ∙ front-sets [] (headerBytes p) out out 0 refl refl (omega arith) ∙ ap (λ (k : ℕ). headerBytes p ++ drop k out) n in
+    let y : b ≡ headerBytes p ++ partsTo (p .projects) (projectBytesAt p) ++ drop (3 + 2 * p .projects) out =
+    f ∙ front-put (p .projects) (projectBytesAt p) 2 (headerBytes p) out a 3 (λ j. project-length (projectOf p j)) h x (omega arith) in
+    let k : length (headerBytes p ++ partsTo (p .projects) (projectBytesAt p)) ≡ 3 + 2 * p .projects =
+    length-append (headerBytes p) (partsTo (p .projects) (projectBytesAt p)) ∙ omega (arith, parts-length (p .projects) (projectBytesAt p) 2 (λ j. project-length (projectOf p j))) in
+    g ∙ front-put (p .kinds) (kindBytesAt p) 5 (headerBytes p ++ partsTo (p .projects) (projectBytesAt p)) out b (3 + 2 * p .projects) (λ i. kind-length (kindOf p i)) k y (omega arith)

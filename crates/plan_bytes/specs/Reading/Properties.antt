@@ -23,7 +23,7 @@ use Rattle.plan.specs.Order.{projectOf, kindOf, emptyProject, emptyKind, tidyPr
 use Rattle.plan.specs.Order.Properties.{used-place, kept-empty, no-project-empty, no-kind-empty}
 use Rattle.plan_bytes.specs.declared.Reading.{Reading}
 use Rattle.plan_bytes.specs.Parts.{projectAt, kindAt, projectFrom, kindFrom, projectsFrom, kindsFrom, afterHeader, afterProjects, headed, decoded, size}
-use Rattle.plan_bytes.specs.Parts.Properties.{handed-on}
+use Rattle.codec.specs.Places.Properties.{handed-on}
 use Rattle.plan_bytes.specs.Reading.{headerSpare, projectSpare, kindSpare, projectsSpare, kindsSpare, placesSpare, spareZero, bodyAnswer, readAnswer, reading, readOf}
 
 -- ---- the steps of the loops over the spare bits

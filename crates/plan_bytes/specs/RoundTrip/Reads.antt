@@ -24,13 +24,14 @@ use Rattle.answer.specs.Answer.{_andThen_}
 use Rattle.answer.specs.Answer.Properties.{andThen-left, andThen-right}
 use Rattle.plan.specs.Order.{projectOf, kindOf, emptyProject, emptyKind, sized, sizes, unused, ranges, checked, InOrder, ProjectInRange, KindInRange}
 use Rattle.plan.specs.Order.Properties.{in-order}
-use Rattle.plan_bytes.specs.Pack.{bits, pack, unpack, Fitting}
-use Rattle.plan_bytes.specs.Pack.Properties.{pack-bound, unpack-pack}
-use Rattle.plan_bytes.specs.Bytes.{numberTo, bytesOf}
-use Rattle.plan_bytes.specs.Bytes.Properties.{bytes-length, number-append, number-bytes}
-use Rattle.plan_bytes.specs.Parts.{Shaped, headerWidths, projectWidths, kindWidths, headerBytes, projectBytes, kindBytes, projectBytesAt, kindBytesAt, partsTo, encoded, headerFields, projectFields, kindFields, projectFrom, kindFrom, projectAt, kindAt, projectsFrom, kindsFrom, headed, afterHeader, afterProjects, decoded, size}
-use Rattle.plan_bytes.specs.Parts.Properties.{size-header}
-use Rattle.plan_bytes.specs.Put.Properties.{header-length, project-length, kind-length, parts-length}
+use Rattle.codec.specs.Pack.{bits, pack, unpack, Fitting}
+use Rattle.codec.specs.Pack.Properties.{pack-bound, unpack-pack}
+use Rattle.codec.specs.Bytes.{numberTo, bytesOf}
+use Rattle.codec.specs.Bytes.Properties.{bytes-length, number-append, number-bytes}
+use Rattle.codec.specs.Places.{partsTo}
+use Rattle.codec.specs.Places.Properties.{parts-length, parts-drop}
+use Rattle.plan_bytes.specs.Parts.{Shaped, headerWidths, projectWidths, kindWidths, headerBytes, projectBytes, kindBytes, projectBytesAt, kindBytesAt, encoded, headerFields, projectFields, kindFields, projectFrom, kindFrom, projectAt, kindAt, projectsFrom, kindsFrom, headed, afterHeader, afterProjects, decoded, size}
+use Rattle.plan_bytes.specs.Parts.Properties.{size-header, header-length, project-length, kind-length}
 use Rattle.plan_bytes.specs.Reading.{headerSpare, projectSpare, kindSpare, projectsSpare, kindsSpare, placesSpare, spareZero, bodyAnswer, readAnswer, reading, readOf}
 
 -- ---- a part that was written, whatever follows it
@@ -58,19 +59,6 @@ kind-fields p v rest m r =
     let d = r .deadline-most in
     let c = r .length-most in
     unpacked kindWidths (v .project ∷ v .separation ∷ v .deadline ∷ v .length ∷ 0 ∷ []) 5 rest (omega arith, (omega arith, (omega arith, (omega arith, (omega arith, tt))))) refl
-
--- what stands behind the first parts begins with the next
-pub parts-drop : (n w : ℕ) (f : ℕ → List ℕ) (rest : List ℕ) (i : ℕ) → ((j : ℕ) → length (f j) ≡ w) → i < n → (more : List ℕ) × (drop (w * i) (partsTo n f ++ rest) ≡ f i ++ more)
-unfolding partsTo
-parts-drop zero w f rest i h l = absurd (omega arith)
-parts-drop (suc n) w f rest i h l = elim (decLt i n) [ yes q ↦ earlier (parts-drop n w f (f n ++ rest) i h q) | no q ↦ (rest, here (omega arith)) ]
-  where
-    earlier : ((more : List ℕ) × (drop (w * i) (partsTo n f ++ (f n ++ rest)) ≡ f i ++ more)) → (more : List ℕ) × (drop (w * i) (partsTo n f ++ f n ++ rest) ≡ f i ++ more)
-    earlier t = (t .0, ap (drop (w * i)) (append-assoc (partsTo n f) (f n) rest) ∙ t .1)
-
-    here : i ≡ n → drop (w * i) (partsTo n f ++ f n ++ rest) ≡ f i ++ rest
-    here e =
-        ap (drop (w * i)) (append-assoc (partsTo n f) (f n) rest) ∙ drop-at (partsTo n f) (f n ++ rest) (w * i) (parts-length n f w h ∙ ap (λ (k : ℕ). w * k) (sym e)) ∙ ap (λ (k : ℕ). f k ++ rest) (sym e)
 
 -- ---- a place that holds zeros is the empty one
 

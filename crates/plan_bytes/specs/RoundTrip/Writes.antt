@@ -20,11 +20,13 @@ use Rattle.answer.specs.Answer.{refuse, _andThen_}
 use Rattle.answer.specs.Answer.Properties.{andThen-left, andThen-right, refuse-good}
 use Rattle.plan.specs.Order.{sizes, ranges, checked, Sized}
 use Rattle.plan.specs.Order.Properties.{sizes-says}
-use Rattle.plan_bytes.specs.Pack.{bits, pack, unpack}
-use Rattle.plan_bytes.specs.Pack.Properties.{pack-unpack}
-use Rattle.plan_bytes.specs.Bytes.{numberTo, bytesOf, AreBytes}
-use Rattle.plan_bytes.specs.Bytes.Properties.{number-bound, bytes-number}
-use Rattle.plan_bytes.specs.Parts.{Shaped, headerWidths, projectWidths, kindWidths, headerBytes, projectBytes, kindBytes, projectBytesAt, kindBytesAt, partsTo, encoded, headerFields, projectFields, kindFields, projectFrom, kindFrom, projectAt, kindAt, projectsFrom, kindsFrom, headed, afterHeader, afterProjects, decoded, size}
+use Rattle.codec.specs.Pack.{bits, pack, unpack}
+use Rattle.codec.specs.Pack.Properties.{pack-unpack}
+use Rattle.codec.specs.Bytes.{numberTo, bytesOf, AreBytes}
+use Rattle.codec.specs.Bytes.Properties.{number-bound, bytes-number}
+use Rattle.codec.specs.Places.{partsTo}
+use Rattle.codec.specs.Places.Properties.{parts-front}
+use Rattle.plan_bytes.specs.Parts.{Shaped, headerWidths, projectWidths, kindWidths, headerBytes, projectBytes, kindBytes, projectBytesAt, kindBytesAt, encoded, headerFields, projectFields, kindFields, projectFrom, kindFrom, projectAt, kindAt, projectsFrom, kindsFrom, headed, afterHeader, afterProjects, decoded, size}
 use Rattle.plan_bytes.specs.Reading.{headerSpare, projectSpare, kindSpare, projectsSpare, kindsSpare, placesSpare, spareZero, bodyAnswer, readAnswer, readOf}
 use Rattle.plan_bytes.specs.Reading.Properties.{decoded-checked}
 
@@ -105,13 +107,6 @@ project-same s b l e = ap (λ (z : ℕ). bytesOf 2 (pack projectWidths (getD (pr
 kind-same : (s : List ℕ) → AreBytes s → 5 ≤ length s → kindSpare s ≡ 0 → kindBytes (kindFrom s) ≡ take 5 s
 unfolding kindBytes kindFrom kindSpare kindFields unpack bits
 kind-same s b l e = ap (λ (z : ℕ). bytesOf 5 (pack kindWidths (getD (kindFields s) 0 0 ∷ getD (kindFields s) 1 0 ∷ getD (kindFields s) 2 0 ∷ getD (kindFields s) 3 0 ∷ z ∷ []))) (sym e) ∙ repacked kindWidths 5 s b l refl
-
--- parts cut out one after the other are the front
-parts-front : (n w : ℕ) (f : ℕ → List ℕ) (s : List ℕ) → ((i : ℕ) → i < n → f i ≡ take w (drop (w * i) s)) → partsTo n f ≡ take (w * n) s
-unfolding partsTo
-parts-front zero w f s h = rw (mul-zero w)
-parts-front (suc n) w f s h =
-    ap₂ _++_ (parts-front n w f s (λ i l. h i (omega arith))) (h n (omega arith)) ∙ sym (take-add (w * n) w s) ∙ ap (λ (k : ℕ). take k s) (sym (mul-suc w n))
 
 -- ---- the whole
 

@@ -2,7 +2,7 @@
 -- Assumes nothing.
 use native.Mathlib.Omega.{arith}
 use Rattle.plan_bytes.specs.Parts.{size}
-use Rattle.plan_bytes.specs.Put.Properties.{put-plan}
+use Rattle.plan_bytes.specs.Parts.Properties.{put-plan}
 use borrow.Author.Needs.{needs}
 use Rattle.plan_writer.proofs.put.Statement.{statement}
 use Rattle.plan_writer.proofs.put.Tie as tie

@@ -6,8 +6,8 @@ use native.Mathlib.Omega.{arith}
 use lib.ListN.{length}
 use borrow.Author.Needs.{needs}
 use Rattle.plan_bytes.specs.Parts.{kindBytesAt}
-use Rattle.plan_bytes.specs.Put.{putTo}
-use Rattle.plan_bytes.specs.Put.Properties.{put-none, put-again, put-stop}
+use Rattle.codec.specs.Places.{putTo}
+use Rattle.codec.specs.Places.Properties.{put-none, put-again, put-stop}
 use Rattle.plan_writer.proofs.put_kinds.Statement.{statement}
 use Rattle.plan_writer.proofs.put_kinds.Tie as tie
 

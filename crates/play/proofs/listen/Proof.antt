@@ -3,7 +3,7 @@
 use mathlib.Core.Path.{ap}
 use native.Mathlib.Omega.{arith}
 use lib.ListN.{length, length-drop}
-use Rattle.plan_bytes.specs.Parts.Properties.{handed-on}
+use Rattle.codec.specs.Places.Properties.{handed-on}
 use Rattle.commands.specs.Kept.Properties.{keeps-within}
 use borrow.Author.Needs.{needs}
 use Rattle.play.proofs.listen.Statement.{statement}

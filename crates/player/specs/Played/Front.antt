@@ -21,9 +21,9 @@ use Rattle.plan.specs.Record.{noProject, noKind}
 use Rattle.answer.specs.Answer.{number, refuse, _andThen_, eachTo}
 use Rattle.plan.specs.Order.{sized, sizes, inRange, timed, projectOf, kindOf, projectInRange, projectsInRange, kindInRange, kindInRangeAt, kindsInRange, budgets, budgetsFit, ranges}
 use Rattle.plan.specs.Order.Properties.{sizes-says}
-use Rattle.plan_bytes.specs.Pack.{unpack}
-use Rattle.plan_bytes.specs.Bytes.{numberTo}
-use Rattle.plan_bytes.specs.Bytes.Properties.{number-append}
+use Rattle.codec.specs.Pack.{unpack}
+use Rattle.codec.specs.Bytes.{numberTo}
+use Rattle.codec.specs.Bytes.Properties.{number-append}
 use Rattle.plan_bytes.specs.Parts.{headerWidths, projectWidths, kindWidths, headerFields, projectFields, kindFields, projectFrom, kindFrom, projectAt, kindAt, projectsFrom, kindsFrom, afterHeader, afterProjects, headed, decoded, size}
 use Rattle.plan_bytes.specs.Reading.{headerSpare, projectSpare, kindSpare, projectsSpare, kindsSpare, placesSpare, spareZero, bodyAnswer, readAnswer, readOf}
 use Rattle.plan_bytes.specs.Reading.Properties.{read-short}

@@ -18,7 +18,7 @@ use Rattle.answer.specs.Answer.{number, _andThen_}
 use Rattle.answer.specs.Answer.Properties.{andThen-good, andThen-no, andThen-left}
 use Rattle.plan_bytes.specs.declared.Reading.{Reading}
 use Rattle.plan_bytes.specs.Reading.{readOf}
-use Rattle.plan_bytes.specs.Parts.Properties.{handed-on}
+use Rattle.codec.specs.Places.Properties.{handed-on}
 use Rattle.plan_bytes.specs.RoundTrip.Writes.{read-good}
 use Rattle.rack.specs.declared.State.{State}
 use Rattle.rack.specs.declared.Next.{Next}

@@ -15,7 +15,7 @@ use Rattle.answer.specs.declared.Answer.the-variants.{Good, No}
 use Rattle.answer.specs.Answer.{number, _andThen_, ifGood}
 use Rattle.answer.specs.Answer.Properties.{andThen-left}
 use Rattle.plan_bytes.specs.declared.Reading.{Reading}
-use Rattle.plan_bytes.specs.Bytes.Properties.{number-append}
+use Rattle.codec.specs.Bytes.Properties.{number-append}
 use Rattle.plan_bytes.specs.Reading.{readOf}
 use Rattle.rack.specs.declared.State.{State}
 use Rattle.rack.specs.Start.{startOf}

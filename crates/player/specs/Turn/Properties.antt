@@ -8,7 +8,7 @@ use lib.ListN.{length, getD, replicate}
 use Rattle.laws.specs.Written.Properties.{written-at}
 use Rattle.answer.specs.declared.Answer.{Answer}
 use Rattle.answer.specs.declared.Answer.the-variants.{Good, No}
-use Rattle.plan_bytes.specs.Parts.{partsTo}
+use Rattle.codec.specs.Places.{partsTo}
 use Rattle.rack.specs.declared.State.{State}
 use Rattle.rack.specs.declared.Next.{Next}
 use Rattle.rack.specs.Release.{releaseOf}

@@ -13,9 +13,10 @@ use Rattle.layout.specs.Layout.{cellAt, firstCell, owns, slotOf, held}
 use Rattle.supply.specs.Supply.{window, supply}
 use Rattle.supply.specs.Workload.{workloadPart}
 use Rattle.supply.specs.Fit.{fitsAt, leastWidth, excessAt, leastExcess}
-use Rattle.plan_bytes.specs.Pack.{bits, pack, unpack}
-use Rattle.plan_bytes.specs.Bytes.{numberTo, bytesOf}
-use Rattle.plan_bytes.specs.Parts.{size, headerBytes, projectBytes, kindBytes, partsTo, encoded, headerFields, projectFields, kindFields, projectFrom, kindFrom, projectsFrom, kindsFrom, headed, decoded}
+use Rattle.codec.specs.Pack.{bits, pack, unpack}
+use Rattle.codec.specs.Bytes.{numberTo, bytesOf}
+use Rattle.codec.specs.Places.{partsTo}
+use Rattle.plan_bytes.specs.Parts.{size, headerBytes, projectBytes, kindBytes, encoded, headerFields, projectFields, kindFields, projectFrom, kindFrom, projectsFrom, kindsFrom, headed, decoded}
 use Rattle.plan_bytes.specs.Reading.{headerSpare, projectSpare, kindSpare, projectsSpare, kindsSpare, placesSpare, spareZero, bodyAnswer, readAnswer, readOf}
 use Rattle.verdict.specs.Workload.{besides, partOf, workload}
 use Rattle.verdict.specs.Verdict.{widthOf, excessOf, fitted, admitted, judged}

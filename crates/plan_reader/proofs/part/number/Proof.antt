@@ -1,11 +1,11 @@
 -- `plan_reader::part::number` meets its contract.
 -- Assumes nothing.
-use Rattle.plan_bytes.specs.Bytes.Properties.{number-end, number-none, number-again, number-stop, number-more, number-room}
+use Rattle.codec.specs.Bytes.Properties.{number-end, number-none, number-again, number-stop, number-more, number-room}
 use mathlib.Core.Path.{_≡_}
 use Prim.Native.Nat.{_≤_, _<_, _-_, _^_}
 use native.Mathlib.Omega.{arith}
 use borrow.Author.Needs.{needs}
-use Rattle.plan_bytes.specs.Bytes.{numberTo}
+use Rattle.codec.specs.Bytes.{numberTo}
 use Rattle.plan_reader.proofs.part.number.Statement.{statement}
 use Rattle.plan_reader.proofs.part.number.Tie as tie
 

@@ -9,7 +9,7 @@ use native.Mathlib.Omega.{arith}
 use lib.Arith.{digits-lt, digits-div, digits-mod}
 use lib.ListN.{length, getD, take, length-append, List·getD-append}
 use lib.Seq.{take-suc, getD-at, getD-take}
-use Rattle.plan_bytes.specs.Bytes.{numberTo, bytesOf, AreBytes}
+use Rattle.codec.specs.Bytes.{numberTo, bytesOf, AreBytes}
 
 -- ---- the steps of a loop that reads a number
 

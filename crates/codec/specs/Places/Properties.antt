@@ -1,20 +1,21 @@
--- Laws of stored parts: the steps of a loop, and what the whole list is then.
+-- Laws of places: the steps of a loop that stores them, what the whole list is then, and each place found again.
 -- Assumes nothing.
 use mathlib.Core.Path.{_≡_, refl, sym, ap, ap₂, _∙_}
 use mathlib.Core.List.{List, [], _++_, append-assoc, append-nil}
-use Prim.Native.Nat.{ℕ, zero, suc, _+_, _*_, _≤_}
+use Prim.Native.Nat.{ℕ, zero, suc, _+_, _*_, _-_, _≤_, _<_}
 use native.Mathlib.Nat.{mul-suc, mul-zero}
 use native.Mathlib.Numerals.{add-one}
+use native.Mathlib.Decide.{decLt}
 use native.Mathlib.Omega.{arith}
 use lib.ListN.{length, take, drop, length-append, length-drop}
-use lib.Seq.{sets, sets-eq, length-sets, take-at, drop-append-add, drop-drop}
-use Rattle.plan.specs.declared.Project.{Project}
-use Rattle.plan.specs.declared.Kind.{Kind}
-use Rattle.plan.specs.declared.Plan.{Plan}
-use Rattle.plan.specs.Order.{projectOf, kindOf}
-use Rattle.plan_bytes.specs.Bytes.Properties.{bytes-length}
-use Rattle.plan_bytes.specs.Parts.{partsTo, headerBytes, projectBytes, kindBytes, projectBytesAt, kindBytesAt, encoded, size}
-use Rattle.plan_bytes.specs.Put.{putTo}
+use lib.Seq.{sets, sets-eq, length-sets, take-at, take-all, take-add, drop-at, drop-append-add, drop-drop}
+use Rattle.codec.specs.Places.{partsTo, putTo}
+
+-- ---- a part that is handed on
+
+-- what `&s[a..]` hands on is what starts at a
+pub handed-on : (s : List ℕ) (a : ℕ) → take (length s - a) (drop a s) ≡ drop a s
+handed-on s a = take-all (length s - a) (drop a s) (omega (arith, length-drop a s))
 
 -- ---- the steps of a loop
 
@@ -65,30 +66,24 @@ front-put (suc m) f width xs e l n h p q r =
     front-sets (xs ++ partsTo m f) (f m) e (putTo m f n width l) (n + width * m) k i (omega arith)
     ∙ ap₂ (λ (x : List ℕ) (j : ℕ). x ++ drop j e) (append-assoc xs (partsTo m f) (f m)) (let z : n + width * m + length (f m) ≡ n + width * suc m = omega arith in z)
 
--- ---- a plan's parts
+-- ---- each place found again
 
-pub header-length : (p : Plan) → length (headerBytes p) ≡ 3
-unfolding headerBytes
-header-length p = bytes-length 3 _
+-- what stands behind the first parts begins with the next
+pub parts-drop : (n w : ℕ) (f : ℕ → List ℕ) (rest : List ℕ) (i : ℕ) → ((j : ℕ) → length (f j) ≡ w) → i < n → (more : List ℕ) × (drop (w * i) (partsTo n f ++ rest) ≡ f i ++ more)
+unfolding partsTo
+parts-drop zero w f rest i h l = absurd (omega arith)
+parts-drop (suc n) w f rest i h l = elim (decLt i n) [ yes q ↦ earlier (parts-drop n w f (f n ++ rest) i h q) | no q ↦ (rest, here (omega arith)) ]
+  where
+    earlier : ((more : List ℕ) × (drop (w * i) (partsTo n f ++ (f n ++ rest)) ≡ f i ++ more)) → (more : List ℕ) × (drop (w * i) (partsTo n f ++ f n ++ rest) ≡ f i ++ more)
+    earlier t = (t .0, ap (drop (w * i)) (append-assoc (partsTo n f) (f n) rest) ∙ t .1)
 
-pub project-length : (v : Project) → length (projectBytes v) ≡ 2
-unfolding projectBytes
-project-length v = bytes-length 2 _
+    here : i ≡ n → drop (w * i) (partsTo n f ++ f n ++ rest) ≡ f i ++ rest
+    here e =
+        ap (drop (w * i)) (append-assoc (partsTo n f) (f n) rest) ∙ drop-at (partsTo n f) (f n ++ rest) (w * i) (parts-length n f w h ∙ ap (λ (k : ℕ). w * k) (sym e)) ∙ ap (λ (k : ℕ). f k ++ rest) (sym e)
 
-pub kind-length : (v : Kind) → length (kindBytes v) ≡ 5
-unfolding kindBytes
-kind-length v = bytes-length 5 _
-
--- the header, the projects and the unit kinds, stored in that order, are the plan's bytes before what was there
-pub put-plan : (p : Plan) (out a b after : List ℕ) → size p ≤ length out → a ≡ sets out 0 (headerBytes p) → b ≡ putTo (p .projects) (projectBytesAt p) 3 2 a → after ≡ putTo (p .kinds) (kindBytesAt p) (3 + 2 * p .projects) 5 b
-    → after ≡ encoded p ++ drop (size p) out
-unfolding encoded size
-put-plan p out a b after l e f g =
-    let h = header-length p in
-    let n : 0 + length (headerBytes p) ≡ 3 = omega arith in
-    let x : a ≡ headerBytes p ++ drop 3 out = e ∙ front-sets [] (headerBytes p) out out 0 refl refl (omega arith) ∙ ap (λ (k : ℕ). headerBytes p ++ drop k out) n in
-    let y : b ≡ headerBytes p ++ partsTo (p .projects) (projectBytesAt p) ++ drop (3 + 2 * p .projects) out =
-    f ∙ front-put (p .projects) (projectBytesAt p) 2 (headerBytes p) out a 3 (λ j. project-length (projectOf p j)) h x (omega arith) in
-    let k : length (headerBytes p ++ partsTo (p .projects) (projectBytesAt p)) ≡ 3 + 2 * p .projects =
-    length-append (headerBytes p) (partsTo (p .projects) (projectBytesAt p)) ∙ omega (arith, parts-length (p .projects) (projectBytesAt p) 2 (λ j. project-length (projectOf p j))) in
-    g ∙ front-put (p .kinds) (kindBytesAt p) 5 (headerBytes p ++ partsTo (p .projects) (projectBytesAt p)) out b (3 + 2 * p .projects) (λ i. kind-length (kindOf p i)) k y (omega arith)
+-- parts cut out one after the other are the front
+pub parts-front : (n w : ℕ) (f : ℕ → List ℕ) (s : List ℕ) → ((i : ℕ) → i < n → f i ≡ take w (drop (w * i) s)) → partsTo n f ≡ take (w * n) s
+unfolding partsTo
+parts-front zero w f s h = rw (mul-zero w)
+parts-front (suc n) w f s h =
+    ap₂ _++_ (parts-front n w f s (λ i l. h i (omega arith))) (h n (omega arith)) ∙ sym (take-add (w * n) w s) ∙ ap (λ (k : ℕ). take k s) (sym (mul-suc w n))

@@ -7,7 +7,7 @@ use native.Mathlib.Nat.{mod-mod, mod-lt, mod-one, mod-eq-of-lt}
 use native.Mathlib.Omega.{arith}
 use lib.Arith.{digits-lt}
 use lib.Pow.{pow-pos, pow-add, high, low, field, mod-pow-add, mod-mod-pow}
-use Rattle.plan_bytes.specs.Pack.{bits, pack, unpack, Fitting}
+use Rattle.codec.specs.Pack.{bits, pack, unpack, Fitting}
 
 -- the packed number takes no more bits than the widths say
 pub pack-bound : (ws vs : List ℕ) → Fitting ws vs → pack ws vs < 2 ^ bits ws

@@ -1,6 +1,6 @@
 //! The plans, states and the stream that are timed.
 
-use second::generate::limit_plans;
+use generate::limit_plans;
 use second::{fresh, release, slice, verdict, KindState, Plan, State};
 
 /// One card, one project, one kind, one slice.

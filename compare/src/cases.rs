@@ -2,16 +2,14 @@
 //!
 //! A record is one image or one string of plan bytes, with the calls made on it. A generated plan is
 //! dear (the second program's verdict is asked many times to find it), so each round takes one plan
-//! from `second::generate` and compares much that is near it: the plan with one field nudged, its
+//! from `generate` and compares much that is near it: the plan with one field nudged, its
 //! bytes whole and damaged, states on it, and a run from its fresh start, step by step.
 
 use crate::interface::{
     plan_image, plan_of, state_image, state_of, Case, Op, K_BYTES, PLAN_IMAGE, STATE_IMAGE,
 };
+use generate::{fixed_plan_records, fixed_state_records, fixed_streams, spare_bits, Generator};
 use second::bytes::{pack, plan_bytes};
-use second::generate::{
-    fixed_plan_records, fixed_state_records, fixed_streams, spare_bits, Generator,
-};
 use second::play::{command, Command};
 use second::rack::LAST_CLOCK;
 use second::{Kind, KindState, Plan, Project, State};

@@ -7,8 +7,8 @@ use compare::interface::{image_in_words, of_hex, outcome_in_words, Case};
 use compare::proved::Proved;
 use compare::run::{records, streams, Part, StreamDifference, Tally};
 use compare::second_side::Second;
-use compare::streams::{Program, Stream};
-use std::io::{self, Read, Write};
+use compare::streams::{second_plays, Program, Stream};
+use std::io;
 use std::path::PathBuf;
 use std::process::ExitCode;
 use std::time::Instant;
@@ -95,11 +95,7 @@ fn main() -> ExitCode {
 /// The exit status; an inner error is about the arguments.
 fn run(arguments: &Arguments) -> io::Result<Result<u8, String>> {
     if let Some(fault) = arguments.play_with {
-        let mut input = Vec::new();
-        io::stdin().lock().read_to_end(&mut input)?;
-        io::stdout()
-            .lock()
-            .write_all(faulty::play(fault, &input).as_bytes())?;
+        faulty::play(fault, io::stdin().lock(), io::stdout().lock());
         return Ok(Ok(0));
     }
     if arguments.self_test {
@@ -167,16 +163,8 @@ fn again(line: &str, arguments: &Arguments) -> io::Result<Result<u8, String>> {
         let Some(play) = player(arguments) else {
             return Ok(Err("--again: a stream wants --play".to_string()));
         };
-        let stream = Stream {
-            name: "again".to_string(),
-            input,
-            expected: None,
-            pauses: Vec::new(),
-        };
-        let (one, other) = (
-            play.play(&stream)?,
-            compare::streams::second_plays(&stream.input),
-        );
+        let stream = Stream::new("again", input);
+        let (one, other) = (play.play(&stream)?, second_plays(&stream));
         if one == other {
             print!("no difference:\n{}", String::from_utf8_lossy(&one));
         } else {

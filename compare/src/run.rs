@@ -4,9 +4,9 @@ use crate::cases::{self, Rounds};
 use crate::interface::{hex, image_in_words, number, outcome_in_words, Case, Outcome, Side, OPS};
 use crate::second_side::Second;
 use crate::shrink::{smaller_case, smaller_stream};
-use crate::streams::{self, second_plays, Program, Stream};
+use crate::streams::{self, second_plays, End, Program, Stream};
 use crate::table::table;
-use second::generate::Generator;
+use generate::Generator;
 use std::io;
 
 /// How much was compared.
@@ -23,6 +23,9 @@ pub struct Tally {
     /// Lines that they printed.
     pub lines: u64,
 }
+
+/// The most bytes of a stream that are printed, and that are tried to be made fewer.
+const MOST_SHOWN: usize = 60_000;
 
 /// The first call that differs.
 pub struct RecordDifference {
@@ -132,7 +135,7 @@ fn stream_differs(
     tally: &mut Tally,
 ) -> io::Result<Option<StreamDifference>> {
     tally.streams += 1;
-    let (one, other) = (program.play(&stream)?, second_plays(&stream.input));
+    let (one, other) = (program.play(&stream)?, second_plays(&stream));
     tally.lines += other.iter().filter(|&&byte| byte == b'\n').count() as u64;
     let as_01_says = stream
         .expected
@@ -183,28 +186,34 @@ impl RecordDifference {
 impl StreamDifference {
     /// The difference in a few lines: a shorter stream that still differs, as bytes, and the lines from the first that differs.
     pub fn in_words(&self, program: &Program, name: &str) -> io::Result<String> {
-        let with = |input: &[u8]| Stream {
-            name: self.stream.name.clone(),
-            input: input.to_vec(),
-            expected: None,
-            pauses: Vec::new(),
-        };
+        let given = &self.stream;
+        let with = |input: &[u8]| Stream::new(&given.name, input.to_vec());
         let mut differs = |input: &Vec<u8>| {
-            let other = second_plays(input);
-            program.play(&with(input)).is_ok_and(|one| one != other)
+            let stream = with(input);
+            let other = second_plays(&stream);
+            program.play(&stream).is_ok_and(|one| one != other)
         };
-        let mut text = format!("a stream differs ({}):\n", self.stream.name);
-        let mut stream = with(&self.stream.input);
-        if differs(&stream.input) {
-            stream = with(&smaller_stream(&stream.input, &mut differs));
+        let mut text = format!("a stream differs ({}):\n", given.name);
+        let mut stream = with(&given.input);
+        if given.end == End::Ended && given.input.len() <= MOST_SHOWN && differs(&given.input) {
+            stream = with(&smaller_stream(&given.input, &mut differs));
         } else {
-            // It differs from 01, or only when it is sent with pauses.
-            stream.pauses = self.stream.pauses.clone();
-            stream.expected = self.stream.expected;
-            text += &format!("  sent with pauses at {:?}\n", stream.pauses);
+            // It differs from 01, only when it is sent with pauses or fails, or is too long to be made small.
+            stream.pauses = given.pauses.clone();
+            stream.expected = given.expected;
+            stream.end = given.end;
+            text += &format!(
+                "  sent with pauses at {:?}, {:?}\n",
+                given.pauses, given.end
+            );
         }
-        let (one, other) = (program.play(&stream)?, second_plays(&stream.input));
-        text += &format!("  stream {}\n", hex(&stream.input));
+        let (one, other) = (program.play(&stream)?, second_plays(&stream));
+        let (shown, more) = stream.input.split_at(stream.input.len().min(MOST_SHOWN));
+        text += &format!("  stream {}", hex(shown));
+        text += &match more.len() {
+            0 => "\n".to_string(),
+            more => format!(" and {more} bytes more\n"),
+        };
         let (one, other) = (
             String::from_utf8_lossy(&one).into_owned(),
             String::from_utf8_lossy(&other).into_owned(),

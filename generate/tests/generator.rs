@@ -1,8 +1,6 @@
 //! The generator: the same seed gives the same input, and what it reaches.
 
-use second::generate::{
-    fixed_plan_records, fixed_state_records, fixed_streams, limit_plans, Generator,
-};
+use generate::{fixed_plan_records, fixed_state_records, fixed_streams, limit_plans, Generator};
 use second::*;
 use std::collections::{BTreeMap, BTreeSet};
 

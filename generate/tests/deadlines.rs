@@ -2,7 +2,7 @@
 //! each accepted unit is finished by its deadline, no kind is twice in a row, a project is served
 //! at most B slices in any F in a row, and exactly B when enough of its kinds have work.
 
-use second::generate::Generator;
+use generate::Generator;
 use second::layout::h;
 use second::*;
 use std::collections::HashSet;

@@ -1,7 +1,7 @@
 //! `plan-text`: plans as text, and back.
 
+use generate::Generator;
 use second::bytes::pack;
-use second::generate::Generator;
 use second::plan::check;
 use second::{read, Plan};
 use std::io::Write;
@@ -215,7 +215,7 @@ fn refused_bytes_and_bytes_that_follow() {
     let ran = plan_text(&["decode"], &bytes);
     assert_eq!(
         ran.said,
-        "plan-text: refused 3 at 0: a spare bit is not zero\n"
+        "plan-text: refused 3 at 0: a spare bit or an unused place is not zero\n"
     );
     assert!(ran.output.is_empty());
 }
@@ -231,6 +231,24 @@ fn generated_plans_come_back_as_they_were() {
         assert_eq!(read(&ran.output).1, plan);
         assert_eq!(ran.output, pack(&plan));
     }
+}
+
+#[test]
+fn an_output_that_cannot_be_written_is_told() {
+    let full = std::fs::File::options().write(true).open("/dev/full");
+    let mut child = Command::new(env!("CARGO_BIN_EXE_plan-text"))
+        .arg("encode")
+        .stdin(Stdio::piped())
+        .stdout(full.unwrap())
+        .stderr(Stdio::piped())
+        .spawn()
+        .unwrap();
+    let mut stdin = child.stdin.take().unwrap();
+    stdin.write_all(PLAN_A.as_bytes()).unwrap();
+    drop(stdin);
+    let ran = child.wait_with_output().unwrap();
+    assert_eq!(ran.status.code(), Some(2));
+    assert!(ran.stderr.starts_with(b"plan-text: "));
 }
 
 #[test]

@@ -1,10 +1,10 @@
 //! Fixed streams and records: each refusal number at each place it can have, and each limit.
 
-use super::streams::flip;
-use super::{release_bytes, spare_bits, Stream, SLICE};
-use crate::bytes::pack;
-use crate::plan::{Kind, Plan, Project};
-use crate::rack::{KindState, State, LAST_CLOCK};
+use crate::streams::flip;
+use crate::{release_bytes, spare_bits, Stream, SLICE};
+use second::bytes::pack;
+use second::plan::{Kind, Plan, Project};
+use second::rack::{KindState, State, LAST_CLOCK};
 
 /// Plans at both ends of m, p, n, F, q, B, T, D and C; some are admitted, others are refused by 7 or 8.
 pub fn limit_plans() -> Vec<Plan> {

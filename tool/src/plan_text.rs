@@ -10,13 +10,11 @@
 //!
 //! One thing a line, in any order; blank lines, and what follows a `#`, are passed by. `cards` and
 //! `frame` stand once each. Projects and kinds are numbered from 0 in the order of their lines; the
-//! fields of a line may stand in any order, each once.
+//! fields of a line may stand in any order, each once. What is said of a plan is the proved library's.
 
 #![forbid(unsafe_code)]
 
-use second::bytes::pack;
-use second::plan::{check, Kind, Plan, Project};
-use second::{read, verdict, Answer};
+use bindings::{in_words, Answer, Kind, Plan, Project};
 use std::io::{self, Read, Write};
 use std::process::ExitCode;
 
@@ -58,7 +56,8 @@ fn main() -> ExitCode {
             if let Some(note) = note {
                 eprintln!("plan-text: {note}");
             }
-            match io::stdout().lock().write_all(&output) {
+            let mut stdout = io::stdout().lock();
+            match stdout.write_all(&output).and_then(|()| stdout.flush()) {
                 Ok(()) => ExitCode::SUCCESS,
                 Err(error) => {
                     eprintln!("plan-text: {error}");
@@ -108,20 +107,20 @@ fn encode(input: &[u8]) -> Turned {
     let byte = |number: u64| number.min(255) as u8;
     let two_bytes = |number: u64| number.min(65535) as u16;
     let mut plan = Plan {
-        m: byte(cards.numbers[0]),
-        p: byte(text.projects.len() as u64),
-        n: byte(text.kinds.len() as u64),
+        cards: byte(cards.numbers[0]),
+        projects: byte(text.projects.len() as u64),
+        kinds: byte(text.kinds.len() as u64),
         frame: byte(frame.numbers[0]),
         ..Plan::default()
     };
-    for (place, line) in plan.projects.iter_mut().zip(&text.projects) {
+    for (place, line) in plan.project.iter_mut().zip(&text.projects) {
         let [ceiling, budget] = line.numbers;
         *place = Project {
             ceiling: byte(ceiling),
             budget: two_bytes(budget),
         };
     }
-    for (place, line) in plan.kinds.iter_mut().zip(&text.kinds) {
+    for (place, line) in plan.kind.iter_mut().zip(&text.kinds) {
         let [project, separation, deadline, length] = line.numbers;
         *place = Kind {
             project: byte(project),
@@ -131,14 +130,12 @@ fn encode(input: &[u8]) -> Turned {
         };
     }
 
-    let answer = check(&plan);
-    if !answer.is_good() {
-        return Err(refusal(answer, &text, cards, frame));
-    }
-    // "Writing plan bytes [...] adds 9 and not 8": a plan that is not admitted has bytes too.
-    let (answer, _) = verdict(&plan);
-    let note = (!answer.is_good()).then(|| {
-        let line = text.kinds[answer.place as usize].line;
+    let bytes = plan
+        .bytes()
+        .map_err(|answer| refusal(answer, &text, cards, frame))?;
+    // A plan that is not admitted has bytes too.
+    let note = plan.verdict().err().map(|answer| {
+        let line = text.kinds[usize::from(answer.place)].line;
         format!(
             "line {line}: the plan is not admitted ({}): kind {} is too long by {}; the bytes are written all the same",
             told(answer),
@@ -146,7 +143,7 @@ fn encode(input: &[u8]) -> Turned {
             answer.excess
         )
     });
-    Ok((pack(&plan), note))
+    Ok((bytes, note))
 }
 
 fn parsed(input: &[u8]) -> Result<Text, String> {
@@ -251,7 +248,7 @@ fn told(answer: Answer) -> String {
 
 /// The plan's own refusal with the line it is about, in words.
 fn refusal(answer: Answer, text: &Text, cards: &Line<1>, frame: &Line<1>) -> String {
-    let place = answer.place as usize;
+    let place = usize::from(answer.place);
     let (m, f) = (cards.numbers[0], frame.numbers[0]);
     let (p, n) = (text.projects.len(), text.kinds.len());
     let (line, reason) = match answer.number {
@@ -298,26 +295,16 @@ fn refusal(answer: Answer, text: &Text, cards: &Line<1>, frame: &Line<1>) -> Str
 // ---- From bytes to text
 
 fn decode(input: &[u8]) -> Turned {
-    let (answer, plan, taken) = read(input);
-    if !answer.is_good() {
-        let reason = match answer.number {
-            1 => "fewer bytes than a plan takes",
-            2 => "cards, projects, kinds or frame out of range",
-            3 => "a spare bit is not zero",
-            4 => "this project's ceiling or budget is out of range",
-            5 => "this kind names a project that is not there",
-            6 => "this kind is not 1 <= length <= deadline <= separation <= 4095",
-            _ => "the budgets sum above the cards times the frame",
-        };
-        return Err(format!("{}: {reason}", told(answer)));
-    }
-    let (answer, k) = verdict(&plan);
-    let mut text = format!("cards {}\nframe {}\n", plan.m, plan.frame);
-    for (place, project) in plan.used_projects().iter().enumerate() {
-        let Project { ceiling, budget } = project;
+    let (plan, taken) = Plan::read(input)
+        .map_err(|answer| format!("{}: {}", told(answer), in_words(answer.number)))?;
+    let verdict = plan.verdict();
+    let mut text = format!("cards {}\nframe {}\n", plan.cards, plan.frame);
+    let projects = plan.project.iter().take(usize::from(plan.projects));
+    for (place, Project { ceiling, budget }) in projects.enumerate() {
         text += &format!("project ceiling {ceiling} budget {budget}  # project {place}\n");
     }
-    for (place, kind) in plan.used_kinds().iter().enumerate() {
+    let kinds = plan.kind.iter().take(usize::from(plan.kinds));
+    for (place, kind) in kinds.enumerate() {
         let numbers = [
             u16::from(kind.project),
             kind.separation,
@@ -328,20 +315,19 @@ fn decode(input: &[u8]) -> Turned {
         for (name, number) in KIND_FIELDS.iter().zip(numbers) {
             text += &format!(" {name} {number}");
         }
-        text += &match k[place] {
-            0 => format!("  # kind {place}\n"),
-            k => format!("  # kind {place}, k {k}\n"),
+        text += &match verdict {
+            Ok(k) => format!("  # kind {place}, k {}\n", k[place]),
+            Err(_) => format!("  # kind {place}\n"),
         };
     }
-    text += &if answer.is_good() {
-        "# admitted\n".to_string()
-    } else {
-        format!(
+    text += &match verdict {
+        Ok(_) => "# admitted\n".to_string(),
+        Err(answer) => format!(
             "# not admitted ({}): kind {} is too long by {}\n",
             told(answer),
             answer.place,
             answer.excess
-        )
+        ),
     };
     match input.len() - taken {
         0 => {}

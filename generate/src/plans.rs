@@ -1,11 +1,11 @@
 //! Plans: good, admitted, just refused, and spoiled.
 
-use super::Generator;
-use crate::layout::h;
-use crate::plan::{
+use crate::Generator;
+use second::layout::h;
+use second::plan::{
     Kind, Plan, Project, MOST_CARDS, MOST_FRAME, MOST_KINDS, MOST_PROJECTS, MOST_SEPARATION,
 };
-use crate::verdict::{ceiling_of, verdict, workload};
+use second::verdict::{ceiling_of, verdict, workload};
 
 impl Generator {
     /// A plan that passes the record order "2, 3, 4, 5/6, 7", admitted or not (mostly not).
@@ -189,7 +189,7 @@ impl Generator {
     }
 
     /// A plan with one field, of those that plan bytes can express, most likely out of range.
-    pub(super) fn spoil_in_bits(&mut self, plan: &mut Plan) {
+    pub(crate) fn spoil_in_bits(&mut self, plan: &mut Plan) {
         let i = self.below(u64::from(plan.p).clamp(1, MOST_PROJECTS)) as usize;
         let j = self.below(u64::from(plan.n).clamp(1, MOST_KINDS)) as usize;
         match self.below(16) {
@@ -252,7 +252,7 @@ impl Generator {
     }
 
     /// A plan with one field, of the whole record, most likely out of range.
-    pub(super) fn spoil_record(&mut self, plan: &mut Plan) {
+    pub(crate) fn spoil_record(&mut self, plan: &mut Plan) {
         let place = |generator: &mut Generator, used: u8, all: u64| -> usize {
             let used = u64::from(used);
             // Half the time an unused place, if there is one.
@@ -309,7 +309,7 @@ impl Generator {
     }
 
     /// Fields of any value whatever; in some the header is in range, in some the unused places are zero.
-    pub(super) fn arbitrary_plan(&mut self) -> Plan {
+    pub(crate) fn arbitrary_plan(&mut self) -> Plan {
         let header_in_range = !self.one_in(4);
         let unused_zero = self.one_in(2);
         let mut plan = if header_in_range {

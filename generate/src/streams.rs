@@ -1,9 +1,9 @@
 //! Commands and random streams for the player.
 
-use super::{limit_plans, release_bytes, Generator, Stream, SLICE};
-use crate::bytes::{pack, plan_bytes};
-use crate::plan::{check, Plan, MOST_CARDS};
-use crate::rack::{fresh, in_form, release, slice, State};
+use crate::{limit_plans, release_bytes, Generator, Stream, SLICE};
+use second::bytes::{pack, plan_bytes};
+use second::plan::{check, Plan, MOST_CARDS};
+use second::rack::{fresh, in_form, release, slice, State};
 
 /// The kinds that a release would be accepted for now: never released, or T slices ago and none left.
 fn due(state: &State) -> Vec<u64> {
@@ -244,6 +244,20 @@ impl Generator {
     }
 }
 
+/// Plan A and so many slices, each kind released at its length as soon as it is due.
+pub fn long_stream(slices: u64) -> Vec<u8> {
+    let mut bytes = pack(&Plan::a());
+    let (_, mut state) = fresh(&Plan::a());
+    for _ in 0..slices {
+        for kind in due(&state) {
+            let c = u64::from(state.plan.kinds[kind as usize].length);
+            step_release(&mut state, kind, c, &mut bytes);
+        }
+        step_slice(&mut state, &mut bytes);
+    }
+    bytes
+}
+
 fn step_slice(state: &mut State, bytes: &mut Vec<u8>) {
     let mut row = [0; MOST_CARDS as usize];
     *state = slice(state, &mut row).1;
@@ -255,7 +269,7 @@ fn step_release(state: &mut State, kind: u64, e: u64, bytes: &mut Vec<u8>) {
     bytes.extend(release_bytes(kind, e));
 }
 
-pub(super) fn flip(bytes: &mut [u8], bit: usize) {
+pub(crate) fn flip(bytes: &mut [u8], bit: usize) {
     if let Some(byte) = bytes.get_mut(bit / 8) {
         *byte ^= 1 << (7 - bit % 8);
     }

@@ -1,7 +1,10 @@
 //! Seeded input to compare by: streams for the player, and records with fields in and out of range.
 //!
-//! The same seed gives the same sequence. Nothing here decides what is right; `verdict`, `release`
-//! and `slice` are used only to find plans that are admitted and releases that are due.
+//! The same seed gives the same sequence. Nothing here decides what is right: the second program's
+//! `verdict`, `release` and `slice` are used only to find plans that are admitted and releases that
+//! are due.
+
+#![forbid(unsafe_code)]
 
 mod fixed;
 mod plans;
@@ -9,7 +12,7 @@ mod records;
 mod streams;
 
 pub use fixed::{fixed_plan_records, fixed_state_records, fixed_streams, limit_plans};
-pub use streams::spare_bits;
+pub use streams::{long_stream, spare_bits};
 
 /// "a slice has zeros throughout".
 pub const SLICE: [u8; 3] = [0, 0, 0];

@@ -1,9 +1,9 @@
 //! Records in and out of range, states in and out of form, and what is lent or asked with them.
 
-use super::Generator;
-use crate::bytes::plan_bytes;
-use crate::plan::{Plan, MOST_KINDS};
-use crate::rack::{fresh, KindState, State, LAST_CLOCK};
+use crate::Generator;
+use second::bytes::plan_bytes;
+use second::plan::{Plan, MOST_KINDS};
+use second::rack::{fresh, KindState, State, LAST_CLOCK};
 
 impl Generator {
     /// A plan record: admitted, good, just refused, with one to three fields spoiled, or of any fields.

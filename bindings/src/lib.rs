@@ -1,0 +1,28 @@
+//! Safe bindings of the proved static library, whose C interface is `include/parchbeetle.h`.
+//!
+//! `calls` has one function for each of the library's, on slices of any length, with the answer
+//! decoded. `record` has the plan and the state as records, and their images.
+
+#![warn(missing_docs)]
+
+mod answer;
+#[allow(unsafe_code)]
+mod calls;
+mod record;
+
+pub use answer::{in_words, Answer, NUMBERS};
+pub use calls::{check, fresh, read, release, slice, slot_table, verdict, write};
+pub use record::{Kind, Plan, Project, State, Unit};
+
+/// Bytes of a plan image.
+pub const PLAN_IMAGE: usize = 140;
+/// Bytes of a state image.
+pub const STATE_IMAGE: usize = 256;
+/// Bytes of k.
+pub const K_BYTES: usize = 16;
+/// The most bytes that a plan takes.
+pub const MOST_PLAN_BYTES: usize = 99;
+/// The most bytes that a slot table takes.
+pub const MOST_TABLE_BYTES: usize = 512;
+/// The most bytes that a row takes.
+pub const MOST_ROW_BYTES: usize = 8;

@@ -31,6 +31,158 @@ def flat(words):
     return " ".join(words.split())
 
 
+class Function:
+    """A public function: its parameters as (name, type), its result's type, what stands between its head and its body, and where
+    in the file its body stands."""
+
+    def __init__(self, crate, path, name, exported, head, body):
+        self.crate, self.path, self.name, self.exported, self.body = crate, path, name, exported, body
+        given, _, rest = head[1:].partition(")")
+        self.parameters = []
+        for part in filter(None, map(flat, given.split(","))):
+            word, _, kind = part.removeprefix("mut ").partition(": ")
+            self.parameters.append((word, kind or "Self"))
+        self.result = flat(re.match(r"(?: *-> ([^\n]*))?", rest).group(1) or "()")
+        self.requires = re.search(r"\brequires\b", rest) is not None
+        ensures = re.search(r"\bensures \{(.*)\}\s*$", rest, re.S)
+        self.ensures = flat(ensures.group(1)) if ensures else None
+
+    @property
+    def lent(self):
+        return [name for name, kind in self.parameters if kind.startswith("&mut ")]
+
+    @property
+    def own_type(self):
+        return self.name.split("::")[0]
+
+
+HEAD = re.compile(r'^( *)((?:#\[no_mangle\]\s+)?)pub (?:extern "C" )?fn (\w+)(\(.*?)^\1\{\n(.*?)^\1\}', re.M | re.S)
+
+
+def handed_on(root):
+    """(module, item) of each `pub use` of a crate's root."""
+    for module, items in re.findall(r"^pub use ([\w:]+)::(\{[^}]*\}|\w+|\*);", root, re.M):
+        for item in re.findall(r"\w+|\*", items):
+            yield module.removeprefix("crate::"), item
+
+
+def functions(crate):
+    """Each public function of a crate that another crate or another language can reach. A method counts where its type can be reached."""
+    root = without_comments(text(crate / "src" / "lib.rt"))
+    handed = set(handed_on(root))
+    types = set(re.findall(r"^pub (?:struct|enum) (\w+)", root, re.M)) | {item for _, item in handed}
+    sources = {path: without_comments(text(path)) for path in sorted((crate / "src").rglob("*.rt"))}
+    opened = {"lib"} | set(re.findall(r"^pub mod (\w+);", root, re.M))
+    for path, source in sources.items():
+        if path.stem in opened:
+            types |= set(re.findall(r"^pub (?:struct|enum) (\w+)", source, re.M))
+    for path, source in sources.items():
+        methods = [(found.group(1), *found.span()) for found in re.finditer(r"^impl (\w+) \{\n.*?^\}", source, re.M | re.S)]
+        found = list(HEAD.finditer(source))
+        heads = len(re.findall(r'\bpub (?:extern "C" )?fn ', source))
+        if heads != len(found):
+            raise SystemExit(f"{path}: {heads} public functions, of which {len(found)} can be read")
+        for head in found:
+            name, exported = head.group(3), "extern" in head.group(0).split("fn", 1)[0]
+            of = next((kind for kind, begin, end in methods if begin < head.start() < end), None)
+            if exported or (of in types if of else path.stem in opened or (path.stem, name) in handed):
+                yield Function(crate, path, f"{of}::{name}" if of else name, exported, head.group(4), head.span(5))
+
+
+NUMBERS = {"u8", "u16", "u32", "u64", "usize"}
+
+
+def type_of(kind, own):
+    """How a specification writes a type of the code."""
+    kind = kind.removeprefix("&").removeprefix("mut ")
+    if kind == "bool":
+        return "Bool"
+    if kind in NUMBERS:
+        return "ℕ"
+    listed = re.fullmatch(r"\[(.*?)(?:; \w+)?\]", kind)
+    if listed:
+        of = type_of(listed.group(1), own)
+        return f"List {of}" if " " not in of else f"List ({of})"
+    return own if kind == "Self" else kind.split("::")[-1]
+
+
+def imports(source):
+    """Where each name that a file uses comes from."""
+    return {
+        name: module
+        for module, names in re.findall(r"^(?:ghost )?use ([^\s;{]+)\.\{([^}]*)\}", source, re.M)
+        for name in (word.strip().split(" as ")[-1] for word in names.split(","))
+        if name
+    }
+
+
+def contract(function):
+    """The contract's text in plain words: a lent buffer as it was is its name, and as it is left its name with a dash. None where
+    the `ensures` is not of the form `λ r. ⌜ .. ⌝`."""
+    said = re.fullmatch(r"λ r\. ⌜ (.*) ⌝", function.ensures or "")
+    if not said:
+        return None
+    words = said.group(1)
+    for name, kind in function.parameters:
+        if kind.startswith("&"):
+            for moment, plain in (("entry", name), ("exit", f"{name}'")):
+                words = words.replace(f"(now ({name} .{moment}))", plain).replace(f"now ({name} .{moment})", plain)
+    return words
+
+
+def theorem(function, source):
+    """Why the theorem of one outcome in a file is not about the function's contract, or None. It has to be
+    `(PARAMETERS) → One (λ r. CONTRACT)`, or with lent buffers `.. → One (λ (o : Lent RESULT). CONTRACT)`, the contract letter by
+    letter, where `o .result` stands for r and `o .buffer`, `o .second` for the buffers as they are left."""
+    stated = re.search(rf"^-- `{re.escape(function.name)}`[^\n]*\n(?:pub )?([\w'-]*one-outcome) :(.*?)\n(?=\S)", source, re.M | re.S)
+    if not stated:
+        return "has no one-outcome theorem"
+    said = flat(stated.group(2))
+    given = "".join(f"({name} : {type_of(kind, function.own_type)}) " for name, kind in function.parameters)
+    groups = re.match(r"((?:\([^()]* : (?:[^()]|\([^()]*\))*\) ?)*)(?:→ )?One \((.*)\)$", said)
+    if not groups:
+        return f"has a one-outcome theorem that is not of the form `(..) → One (λ ..)`: {said}"
+    telescope = "".join(
+        f"({name} : {flat(kind)}) " for names, kind in re.findall(r"\(([^():]*) : ((?:[^()]|\([^()]*\))*)\)", groups.group(1)) for name in names.split()
+    )
+    if telescope != given:
+        return f"has a one-outcome theorem for `{telescope}`, not for its own `{given}`"
+    result = type_of(function.result, function.own_type)
+    binder, _, words = groups.group(2).partition(". ")
+    if function.lent:
+        record = {1: "Lent", 2: "LentTwo"}.get(len(function.lent))
+        result = f"({result})" if " " in result else result
+        if binder != f"λ (o : {record} {result})":
+            return f"has a one-outcome theorem over `{binder}`, not over `λ (o : {record} {result})`"
+        for field, plain in zip(["result", "buffer", "second"], ["r", *(f"{name}'" for name in function.lent)]):
+            words = words.replace(f"(o .{field})", plain).replace(f"o .{field}", plain)
+    elif binder not in ("λ r", f"λ (r : {result})"):
+        return f"has a one-outcome theorem over `{binder}`, not over `λ r`"
+    if words != contract(function):
+        return f"has a one-outcome theorem about `{words}`, and its `ensures` says `{contract(function)}`"
+    return other_name(function, words, source)
+
+
+def other_name(function, words, source):
+    """Why a name of the contract is another thing in the theorem's file than in the code, or None."""
+    code, specs = imports(without_comments(text(function.path))), imports(source)
+    plain = {name for name, _ in function.parameters} | {f"{name}'" for name in function.lent} | {"r"}
+    for word in set(re.findall(r"[^\s()]+", re.sub(r" \.[\w-]+", "", words))) - plain:
+        for name in {word, word.split(".")[0], f"_{word}_"} & (set(code) | set(specs)):
+            if code.get(name) != specs.get(name):
+                return f"has `{name}` from {code.get(name)} in its contract, and from {specs.get(name)} in its one-outcome theorem"
+    for name in ("One", "Lent", "LentTwo"):
+        if re.search(rf"\b{name}\b", words) or not re.search(rf"\b{name}\b", re.sub(r"^use .*", "", source, flags=re.M)):
+            continue
+        if not re.fullmatch(r"Rattle.answer(?:·specs\.specs|\.specs)\.Outcome", specs.get(name, "")):
+            return f"has a one-outcome theorem over a `{name}` that is not the one beside the answers"
+    for kind in [kind for _, kind in function.parameters] + [function.result]:
+        name = type_of(kind, function.own_type)
+        if re.fullmatch(r"[A-Z]\w*", name) and name != "Bool" and name in specs and not specs[name].endswith(f".declared.{name}"):
+            return f"has a one-outcome theorem over a `{name}` that is not the code's"
+    return None
+
+
 class Edit:
     def __init__(self, path, crate):
         self.path, self.crate, self.name = path, crate, path.stem

@@ -1,6 +1,6 @@
 -- The test that admits a project: document 01, "Supply and verdict".
--- It compares with S(k,t) alone. What cards a project holds when is said of its moments (`Supplied`), so it stands however the slices of the frame are
--- numbered, and when an idle project is given other cards with the same supply.
+-- It compares with S(k,t) alone. Which cards a project holds when is said of its moments (`Supplied`); so it stands however the slices
+-- of a frame are numbered, and where an idle project is given other cards with the same supply.
 -- Assumes nothing.
 use Prim.Native.Nat.{ℕ, _+_, _*_, _≤_}
 use Rattle.analysis.specs.Setup.{Setup, Own, Timed}

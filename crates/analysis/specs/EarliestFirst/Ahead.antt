@@ -1,4 +1,4 @@
--- What one kind can still put ahead of another's unit, by earliest deadline first: at a moment, after a slice, after a release, and where a window starts.
+-- What one kind can still put ahead of another's unit, by earliest deadline first: after a slice, after a release, and in any window.
 -- Assumes nothing.
 use mathlib.Core.Path.{_≡_, refl}
 use mathlib.Core.Bool.{Bool, true, false, cond, _&&_}
@@ -21,7 +21,7 @@ use Rattle.analysis.specs.EarliestFirst.Coming.{coming, coming-slice, co
 unfoldable pub due : (left until t : ℕ) → ℕ
 due left until t = cond (leb until t) left 0
 
--- the most of kind j that can get ahead of kind i's unit: what is left of a unit due no later, and the units still to come that can be due no later
+-- the most of kind j that can get ahead of kind i's unit: what is left of one due no later, and those to come that can be due no later
 unfoldable pub aheadOf : Setup → Moment → ℕ → ℕ → ℕ
 aheadOf S m i j = due (m .left j) (m .until j) (m .until i) + S .length j * coming (S .separation j) (S .reach j) (m .until i) (m .wait j)
 
@@ -86,13 +86,13 @@ module _ (S : Setup) (served : ℕ → Bool) (before after : Moment) (s : Slice 
       kept : dueAfter ≤ dueBefore
       kept =
           due-slice (before .left j) (before .until j) (after .left j) (after .until j) (before .until i) r
-          (left-no-more S (noLater S) served before after s j oj) (s .until j oj)
+          (left-no-more s j oj) (s .until j oj)
 
       go : (a b : Bool) → served j ≡ a → noLater S before j i ≡ b → dueAfter + cond (a && b) 1 0 ≤ dueBefore
       go true true x y =
           omega (
             arith,
-            left-served S (noLater S) served before after s j oj x,
+            left-served s j oj x,
             due-le (after .left j) (after .until j) (before .until i - 1),
             due-in (before .left j) (before .until j) (before .until i) (later-until S before i j y),
           )
@@ -102,36 +102,45 @@ module _ (S : Setup) (served : ℕ → Bool) (before after : Moment) (s : Slice 
 -- ---- a release of j: no more
 
 module _ (S : Setup) (before after : Moment) (i j e : ℕ) (kept : Kept i before after) (started : Started S j e before after) where
-  -- of j's units to come, those that can be due no later than i's
+  -- how many of j's units to come can be due no later than i's
   abbrev comes : ℕ → ℕ
-  comes wait = S .length j * coming (S .separation j) (S .reach j) (before .until i) wait
+  comes wait = coming (S .separation j) (S .reach j) (before .until i) wait
 
-  abbrev Less : Type 0
-  Less = due e (after .until j) (before .until i) + comes (after .wait j) ≤ due (before .left j) (before .until j) (before .until i) + comes (before .wait j)
+  abbrev NoMore : Type 0
+  NoMore = due e (after .until j) (before .until i) + S .length j * comes (after .wait j)
+      ≤ due (before .left j) (before .until j) (before .until i) + S .length j * comes (before .wait j)
 
-  -- the unit is one of them
-  of-these : 0 < S .separation j → after .until j ≤ before .until i → Less
+  -- the unit was one of them
+  one-fewer : 0 < S .separation j → after .until j ≤ before .until i → comes (after .wait j) + 1 ≤ comes (before .wait j)
+  one-fewer p q =
+      coming-release (S .separation j) (S .reach j) (before .until i) (after .until j) (after .wait j) (started .wait)
+      (before .wait j) p (started .may) q
+
+  of-these : 0 < S .separation j → after .until j ≤ before .until i → NoMore
   of-these p q =
-      let fewer = coming-release (S .separation j) (S .reach j) (before .until i) (after .until j) (after .wait j) (started .wait) (before .wait j) p (started .may) q in
-      omega (arith, due-le e (after .until j) (before .until i), started .fits, mul-le-mul-left (S .length j) fewer)
+      omega (arith, due-le e (after .until j) (before .until i), started .fits, mul-le-mul-left (S .length j) (one-fewer p q))
 
   -- or it is due later, and so are all after it
-  of-none : before .until i < after .until j → Less
+  of-none : before .until i < after .until j → NoMore
   of-none q =
       rw (coming-late (S .separation j) (S .reach j) (before .until i) (after .until j) (after .wait j) (started .wait) q)
       (omega (arith, due-late e (after .until j) (before .until i) q))
 
   pub pair-release : 0 < S .separation j → aheadOf S after i j ≤ aheadOf S before i j
   unfolding aheadOf
-  pair-release p = rw (kept .until, started .left) (elim (decLe (after .until j) (before .until i)) [ yes q ↦ of-these p q | no q ↦ of-none (omega arith) ])
+  pair-release p =
+      rw (kept .until, started .left)
+      (elim (decLe (after .until j) (before .until i)) [ yes q ↦ of-these p q | no q ↦ of-none (omega arith) ])
 
-pub pair-kept : (S : Setup) (before after : Moment) (i j : ℕ) → Kept i before after → Kept j before after → aheadOf S after i j ≡ aheadOf S before i j
+pub pair-kept : (S : Setup) (before after : Moment) (i j : ℕ) → Kept i before after → Kept j before after →
+    aheadOf S after i j ≡ aheadOf S before i j
 unfolding aheadOf
 pair-kept S before after i j p q = rw (p .until, q .left, q .until, q .wait)
 
 -- ---- any window: no more than j's part of the workload in it
 
-module _ (S : Setup) (m : Moment) (i j : ℕ) (timed : Timed S j) (running : 0 < m .left j → Running S m j) (in-time : m .left j ≤ m .until j) where
+module _ (S : Setup) (m : Moment) (i j : ℕ) (timed : Timed S j)
+    (running : 0 < m .left j → Running S m j) (in-time : m .left j ≤ m .until j) where
   abbrev part : ℕ
   part = workloadPart (S .separation j) (S .length j) (m .until i)
 

@@ -1,4 +1,4 @@
--- The units of a kind that are still to come: a kind's part of the workload has room for what is left of a unit and for all of them that can be due in time.
+-- The units of a kind still to come: its part of the workload has room for what is left of a unit and for all that can be due in time.
 -- Every division of the proof stands here.
 -- Assumes nothing.
 use mathlib.Core.Path.{_≡_}

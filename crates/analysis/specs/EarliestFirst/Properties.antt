@@ -14,7 +14,7 @@ use Rattle.laws.specs.Where.Properties.{where-le, where-falls}
 use Rattle.supply.specs.Workload.{workloadPart}
 use Rattle.analysis.specs.Setup.{Setup, Own, Timed, other}
 use Rattle.analysis.specs.Setup.Properties.{other-own}
-use Rattle.analysis.specs.Moment.{Moment, Running}
+use Rattle.analysis.specs.Moment.{Moment, UnderWay, NoneLate}
 use Rattle.analysis.specs.Step.{Slice, Release}
 use Rattle.analysis.specs.Policy.{Policy}
 use Rattle.analysis.specs.EarliestFirst.{noLater, workload}
@@ -52,7 +52,7 @@ module _ (S : Setup) (timed : (i : ℕ) → Own S i → Timed S i) where
             | no q ↦ le-of-eq (pair-kept S before after i x (r .others i o d) (r .others x w q))
           ]
 
-  ahead-start : (m : Moment) → ((j : ℕ) → Own S j → 0 < m .left j → Running S m j) → ((j : ℕ) → Own S j → m .left j ≤ m .until j) →
+  ahead-start : (m : Moment) → UnderWay S m → NoneLate S m →
       (i : ℕ) → Own S i → m .until i ≡ S .reach i → ahead S m i ≤ workload S i
   unfolding ahead workload
   ahead-start m r t i o u =

@@ -2,7 +2,7 @@
 -- Assumes nothing.
 use mathlib.Core.Path.{_≡_, sym, ap, _∙_}
 use Prim.Native.Nat.{ℕ, suc, _+_, min}
-use native.Mathlib.Nat.{add-assoc, zero-add}
+use native.Mathlib.Nat.{add-assoc}
 use Rattle.laws.specs.Sum.Properties.{sum-cong}
 use Rattle.supply.specs.Supply.{window}
 use Rattle.supply.specs.Supply.Properties.{window-first}
@@ -20,7 +20,8 @@ module _ (before after : Moment) where
   module _ (gone : (x : ℕ) → after .cards x ≡ before .cards (1 + x)) where
     -- every start is one slice nearer
     pub window-later : (k a t : ℕ) → window k (after .cards) a t ≡ window k (before .cards) (1 + a) t
-    window-later k a t = window-same k (after .cards) (before .cards) a (1 + a) t (λ x. gone (a + x) ∙ ap (before .cards) (sym (add-assoc 1 a x)))
+    window-later k a t =
+        window-same k (after .cards) (before .cards) a (1 + a) t (λ x. gone (a + x) ∙ ap (before .cards) (sym (add-assoc 1 a x)))
 
     -- this slice's cards, and the window from the next on
     pub window-now : (k t : ℕ) → window k (before .cards) 0 (suc t) ≡ min k (before .cards 0) + window k (after .cards) 0 t

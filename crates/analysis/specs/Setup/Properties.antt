@@ -5,8 +5,8 @@ use mathlib.Core.Logic.{_≢_}
 use mathlib.Core.Bool.{true, not}
 use Prim.Native.Nat.{ℕ, _<_}
 use lib.Dec.{eqb}
-use borrow.Author.Tests.{not-true, eqb-false, ne-eqb}
-use Rattle.laws.specs.Tests.{and-left, and-right, and-both}
+use borrow.Author.Tests.{ne-eqb}
+use Rattle.laws.specs.Tests.{and-right, and-both}
 use Rattle.analysis.specs.Setup.{Setup, Own, other}
 
 module _ (S : Setup) (i j : ℕ) where
@@ -17,7 +17,3 @@ module _ (S : Setup) (i j : ℕ) where
   pub other-own : j < S .kinds → other S i j ≡ true → Own S j
   unfolding other
   other-own l e = record { below = l; mine = and-right (not (eqb j i)) (S .mine j) e }
-
-  pub other-differs : other S i j ≡ true → j ≢ i
-  unfolding other
-  other-differs e = eqb-false j i (not-true (eqb j i) (and-left (not (eqb j i)) (S .mine j) e))

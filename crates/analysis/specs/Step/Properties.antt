@@ -8,7 +8,7 @@ use Rattle.analysis.specs.Setup.{Setup, Own}
 use Rattle.analysis.specs.Moment.{Moment}
 use Rattle.analysis.specs.Step.{Priority, Slice}
 
-module _ (S : Setup) (prior : Priority) (served : ℕ → Bool) (before after : Moment) (s : Slice S prior served before after)
+module _ {S : Setup} {prior : Priority} {served : ℕ → Bool} {before after : Moment} (s : Slice S prior served before after)
     (i : ℕ) (o : Own S i) where
   pub left-served : served i ≡ true → after .left i + 1 ≡ before .left i
   left-served e = omega (arith, (rw e at (s .left i o)), s .serves .some-left i o e)

@@ -20,7 +20,7 @@ use Rattle.analysis.specs.Setup.Properties.{other-of}
 use Rattle.analysis.specs.Step.{Serves}
 use Rattle.analysis.specs.EarliestFirst.{noLater}
 use Rattle.analysis.specs.EarliestFirst.Ahead.{later-of}
-use Rattle.demands.specs.View.{setupOf, momentOf, cardsFrom}
+use Rattle.demands.specs.View.{setupOf, momentOf}
 use Rattle.demands.specs.View.Properties.{own-project, cards-now}
 
 module _ (s : State) where

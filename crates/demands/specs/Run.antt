@@ -47,9 +47,13 @@ noSlice = record { before = noState; row = [] }
 abbrev pub rowWritten : State → List ℕ → List ℕ
 rowWritten s bytes = take (s .plan .cards) (bufferAfter s bytes)
 
+-- an accepted slice on a state, with a lent row of bytes
+abbrev pub accepted : State → List ℕ → Accepted
+accepted s bytes = record { before = s; row = rowWritten s bytes }
+
 -- a call's accepted slice, where it is one
 unfoldable pub acceptedIn : State → Call → List Accepted
-acceptedIn s (slice bytes) = ifGood (sliceAnswer s (length bytes)) (record { before = s; row = rowWritten s bytes } ∷ []) []
+acceptedIn s (slice bytes) = ifGood (sliceAnswer s (length bytes)) (accepted s bytes ∷ []) []
 acceptedIn s (release i e) = []
 
 -- the accepted slices of the calls, in their order

@@ -20,24 +20,41 @@ use Rattle.rack.specs.Slice.{advanced, sliceAnswer, sliceOf, bufferAfter}
 use Rattle.rack.specs.Slice.Properties.{slice-says}
 use Rattle.demands.specs.View.{cardsFrom}
 use Rattle.demands.specs.View.Properties.{cards-now, cards-later, cards-kept}
-use Rattle.demands.specs.Run.{Call, slice, release, runFrom, Accepted, rowWritten, acceptedIn, slicesOf}
+use Rattle.demands.specs.Run.{Call, slice, release, runFrom, Accepted, accepted, rowWritten, acceptedIn, slicesOf}
 
 -- ---- the calls that are accepted: refusals change nothing
 
-module _ (P : State → List Accepted → State → Type 0) (none : (s : State) → P s [] s) (sliced : (s end : State) (bytes : List ℕ) (slices : List Accepted) → sliceAnswer s (length bytes) ≡ Good → P (advanced s) slices end → P s (record { before = s; row = rowWritten s bytes } ∷ slices) end) (started : (s end : State) (i e : ℕ) (slices : List Accepted) → releaseAnswer s i e ≡ Good → P (released s i e) slices end → P s slices end) where
-  -- what holds of no call, and stays with each accepted one before, holds of every run
-  pub along : (calls : List Call) (s : State) → P s (slicesOf s calls) (runFrom s calls)
+-- a claim on a run: the state that it starts from, its accepted slices, and the state that it leads to
+abbrev pub Claim : Type 1
+Claim = State → List Accepted → State → Type 0
+
+-- it stays with an accepted slice before
+abbrev pub WithSlice : Claim → Type 0
+WithSlice P = (s end : State) (bytes : List ℕ) (slices : List Accepted) → sliceAnswer s (length bytes) ≡ Good →
+    P (advanced s) slices end → P s (accepted s bytes ∷ slices) end
+
+-- and with an accepted release before
+abbrev pub WithRelease : Claim → Type 0
+WithRelease P = (s end : State) (i e : ℕ) (slices : List Accepted) → releaseAnswer s i e ≡ Good →
+    P (released s i e) slices end → P s slices end
+
+module _ (P : Claim) (none : (s : State) → P s [] s) (with-slice : WithSlice P) (with-release : WithRelease P) where
+  abbrev Of : List Call → State → Type 0
+  Of calls s = P s (slicesOf s calls) (runFrom s calls)
+
+  -- then it holds of every run
+  pub along : (calls : List Call) (s : State) → Of calls s
   unfolding slicesOf runFrom acceptedIn sliceOf releaseOf
   along [] s = none s
   along (slice bytes ∷ calls) s = go (sliceAnswer s (length bytes)) refl (along calls (advanced s)) (along calls s)
     where
-      go : (a : Answer) → sliceAnswer s (length bytes) ≡ a → P (advanced s) (slicesOf (advanced s) calls) (runFrom (advanced s) calls) → P s (slicesOf s calls) (runFrom s calls) → P s (slicesOf s (slice bytes ∷ calls)) (runFrom s (slice bytes ∷ calls))
-      go Good e p q = rw e (sliced s (runFrom (advanced s) calls) bytes (slicesOf (advanced s) calls) e p)
+      go : (a : Answer) → sliceAnswer s (length bytes) ≡ a → Of calls (advanced s) → Of calls s → Of (slice bytes ∷ calls) s
+      go Good e p q = rw e (with-slice s (runFrom (advanced s) calls) bytes (slicesOf (advanced s) calls) e p)
       go (No r) e p q = rw e q
   along (release i e ∷ calls) s = go (releaseAnswer s i e) refl (along calls (released s i e)) (along calls s)
     where
-      go : (a : Answer) → releaseAnswer s i e ≡ a → P (released s i e) (slicesOf (released s i e) calls) (runFrom (released s i e) calls) → P s (slicesOf s calls) (runFrom s calls) → P s (slicesOf s (release i e ∷ calls)) (runFrom s (release i e ∷ calls))
-      go Good g p q = rw g (started s (runFrom (released s i e) calls) i e (slicesOf (released s i e) calls) g p)
+      go : (a : Answer) → releaseAnswer s i e ≡ a → Of calls (released s i e) → Of calls s → Of (release i e ∷ calls) s
+      go Good g p q = rw g (with-release s (runFrom (released s i e) calls) i e (slicesOf (released s i e) calls) g p)
       go (No r) g p q = rw g q
 
 -- ---- how far it gets
@@ -45,7 +62,10 @@ module _ (P : State → List Accepted → State → Type 0) (none : (s : State) 
 -- a slice moves the clock by one, and nothing else does
 pub run-clock : (calls : List Call) (s : State) → runFrom s calls .clock ≡ s .clock + length (slicesOf s calls)
 unfolding advanced released
-run-clock = along (λ s slices end. end .clock ≡ s .clock + length slices) (λ s. omega arith) (λ s end bytes slices g h. omega arith) (λ s end i e slices g h. h)
+run-clock = along Counts (λ s. omega arith) (λ s end bytes slices g h. omega arith) (λ s end i e slices g h. h)
+  where
+    Counts : Claim
+    Counts s slices end = end .clock ≡ s .clock + length slices
 
 pub run-plan : (calls : List Call) (s : State) → runFrom s calls .plan ≡ s .plan
 unfolding advanced released
@@ -64,11 +84,15 @@ module _ (s : State) (bytes : List ℕ) (good : sliceAnswer s (length bytes) ≡
 
   pub row-length : length (rowWritten s bytes) ≡ s .plan .cards
   unfolding rowOver
-  row-length = rw row-over (length-take-le (s .plan .cards) (rowOver s bytes) (omega (arith, row-room, written-length (s .plan .cards) (rowByte s) bytes)))
+  row-length =
+      let room = written-length (s .plan .cards) (rowByte s) bytes in
+      rw row-over (length-take-le (s .plan .cards) (rowOver s bytes) (omega (arith, row-room, room)))
 
   pub row-at : (card : ℕ) → card < s .plan .cards → getD (rowWritten s bytes) card 0 ≡ rowByte s card
   unfolding rowOver
-  row-at card l = rw row-over (getD-take (s .plan .cards) (rowOver s bytes) card 0 l ∙ written-at (s .plan .cards) (rowByte s) bytes 0 card l row-room)
+  row-at card l =
+      rw row-over
+      (getD-take (s .plan .cards) (rowOver s bytes) card 0 l ∙ written-at (s .plan .cards) (rowByte s) bytes 0 card l row-room)
 
 -- an accepted slice on a plan, at which each project holds so many cards
 pub record At (p : Plan) (holds : ℕ → ℕ) (w : Accepted) : Type 0 where
@@ -78,17 +102,28 @@ pub record At (p : Plan) (holds : ℕ → ℕ) (w : Accepted) : Type 0 where
   pub size : length (w .row) ≡ w .before .plan .cards
   pub shows : (card : ℕ) → card < w .before .plan .cards → getD (w .row) card 0 ≡ rowByte (w .before) card
 
-pub now-at : (s : State) (bytes : List ℕ) → sliceAnswer s (length bytes) ≡ Good → At (s .plan) (λ j. cardsFrom s j 0) (record { before = s; row = rowWritten s bytes })
-now-at s bytes g = record { plan = refl; cards = λ j. sym (cards-now s j); ready = slice-says s (length bytes) g .ready; size = row-length s bytes g; shows = row-at s bytes g }
+pub now-at : (s : State) (bytes : List ℕ) → sliceAnswer s (length bytes) ≡ Good → At (s .plan) (λ j. cardsFrom s j 0) (accepted s bytes)
+now-at s bytes g = record {
+  plan = refl;
+  cards = λ j. sym (cards-now s j);
+  ready = slice-says s (length bytes) g .ready;
+  size = row-length s bytes g;
+  shows = row-at s bytes g;
+}
 
--- the accepted slices of a run are one after the other, on one plan: at each a project holds the cards that it was to hold then
-pub slices-at : (none : Accepted) (calls : List Call) (s : State) (x : ℕ) → x < length (slicesOf s calls) → At (s .plan) (λ j. cardsFrom s j x) (getD (slicesOf s calls) x none)
+same-cards : {p : Plan} {f g : ℕ → ℕ} {w : Accepted} → ((j : ℕ) → f j ≡ g j) → At p f w → At p g w
+same-cards e a = record { plan = a .plan; cards = λ j. a .cards j ∙ e j; ready = a .ready; size = a .size; shows = a .shows }
+
+-- the accepted slices of a run are one after the other, on one plan: at each, a project holds the cards that it was to hold then
+pub slices-at : (none : Accepted) (calls : List Call) (s : State) (x : ℕ) → x < length (slicesOf s calls) →
+    At (s .plan) (λ j. cardsFrom s j x) (getD (slicesOf s calls) x none)
 unfolding advanced released
-slices-at none = along (λ s slices end. (x : ℕ) → x < length slices → At (s .plan) (λ j. cardsFrom s j x) (getD slices x none)) (λ s x l. absurd (omega arith)) first same
+slices-at none = along Each (λ s x l. absurd (omega arith)) first (λ s end i e slices g h x l. same-cards (λ j. cards-kept s j i e x) (h x l))
   where
-    first : (s end : State) (bytes : List ℕ) (slices : List Accepted) → sliceAnswer s (length bytes) ≡ Good → ((x : ℕ) → x < length slices → At (s .plan) (λ j. cardsFrom (advanced s) j x) (getD slices x none)) → (x : ℕ) → x < suc (length slices) → At (s .plan) (λ j. cardsFrom s j x) (getD (record { before = s; row = rowWritten s bytes } ∷ slices) x none)
-    first s end bytes slices g h zero l = now-at s bytes g
-    first s end bytes slices g h (suc x) l = let a = h x (omega arith) in record { plan = a .plan; cards = λ j. a .cards j ∙ cards-later s j x ∙ ap (cardsFrom s j) (one-add x); ready = a .ready; size = a .size; shows = a .shows }
+    Each : Claim
+    Each s slices end = (x : ℕ) → x < length slices → At (s .plan) (λ j. cardsFrom s j x) (getD slices x none)
 
-    same : (s end : State) (i e : ℕ) (slices : List Accepted) → releaseAnswer s i e ≡ Good → ((x : ℕ) → x < length slices → At (s .plan) (λ j. cardsFrom (released s i e) j x) (getD slices x none)) → (x : ℕ) → x < length slices → At (s .plan) (λ j. cardsFrom s j x) (getD slices x none)
-    same s end i e slices g h x l = let a = h x l in record { plan = a .plan; cards = λ j. a .cards j ∙ cards-kept s j i e x; ready = a .ready; size = a .size; shows = a .shows }
+    first : (s end : State) (bytes : List ℕ) (slices : List Accepted) → sliceAnswer s (length bytes) ≡ Good →
+        Each (advanced s) slices end → Each s (accepted s bytes ∷ slices) end
+    first s end bytes slices g h zero l = now-at s bytes g
+    first s end bytes slices g h (suc x) l = same-cards (λ j. cards-later s j x ∙ ap (cardsFrom s j) (one-add x)) (h x (omega arith))

@@ -229,28 +229,30 @@ def edits(root, folder):
 
 
 def errors(log):
-    """(place, declaration, line) of each error of an edit's log; the place is below the crate."""
+    """(place, declaration, line) of each error of an edit's log; the place is below the crate. Of a function with no proof file the
+    place is where one would stand."""
     for line in text(log / ".log").split("\n"):
         found = re.match(r"(?P<place>[^ ]*): error: (?:`(?P<name>[^`]*)`)?", line)
+        found = found or re.search(r"no proof: expected .* in (?P<place>[^ ]*); .* does not close `(?P<name>[^`]*)`", line)
         if found:
             yield found.group("place").removeprefix(f"{log}/"), found.group("name"), line
-        elif "does not close" in line:
-            yield line, None, line
 
 
 def verdict(log, edit):
-    """Why the refusal that a log tells of is none for a fact, or None. The first error has to be a fact's, and where the edit
-    says at which fact it fails, an error has to stand there which is not that of something that rests on a refused fact."""
+    """Why the refusal that a log tells of is none for a fact, or None. The first error has to be a fact's; an edit of a result or of
+    a buffer has to be refused in the function's own proof; and where the edit says at which fact it fails, an error has to stand
+    there. What only rests on a refused fact does not count."""
     found = list(errors(log))
     if not found:
         return "no fact is seen to fail"
     if "has no `Need-" in found[0][2] or "has no `Tie`" in found[0][2]:
         return "the proof file no longer fits the code, and no fact is seen to fail first"
+    facts = [(at, said) for at, said, line in found if "was not admitted" not in line]
+    own = f"/{edit.function.split('::')[-1]}/" if edit.breaks else "/"
+    if not any(own in at for at, _ in facts):
+        return f"no fact of {edit.function} itself fails"
     for wanted in edit.notes.get("fails at", []):
         place, _, name = wanted.partition(" ")
-        if not any(
-            (at.startswith(f"{place}/") or at.startswith(f"{place}:")) and (not name or said == name) and "was not admitted" not in line
-            for at, said, line in found
-        ):
+        if not any(re.match(rf"{re.escape(place)}[/:]", at) and (not name or said == name) for at, said in facts):
             return f"no fact fails at {wanted}"
     return None

@@ -12,7 +12,7 @@ use Rattle.plan.specs.Order.{InOrder, checked}
 use Rattle.unit.specs.Unit.{noUnit}
 use Rattle.unit.specs.Form.{UnitInForm, fitsPlace}
 use Rattle.rack.specs.declared.State.{State}
-use Rattle.rack.specs.State.{unitOf, kindAt}
+use Rattle.rack.specs.State.{lastClock, unitOf, kindAt}
 pub mod Properties
 
 -- place i
@@ -21,7 +21,7 @@ placeInForm s i = fitsPlace (ltb i (s .plan .kinds)) (s .clock) (kindAt s i .len
 
 -- "the clock within range" and every place in form
 unfoldable pub inForm : State → Bool
-inForm s = leb (s .clock) 1000000000 && allTo 16 (placeInForm s)
+inForm s = leb (s .clock) lastClock && allTo 16 (placeInForm s)
 
 -- "the record order, 10"
 unfoldable pub ready : State → Answer
@@ -31,7 +31,7 @@ ready s = checked (s .plan) andThen refuse (not (inForm s)) (Bare 10)
 
 -- what a state in form is, place by place
 pub record InForm (s : State) : Type 0 where
-  pub clock-most : s .clock ≤ 1000000000
+  pub clock-most : s .clock ≤ lastClock
   pub unit-at : (i : ℕ) → i < 16 → i < s .plan .kinds → UnitInForm (s .clock) (kindAt s i .length) (unitOf s i)
   pub unused : (i : ℕ) → i < 16 → s .plan .kinds ≤ i → unitOf s i ≡ noUnit
 

@@ -5,6 +5,7 @@ pub mod Form
 pub mod Rank
 pub mod Row
 pub mod Release
+pub mod Advance
 pub mod Slice
 pub mod Start
 pub mod OneOutcome

@@ -2,8 +2,9 @@
 -- Assumes nothing.
 use Prim.Native.Nat.{ℕ, _%_, pred}
 use mathlib.Core.Bool.{Bool, not, _&&_}
-use mathlib.Core.List.{List}
+use mathlib.Core.List.{List, _++_}
 use lib.Dec.{eqb}
+use lib.ListN.{drop, replicate}
 use Rattle.laws.specs.Count.{countTo}
 use Rattle.laws.specs.First.{firstTo}
 use Rattle.laws.specs.Written.{written}
@@ -30,9 +31,13 @@ takes s i card = working s i && (holds (s .plan) (kindAt s i .project) (s .clock
 unfoldable pub rowByte : State → ℕ → ℕ
 rowByte s card = firstTo (s .plan .kinds) (λ number. takes s (pred number) card)
 
--- "The row written has m bytes", and what stands past them is kept
+-- "The row written has m bytes"
+unfoldable pub rowOf : State → List ℕ
+rowOf s = written (s .plan .cards) (rowByte s) (replicate (s .plan .cards) 0)
+
+-- a lent row with it written: "bytes past those needed keep their value"
 unfoldable pub rowOver : State → List ℕ → List ℕ
-rowOver s bytes = written (s .plan .cards) (rowByte s) bytes
+rowOver s bytes = rowOf s ++ drop (s .plan .cards) bytes
 
 -- ---- what the promises about a row speak of
 

@@ -14,6 +14,10 @@ use Rattle.rack.specs.declared.State.{State}
 use Rattle.rack.specs.declared.Next.{Next}
 pub mod Properties
 
+-- "a clock (0..1,000,000,000)": where it ends
+abbrev pub lastClock : ℕ
+lastClock = 1000000000
+
 -- the plan at clock 0, with no kind ever released
 abbrev pub freshOf : Plan → State
 freshOf p = record { plan = p; clock = 0; unit = replicate 16 noUnit }

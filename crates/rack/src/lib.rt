@@ -3,8 +3,10 @@
 // Document 01, "Running", and the refusals 8 to 15 of "Numbers given back when we say no". A state
 // goes in by value and the next one is handed back. Every record is answered, whatever its fields
 // hold.
+mod advance;
 mod form;
 mod release;
+mod row;
 mod slice;
 
 ghost use mathlib.Core.Path.{_≡_};

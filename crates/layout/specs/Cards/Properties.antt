@@ -1,19 +1,19 @@
 -- Laws of the cells of a slice.
 -- Assumes nothing.
 use mathlib.Core.Path.{_≡_, refl, sym, ap, _∙_}
-use mathlib.Core.Bool.{Bool, true, false, cond}
+use mathlib.Core.Bool.{Bool, true, false, cond, _&&_}
 use Prim.Native.Nat.{ℕ, zero, suc, _+_, _-_, _*_, _/_, _%_, _≤_, _<_}
 use native.Mathlib.Decide.{decLe, decLt}
 use native.Mathlib.Nat.{suc-mul, add-mul, one-mul, mul-le-mul-right, div-add-mod', mod-lt, mod-mod, add-mod-right, div-eq-of-lt-le, le-div-iff-mul-le, add-mul-div-right}
 use native.Mathlib.Omega.{arith}
-use lib.Dec.{eqb}
+use lib.Dec.{leb, ltb, eqb}
 use borrow.Author.Tests.{lt-ltb, le-ltb, eq-eqb, ne-eqb, eqb-true, eqb-false}
 use Rattle.laws.specs.Sum.{sumTo}
 use Rattle.laws.specs.Sum.Properties.{sum-add, sum-cong, sum-zero}
 use Rattle.laws.specs.Count.{countTo}
-use Rattle.laws.specs.Count.Properties.{count-le, count-split, count-sum}
+use Rattle.laws.specs.Count.Properties.{count-le, count-split, count-sum, between-yes, between-low, between-high}
 use Rattle.layout.specs.Layout.{cellAt}
-use Rattle.layout.specs.Cards.{cardsBelow, heldFrom}
+use Rattle.layout.specs.Cards.{cardsBelow, inRun, heldFrom}
 
 -- ---- whole cards
 
@@ -137,6 +137,21 @@ pub computed-most : (frame x slice : ℕ) → slice < frame → (x + (frame - 1 
 computed-most frame x slice l = omega (arith, below-computed frame x slice l, below-most frame x slice)
 
 -- ---- the cards that a run of cells holds
+
+-- at a slice they are consecutive: from card `cardsBelow` of its first cell on, up to that of the cell after its last
+pub run-card : (frame slice : ℕ) → slice < frame → (first budget card : ℕ) →
+    inRun first budget (cellAt frame card slice) ≡ (leb (cardsBelow frame first slice) card && ltb card (cardsBelow frame (first + budget) slice))
+run-card frame slice l first budget card =
+    let cell = cellAt frame card slice in
+    let low = cardsBelow frame first slice in
+    let end = cardsBelow frame (first + budget) slice in
+    elim (decLt cell first) [
+      | yes q ↦ between-low first (first + budget) cell q ∙ sym (between-low low end card (below-cell frame slice l first card q))
+      | no q ↦ elim (decLt cell (first + budget)) [
+        | yes r ↦ between-yes first (first + budget) cell (omega arith) r ∙ sym (between-yes low end card (past-cell frame slice l first card (omega arith)) (below-cell frame slice l (first + budget) card r))
+        | no r ↦ between-high first (first + budget) cell (omega arith) ∙ sym (between-high low end card (past-cell frame slice l (first + budget) card (omega arith)))
+      ]
+    ]
 
 -- "taken modulo F"
 pub run-period : (first budget frame s : ℕ) → heldFrom first budget frame (s + frame) ≡ heldFrom first budget frame s

@@ -15,11 +15,11 @@ use Rattle.laws.specs.Sum.{sumTo}
 use Rattle.laws.specs.Sum.Properties.{sum-none, sum-suc, sum-cong}
 use Rattle.laws.specs.First.Properties.{first-le, first-holds, first-some}
 use Rattle.laws.specs.Count.{countTo}
-use Rattle.laws.specs.Count.Properties.{count-le, count-cong, count-between, between-yes, between-low, between-high}
+use Rattle.laws.specs.Count.Properties.{count-le, count-cong, count-between, between-yes}
 use Rattle.plan.specs.declared.Plan.{Plan}
 use Rattle.plan.specs.Order.{budgetOf, budgets, projectOf, InOrder}
 use Rattle.layout.specs.Cards.{cardsBelow, heldFrom}
-use Rattle.layout.specs.Cards.Properties.{below-start, below-grows, below-frame, below-cell, past-cell, run-closed, run-least, run-most, run-ceiling, run-frame}
+use Rattle.layout.specs.Cards.Properties.{below-start, below-grows, below-frame, below-cell, past-cell, run-card, run-closed, run-least, run-most, run-ceiling, run-frame}
 use Rattle.layout.specs.Layout.{cellAt, firstCell, owns, slotOf, held}
 
 -- ---- cells
@@ -119,15 +119,7 @@ free-slot p x e = upTo (p .projects) (omega arith)
 module _ (p : Plan) (j slice : ℕ) (l : slice < p .frame) where
   owns-card : (card : ℕ) → owns p j (cellAt (p .frame) card slice) ≡ (leb (cardsBelow (p .frame) (firstCell p j) slice) card && ltb card (cardsBelow (p .frame) (firstCell p (j + 1)) slice))
   unfolding owns
-  owns-card card =
-      rw (first-next p j)
-      (elim (decLt (cellAt (p .frame) card slice) (firstCell p j)) [
-        | yes q ↦ between-low (firstCell p j) (firstCell p j + budgetOf p j) (cellAt (p .frame) card slice) q ∙ sym (between-low (cardsBelow (p .frame) (firstCell p j) slice) (cardsBelow (p .frame) (firstCell p j + budgetOf p j) slice) card (below-cell (p .frame) slice l (firstCell p j) card q))
-        | no q ↦ elim (decLt (cellAt (p .frame) card slice) (firstCell p j + budgetOf p j)) [
-          | yes r ↦ between-yes (firstCell p j) (firstCell p j + budgetOf p j) (cellAt (p .frame) card slice) (omega arith) r ∙ sym (between-yes (cardsBelow (p .frame) (firstCell p j) slice) (cardsBelow (p .frame) (firstCell p j + budgetOf p j) slice) card (past-cell (p .frame) slice l (firstCell p j) card (omega arith)) (below-cell (p .frame) slice l (firstCell p j + budgetOf p j) card r))
-          | no r ↦ between-high (firstCell p j) (firstCell p j + budgetOf p j) (cellAt (p .frame) card slice) (omega arith) ∙ sym (between-high (cardsBelow (p .frame) (firstCell p j) slice) (cardsBelow (p .frame) (firstCell p j + budgetOf p j) slice) card (past-cell (p .frame) slice l (firstCell p j + budgetOf p j) card (omega arith)))
-        ]
-      ])
+  owns-card card = rw (first-next p j) (run-card (p .frame) slice l (firstCell p j) (budgetOf p j) card)
 
   pub card-owned : (card : ℕ) → cardsBelow (p .frame) (firstCell p j) slice ≤ card → card < cardsBelow (p .frame) (firstCell p (j + 1)) slice → owns p j (cellAt (p .frame) card slice) ≡ true
   card-owned card a b = owns-card card ∙ between-yes (cardsBelow (p .frame) (firstCell p j) slice) (cardsBelow (p .frame) (firstCell p (j + 1)) slice) card a b

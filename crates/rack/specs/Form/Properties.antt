@@ -19,7 +19,7 @@ use Rattle.plan.specs.Order.{checked}
 use Rattle.plan.specs.Order.Properties.{in-order, in-order-good}
 use Rattle.unit.specs.Form.Properties.{unit-says, unit-of, empty-says, empty-of}
 use Rattle.rack.specs.declared.State.{State}
-use Rattle.rack.specs.State.{unitOf, kindAt}
+use Rattle.rack.specs.State.{lastClock, unitOf, kindAt}
 use Rattle.rack.specs.Form.{InForm, Ready, placeInForm, inForm, ready}
 
 -- ---- the whole state
@@ -28,9 +28,9 @@ use Rattle.rack.specs.Form.{InForm, Ready, placeInForm, inForm, ready}
 pub form-says : (s : State) → inForm s ≡ true → InForm s
 unfolding inForm
 form-says s e =
-    let places = all-at 16 (placeInForm s) (and-right (leb (s .clock) 1000000000) (allTo 16 (placeInForm s)) e) in
+    let places = all-at 16 (placeInForm s) (and-right (leb (s .clock) lastClock) (allTo 16 (placeInForm s)) e) in
     record {
-      clock-most = leb-true (s .clock) 1000000000 (and-left (leb (s .clock) 1000000000) (allTo 16 (placeInForm s)) e);
+      clock-most = leb-true (s .clock) lastClock (and-left (leb (s .clock) lastClock) (allTo 16 (placeInForm s)) e);
       unit-at = λ i l m. unit-says (s .clock) (kindAt s i .length) (unitOf s i) (rw (lt-ltb i (s .plan .kinds) m) at (places i l));
       unused = λ i l m. empty-says (unitOf s i) (rw (le-ltb i (s .plan .kinds) m) at (places i l));
     }
@@ -38,7 +38,7 @@ form-says s e =
 -- and nothing more is asked
 pub form-of : (s : State) → InForm s → inForm s ≡ true
 unfolding inForm
-form-of s f = and-both (leb (s .clock) 1000000000) (allTo 16 (placeInForm s)) (le-leb (s .clock) 1000000000 (f .clock-most)) (all-of 16 (placeInForm s) place)
+form-of s f = and-both (leb (s .clock) lastClock) (allTo 16 (placeInForm s)) (le-leb (s .clock) lastClock (f .clock-most)) (all-of 16 (placeInForm s) place)
   where
     place : (i : ℕ) → i < 16 → placeInForm s i ≡ true
     place i l = elim (decLt i (s .plan .kinds)) [ yes m ↦ rw (lt-ltb i (s .plan .kinds) m) (unit-of (s .clock) (kindAt s i .length) (unitOf s i) (f .unit-at i l m)) | no m ↦ rw (le-ltb i (s .plan .kinds) (omega arith)) (empty-of (unitOf s i) (f .unused i l (omega arith))) ]
@@ -57,6 +57,9 @@ ready-says s e =
 pub ready-of : (s : State) → Ready s → ready s ≡ Good
 unfolding ready
 ready-of s r = rw (in-order-good (s .plan) (r .order), form-of s (r .form))
+
+pub kinds-most : (s : State) → Ready s → s .plan .kinds ≤ 16
+kinds-most s r = r .order .counts .kinds-most
 
 -- ---- what the check answered, opened
 

@@ -2,15 +2,20 @@
 -- Assumes nothing.
 use mathlib.Core.Path.{_≡_, refl, sym, ap, _∙_}
 use mathlib.Core.Bool.{Bool, true, false, not, _&&_, false≢true}
-use Prim.Native.Nat.{ℕ, zero, suc, pred, _+_, _%_, _≤_, _<_, min}
+use mathlib.Core.List.{List}
+use Prim.Native.Nat.{ℕ, zero, suc, pred, _+_, _-_, _%_, _≤_, _<_, min}
 use native.Mathlib.Decide.{decLt}
 use native.Mathlib.Nat.{mod-lt}
 use native.Mathlib.Omega.{arith}
 use lib.Dec.{leb, ltb, eqb}
+use lib.ListN.{length, getD, take, drop, replicate, length-append, length-drop, length-replicate, List·getD-append}
+use lib.Seq.{getD-append-add, getD-drop, ext-getD, take-at}
 use borrow.Author.Tests.{eq-eqb, ne-eqb, eqb-true, eqb-false, not-true}
 use Rattle.laws.specs.Tests.{and-left, and-right}
 use Rattle.laws.specs.Count.Properties.{count-cong, between-yes, between-low, between-high, count-between}
 use Rattle.laws.specs.First.Properties.{first-le, first-holds, first-zero, first-some}
+use Rattle.laws.specs.Written.{written}
+use Rattle.laws.specs.Written.Properties.{written-at, written-kept, written-length, stored-at}
 use Rattle.plan.specs.declared.Plan.{Plan}
 use Rattle.plan.specs.Order.{projectOf, InOrder}
 use Rattle.layout.specs.Layout.{firstCell, cellAt, held}
@@ -22,7 +27,7 @@ use Rattle.rack.specs.Form.{Ready}
 use Rattle.rack.specs.Rank.{working, activeKinds, outranks, rank, served}
 use Rattle.rack.specs.Rank.Properties.{active-project, active-working, served-of, served-working, served-rank, served-first, ranks-distinct, rank-taken, rank-most, rank-above}
 use Rattle.rack.specs.Seat.{lowest}
-use Rattle.rack.specs.Row.{holds, cardsBefore, takes, rowByte, ofProject, cardsTaken}
+use Rattle.rack.specs.Row.{holds, cardsBefore, takes, rowByte, rowOf, rowOver, ofProject, cardsTaken}
 
 -- ---- a project's cards at a slice of a plan in order: from its `lowest` on, and below the next project's
 
@@ -131,6 +136,53 @@ module _ (s : State) where
       go : (b : ℕ) → rowByte s card ≡ b → rowByte s card ≡ suc i
       go zero q = absurd (omega (arith, row-some card i l e))
       go (suc k) q = q ∙ ap suc (one-kind k i card (row-below card k q) l (row-takes card k q) e)
+
+-- ---- the row in a lent row
+
+module _ (s : State) where
+  pub row-length : length (rowOf s) ≡ s .plan .cards
+  unfolding rowOf
+  row-length = written-length (s .plan .cards) (rowByte s) (replicate (s .plan .cards) 0) ∙ length-replicate {A = ℕ} (s .plan .cards) 0
+
+  pub row-at : (card : ℕ) → card < s .plan .cards → getD (rowOf s) card 0 ≡ rowByte s card
+  unfolding rowOf
+  row-at card l = stored-at (s .plan .cards) (s .plan .cards) (rowByte s) card l (omega arith)
+
+  module _ (bytes : List ℕ) where
+    pub over-at : (card : ℕ) → card < s .plan .cards → getD (rowOver s bytes) card 0 ≡ rowByte s card
+    unfolding rowOver
+    over-at card l = List·getD-append (rowOf s) (drop (s .plan .cards) bytes) 0 card (omega (arith, row-length)) ∙ row-at card l
+
+    -- "bytes past those needed keep their value"
+    pub over-kept : (x : ℕ) → s .plan .cards ≤ x → getD (rowOver s bytes) x 0 ≡ getD bytes x 0
+    unfolding rowOver
+    over-kept x l =
+        let past : x ≡ length (rowOf s) + (x - s .plan .cards) = omega (arith, row-length) in
+        let same : s .plan .cards + (x - s .plan .cards) ≡ x = omega arith in
+        ap (λ (y : ℕ). getD (rowOver s bytes) y 0) past
+        ∙ getD-append-add (rowOf s) (drop (s .plan .cards) bytes) (x - s .plan .cards) 0
+        ∙ getD-drop (s .plan .cards) bytes (x - s .plan .cards) 0
+        ∙ ap (λ (y : ℕ). getD bytes y 0) same
+
+    -- its bytes stored card by card
+    pub over-written : s .plan .cards ≤ length bytes → written (s .plan .cards) (rowByte s) bytes ≡ rowOver s bytes
+    unfolding rowOver
+    over-written l = ext-getD 0 (written (s .plan .cards) (rowByte s) bytes) (rowOver s bytes) same-length at
+      where
+        same-length : length (written (s .plan .cards) (rowByte s) bytes) ≡ length (rowOver s bytes)
+        same-length = omega (arith, written-length (s .plan .cards) (rowByte s) bytes, length-append (rowOf s) (drop (s .plan .cards) bytes), row-length, length-drop (s .plan .cards) bytes)
+
+        at : (i : ℕ) → i < length (written (s .plan .cards) (rowByte s) bytes) → getD (written (s .plan .cards) (rowByte s) bytes) i 0 ≡ getD (rowOver s bytes) i 0
+        at i q =
+            elim (decLt i (s .plan .cards)) [
+              | yes t ↦ written-at (s .plan .cards) (rowByte s) bytes 0 i t l ∙ sym (over-at i t)
+              | no t ↦ written-kept (s .plan .cards) (rowByte s) bytes 0 i (omega arith) ∙ sym (over-kept i (omega arith))
+            ]
+
+    -- the first m bytes are the row
+    pub over-take : take (s .plan .cards) (rowOver s bytes) ≡ rowOf s
+    unfolding rowOver
+    over-take = take-at (rowOf s) (drop (s .plan .cards) bytes) (s .plan .cards) row-length
 
 -- ---- the row of a state that is not refused
 

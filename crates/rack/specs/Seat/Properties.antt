@@ -16,7 +16,7 @@ use Rattle.laws.specs.First.Properties.{first-none, first-cong, first-skip, fir
 use Rattle.laws.specs.Ranking.{sooner}
 use Rattle.laws.specs.Ranking.Properties.{rank-cong}
 use Rattle.laws.specs.Written.{written}
-use Rattle.laws.specs.Written.Properties.{written-none, written-suc, written-again, written-cong, written-set, stored-at, stored-most}
+use Rattle.laws.specs.Written.Properties.{written-none, written-suc, written-again, written-cong, written-length, written-set, stored-at, stored-most}
 use Rattle.plan.specs.declared.Plan.{Plan}
 use Rattle.plan.specs.Order.{budgetOf, InOrder}
 use Rattle.layout.specs.Cards.{cardsBelow}
@@ -26,12 +26,12 @@ use Rattle.layout.specs.Layout.Properties.{first-start, first-next, last-most}
 use Rattle.plan.specs.declared.Kind.{Kind}
 use Rattle.unit.specs.declared.Unit.{Unit}
 use Rattle.rack.specs.declared.State.{State}
-use Rattle.rack.specs.State.{unitOf, kindAt}
+use Rattle.rack.specs.State.{lastClock, unitOf, kindAt}
 use Rattle.rack.specs.Form.{Ready}
 use Rattle.rack.specs.Rank.{due, working, active, outranks, rank, served}
 use Rattle.rack.specs.Rank.Properties.{working-left, idle-left, active-is, active-idle, served-rank, idle-unserved, unserved-rank}
 use Rattle.rack.specs.Row.{takes, rowByte, rowOver}
-use Rattle.rack.specs.Row.Properties.{lowest-held, lowest-cards, takes-card, card-takes, takes-served, takes-below, one-kind}
+use Rattle.rack.specs.Row.Properties.{lowest-held, lowest-cards, takes-card, card-takes, takes-served, takes-below, one-kind, over-written}
 use Rattle.seats.specs.Seats.{at, rankBy, seatAt, seatBy, seatsBy}
 use Rattle.seats.specs.Seats.Properties.{seats-found}
 use Rattle.rack.specs.Seat.{idle, seated, worksFor, worksOf, seatsOf, lowest, seatOf}
@@ -159,7 +159,7 @@ module _ (s : State) (r : Ready s) where
   pub project-small : (i : ℕ) → i < kinds → project i < 8
   project-small i l = omega (arith, its-project i l, r .order .counts .projects-most)
 
-  pub clock-small : (i : ℕ) → i < kinds → unitOf s i .at ≤ 1000000000
+  pub clock-small : (i : ℕ) → i < kinds → unitOf s i .at ≤ lastClock
   clock-small i l = omega (arith, r .form .unit-at i (omega (arith, r .order .counts .kinds-most)) l .release-clock, r .form .clock-most)
 
   pub seats-are : (works dues lows seats : List ℕ) (n : ℕ) → n ≤ kinds → kinds ≤ n → works ≡ written n (worksOf s) (replicate 16 0) → dues ≡ written n (due s) (replicate 16 0) → lows ≡ written (s .plan .projects + 1) low (replicate 9 0) → seats ≡ seatsBy works dues lows kinds → seats ≡ seatsOf s
@@ -237,10 +237,11 @@ module _ (s : State) (r : Ready s) where
 
     -- what is stored is the row
     pub row-seated : seated seat kinds (written (s .plan .cards) idle bytes) ≡ rowOver s bytes
-    unfolding rowOver rowByte filled
+    unfolding rowByte filled
     row-seated =
         seated-filled kinds (omega arith)
         ∙ written-cong (s .plan .cards) (filled kinds) (rowByte s) bytes (λ card q. first-cong kinds (λ number. eqb (seat (pred number)) (card + 1)) (λ number. takes s (pred number) card) (same card))
+        ∙ over-written s bytes room
       where
         same : (card number : ℕ) → 0 < number → number ≤ kinds → eqb (seat (pred number)) (card + 1) ≡ takes s (pred number) card
         same card zero p q = absurd (omega arith)
@@ -268,12 +269,16 @@ module _ (seat : List ℕ) (i : ℕ) (bytes m : List ℕ) where
   pub seated-stop : (n : ℕ) → m ≡ seated (at seat) i bytes → i ≤ n → n ≤ i → m ≡ seated (at seat) n bytes
   seated-stop n e a b = let q : i ≡ n = omega arith in e ∙ ap (λ (k : ℕ). seated (at seat) k bytes) q
 
--- every seat is one of the cards, of which there are no more than n
-pub seats-room : (s : State) → Ready s → (seats : List ℕ) (n : ℕ) → seats ≡ seatsOf s → s .plan .cards ≤ n → (k : ℕ) → at seats k ≤ n
-unfolding seatsOf
-seats-room s r seats n e l k = rw e (stored-most (s .plan .kinds) 16 n (seatOf s) (λ i q. omega (arith, seat-most s r i q)) (r .order .counts .kinds-most) k)
+-- ---- the row written: the cards are cleared, and the kinds seated
 
--- clearing the cards and seating the kinds writes the row
-pub row-written : (s : State) → Ready s → (seats bytes cleared after : List ℕ) → s .plan .cards ≤ length bytes → seats ≡ seatsOf s → cleared ≡ written (s .plan .cards) idle bytes → after ≡ seated (at seats) (s .plan .kinds) cleared → after ≡ rowOver s bytes
-row-written s r seats bytes cleared after room es ec ea =
-    ea ∙ ap (λ (l : List ℕ). seated (at seats) (s .plan .kinds) l) ec ∙ row-seated s r (at seats) (λ k l. ap (λ (m : List ℕ). at m k) es ∙ seats-at s r k l) bytes room
+module _ (s : State) (r : Ready s) (seats bytes cleared : List ℕ) (room : s .plan .cards ≤ length bytes) (es : seats ≡ seatsOf s) (ec : cleared ≡ written (s .plan .cards) idle bytes) where
+  -- every seat is a place of the lent row
+  pub seats-fit : (k : ℕ) → at seats k ≤ length cleared
+  unfolding seatsOf
+  seats-fit k =
+      let l : length cleared ≡ length bytes = ap length ec ∙ written-length (s .plan .cards) idle bytes in
+      rw es (stored-most (s .plan .kinds) 16 (length cleared) (seatOf s) (λ i q. omega (arith, seat-most s r i q)) (r .order .counts .kinds-most) k)
+
+  pub row-written : (after : List ℕ) → after ≡ seated (at seats) (s .plan .kinds) cleared → after ≡ rowOver s bytes
+  row-written after ea =
+      ea ∙ ap (λ (l : List ℕ). seated (at seats) (s .plan .kinds) l) ec ∙ row-seated s r (at seats) (λ k l. ap (λ (m : List ℕ). at m k) es ∙ seats-at s r k l) bytes room

@@ -6,8 +6,8 @@ use native.Mathlib.Omega.{arith}
 use borrow.Author.Needs.{needs}
 use Rattle.laws.specs.Written.{written}
 use Rattle.laws.specs.Written.Properties.{written-none}
-use Rattle.rack.specs.Slice.{unitAfter}
-use Rattle.rack.specs.Slice.Properties.{lowered-not, lowered-some, lowered-one, advanced-is}
+use Rattle.rack.specs.Advance.{unitAfter}
+use Rattle.rack.specs.Advance.Properties.{lowered-not, lowered-some, lowered-one, advanced-is}
 use Rattle.rack.proofs.State.advanced.Statement.{statement}
 use Rattle.rack.proofs.State.advanced.Tie as tie
 

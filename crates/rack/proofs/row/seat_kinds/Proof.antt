@@ -1,4 +1,4 @@
--- `rack::slice::seat_kinds` meets its contract.
+-- `rack::row::seat_kinds` meets its contract.
 -- Assumes nothing.
 use mathlib.Core.Path.{_≡_, refl}
 use Prim.Native.Nat.{_≤_, _-_}
@@ -8,8 +8,8 @@ use lib.ListN.{length}
 use Rattle.seats.specs.Seats.{at}
 use Rattle.rack.specs.Seat.{seated}
 use Rattle.rack.specs.Seat.Properties.{seated-none, seated-idle, seated-more, seated-stop}
-use Rattle.rack.proofs.slice.seat_kinds.Statement.{statement}
-use Rattle.rack.proofs.slice.seat_kinds.Tie as tie
+use Rattle.rack.proofs.row.seat_kinds.Statement.{statement}
+use Rattle.rack.proofs.row.seat_kinds.Tie as tie
 
 abbrev Inv-loop : tie.InvT-loop
 Inv-loop out₀ seat kinds i₀ out i = (i ≤ kinds) × (length out ≡ length out₀) × (out ≡ seated (at seat) i out₀)

@@ -1,4 +1,4 @@
--- `rack::slice::clear` meets its contract.
+-- `rack::row::clear` meets its contract.
 -- Assumes nothing.
 use Rattle.rack.specs.Seat.Properties.{cleared-again}
 use mathlib.Core.Path.{_≡_, refl}
@@ -9,8 +9,8 @@ use lib.ListN.{length}
 use Rattle.laws.specs.Written.{written}
 use Rattle.laws.specs.Written.Properties.{written-none, written-stop}
 use Rattle.rack.specs.Seat.{idle}
-use Rattle.rack.proofs.slice.clear.Statement.{statement}
-use Rattle.rack.proofs.slice.clear.Tie as tie
+use Rattle.rack.proofs.row.clear.Statement.{statement}
+use Rattle.rack.proofs.row.clear.Tie as tie
 
 abbrev Inv-loop : tie.InvT-loop
 Inv-loop out₀ cards card₀ out card = (card ≤ cards) × (cards ≤ length out₀) × (length out ≡ length out₀) × (out ≡ written card idle out₀)

@@ -1,10 +1,10 @@
--- `rack::slice::works_for` meets its contract.
+-- `rack::row::works_for` meets its contract.
 -- Assumes nothing.
 use Rattle.laws.specs.Tests.{tests}
 use Rattle.rack.specs.Seat.{worksFor}
 use borrow.Author.Needs.{needs}
-use Rattle.rack.proofs.slice.works_for.Statement.{statement}
-use Rattle.rack.proofs.slice.works_for.Tie as tie
+use Rattle.rack.proofs.row.works_for.Statement.{statement}
+use Rattle.rack.proofs.row.works_for.Tie as tie
 
 returns : tie.Need-returns
 unfolding worksFor

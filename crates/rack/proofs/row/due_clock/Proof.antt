@@ -1,8 +1,8 @@
--- `rack::slice::due_clock` meets its contract.
+-- `rack::row::due_clock` meets its contract.
 -- Assumes nothing.
 use borrow.Author.Needs.{needs}
-use Rattle.rack.proofs.slice.due_clock.Statement.{statement}
-use Rattle.rack.proofs.slice.due_clock.Tie as tie
+use Rattle.rack.proofs.row.due_clock.Statement.{statement}
+use Rattle.rack.proofs.row.due_clock.Tie as tie
 
 cast-result : tie.Need-cast-result
 cast-result c = search needs

@@ -1,4 +1,4 @@
--- `rack::slice::lowest_cards` meets its contract.
+-- `rack::row::lowest_cards` meets its contract.
 -- Assumes nothing.
 use mathlib.Core.Path.{_≡_, refl, sym}
 use Prim.Native.Nat.{_≤_, _-_, _+_}
@@ -11,8 +11,8 @@ use Rattle.layout.specs.Layout.{firstCell}
 use Rattle.layout.specs.Layout.Properties.{first-start}
 use Rattle.rack.specs.Seat.{lowest}
 use Rattle.rack.specs.Seat.Properties.{slice-small, lowest-start, cell-small, cell-next, lowest-next, lowest-small}
-use Rattle.rack.proofs.slice.lowest_cards.Statement.{statement}
-use Rattle.rack.proofs.slice.lowest_cards.Tie as tie
+use Rattle.rack.proofs.row.lowest_cards.Statement.{statement}
+use Rattle.rack.proofs.row.lowest_cards.Tie as tie
 
 abbrev Inv-loop : tie.InvT-loop
 Inv-loop clock plan slice low₀ cell₀ j₀ j-end low cell j = (j ≤ j-end) × (j-end ≡ plan .projects) × (cell ≡ firstCell plan j) × (low ≡ written (j + 1) (lowest plan clock) (replicate 9 0))

@@ -1,0 +1,110 @@
+-- Laws of the state that follows: the steps of the loop that lowers what is left, and that it is in form.
+-- Assumes nothing.
+use mathlib.Core.Path.{_≡_, refl, sym, ap, _∙_}
+use mathlib.Core.Bool.{Bool, true, false}
+use mathlib.Core.List.{List}
+use Prim.Native.Nat.{ℕ, _+_, _-_, _≤_, _<_}
+use native.Mathlib.Omega.{arith}
+use lib.ListN.{length, getD, set}
+use Rattle.laws.specs.Written.{written}
+use Rattle.laws.specs.Written.Properties.{written-again, written-at, written-kept, written-length, written-stop, written-same}
+use Rattle.unit.specs.declared.Unit.{Unit}
+use Rattle.unit.specs.Unit.{noUnit}
+use Rattle.unit.specs.Form.{UnitInForm}
+use Rattle.rack.specs.declared.State.{State}
+use Rattle.rack.specs.State.{unitOf, kindAt}
+use Rattle.rack.specs.Form.{Ready}
+use Rattle.rack.specs.Rank.{served}
+use Rattle.rack.specs.Rank.Properties.{served-working, working-left}
+use Rattle.seats.specs.Seats.{at}
+use Rattle.rack.specs.Seat.{seatsOf, seatOf}
+use Rattle.rack.specs.Seat.Properties.{seat-served, seat-unserved, seats-at}
+use Rattle.rack.specs.Advance.{Advanceable, unitAfter, advanced}
+
+-- ---- a kind's unit after it
+
+pub after-served : (s : State) (i : ℕ) → served s i ≡ true → unitAfter s i ≡ record { released = unitOf s i .released; at = unitOf s i .at; left = unitOf s i .left - 1 }
+unfolding unitAfter
+after-served s i e = rw e
+
+pub after-unserved : (s : State) (i : ℕ) → served s i ≡ false → unitAfter s i ≡ unitOf s i
+unfolding unitAfter
+after-unserved s i e = rw e (λ k. record { released = unitOf s i .released; at = unitOf s i .at; left = none k })
+  where
+    none : unitOf s i .left - 0 ≡ unitOf s i .left
+    none = omega arith
+
+-- ---- the steps of a loop that lowers what is left, by the seats
+
+module _ (s : State) (r : Ready s) (seat : List ℕ) (es : seat ≡ seatsOf s) (units : List Unit) (i : ℕ) (so-far : units ≡ written i (unitAfter s) (s .unit)) (l : i < s .plan .kinds) where
+  here : at seat i ≡ seatOf s i
+  here = ap (λ (m : List ℕ). at m i) es ∙ seats-at s r i l
+
+  not-seated : at seat i ≡ 0 → served s i ≡ false
+  not-seated z = go (served s i) refl
+    where
+      go : (b : Bool) → served s i ≡ b → served s i ≡ false
+      go true e = absurd (omega (arith, here, seat-served s i e))
+      go false e = e
+
+  is-seated : (at seat i ≡ 0 → ⊥) → served s i ≡ true
+  is-seated z = go (served s i) refl
+    where
+      go : (b : Bool) → served s i ≡ b → served s i ≡ true
+      go true e = e
+      go false e = absurd (z (omega (arith, here, seat-unserved s i e)))
+
+  unit-here : getD units i noUnit ≡ unitOf s i
+  unit-here = ap (λ (m : List Unit). getD m i noUnit) so-far ∙ written-kept i (unitAfter s) (s .unit) noUnit i (omega arith)
+
+  pub lowered-not : at seat i ≡ 0 → units ≡ written (i + 1) (unitAfter s) (s .unit)
+  lowered-not z = written-same i (unitAfter s) (s .unit) units noUnit so-far (after-unserved s i (not-seated z))
+
+  pub lowered-some : (at seat i ≡ 0 → ⊥) → 0 < getD units i noUnit .left
+  lowered-some z = omega (arith, ap (λ (v : Unit). v .left) unit-here, working-left s i (served-working s i (is-seated z)))
+
+  pub lowered-one : (at seat i ≡ 0 → ⊥) → set units i (record { released = getD units i noUnit .released; at = getD units i noUnit .at; left = getD units i noUnit .left - 1 }) ≡ written (i + 1) (unitAfter s) (s .unit)
+  lowered-one z =
+      written-again i (unitAfter s) (s .unit) units (record { released = getD units i noUnit .released; at = getD units i noUnit .at; left = getD units i noUnit .left - 1 }) so-far (ap (λ (v : Unit). lower v) unit-here ∙ sym (after-served s i (is-seated z)))
+    where
+      lower : Unit → Unit
+      lower v = record { released = v .released; at = v .at; left = v .left - 1 }
+
+-- and the clock
+pub advanced-is : (s t : State) (n : ℕ) → t .plan ≡ s .plan → t .clock ≡ s .clock → t .unit ≡ written n (unitAfter s) (s .unit) → n ≤ s .plan .kinds → s .plan .kinds ≤ n → record { plan = t .plan; clock = t .clock + 1; unit = t .unit } ≡ advanced s
+unfolding advanced
+advanced-is s t n p q u a b = λ k. record { plan = p k; clock = q k + 1; unit = written-stop n (s .plan .kinds) (unitAfter s) (s .unit) (t .unit) u a b k }
+
+-- ---- it is in form
+
+module _ (s : State) (may : Advanceable s) (places : length (s .unit) ≡ 16) where
+  pub unit-after : (i : ℕ) → i < s .plan .kinds → unitOf (advanced s) i ≡ unitAfter s i
+  unfolding advanced
+  unit-after i l = written-at (s .plan .kinds) (unitAfter s) (s .unit) noUnit i l (omega (arith, may .ready .order .counts .kinds-most))
+
+  unit-unused : (i : ℕ) → s .plan .kinds ≤ i → unitOf (advanced s) i ≡ unitOf s i
+  unfolding advanced
+  unit-unused i l = written-kept (s .plan .kinds) (unitAfter s) (s .unit) noUnit i l
+
+  pub advance-places : length (advanced s .unit) ≡ 16
+  unfolding advanced
+  advance-places = written-length (s .plan .kinds) (unitAfter s) (s .unit) ∙ places
+
+  in-form-after : (i : ℕ) → UnitInForm (s .clock) (kindAt s i .length) (unitOf s i) → UnitInForm (s .clock + 1) (kindAt s i .length) (unitAfter s i)
+  unfolding unitAfter
+  in-form-after i u = record {
+    release-clock = omega (arith, u .release-clock);
+    left-most = omega (arith, u .left-most);
+    never = λ n. (u .never n .0, omega (arith, u .never n .1));
+  }
+
+  pub advance-form : Ready (advanced s)
+  unfolding advanced
+  advance-form = record {
+    order = may .ready .order;
+    form = record {
+      clock-most = omega (arith, may .time);
+      unit-at = λ i l m. rw (unit-after i m) (in-form-after i (may .ready .form .unit-at i l m));
+      unused = λ i l m. unit-unused i m ∙ may .ready .form .unused i l m;
+    };
+  }

@@ -17,12 +17,13 @@ use Rattle.layout.specs.Table.{tableAnswer, tableLength}
 use Rattle.verdict.specs.Verdict.{widthOf, excessOf, fitted, admitted, judged}
 use Rattle.unit.specs.Start.{early, startable}
 use Rattle.rack.specs.declared.State.{State}
-use Rattle.rack.specs.State.{unitOf, kindAt}
+use Rattle.rack.specs.State.{lastClock, unitOf, kindAt}
 use Rattle.rack.specs.Form.{inForm, ready}
 use Rattle.rack.specs.Rank.{gone}
 use Rattle.rack.specs.Start.{startAnswer}
 use Rattle.rack.specs.Release.{releaseAnswer}
-use Rattle.rack.specs.Slice.{roomAndTime, sliceAnswer}
+use Rattle.rack.specs.Advance.{timeLeft}
+use Rattle.rack.specs.Slice.{roomFor, sliceAnswer}
 
 -- ---- the record order
 
@@ -95,5 +96,5 @@ release-excess s i e =
 
 -- `State::slice`
 pub slice-excess : (s : State) (room : ℕ) → ExcessKept (sliceAnswer s room)
-unfolding sliceAnswer roomAndTime
-slice-excess s room = andThen-kept _ _ (ready-excess s) (andThen-kept _ _ (refuse-kept (ltb room (s .plan .cards)) _ (bare-kept 9)) (refuse-kept (eqb (s .clock) 1000000000) _ (bare-kept 11)))
+unfolding sliceAnswer roomFor timeLeft
+slice-excess s room = andThen-kept _ _ (ready-excess s) (andThen-kept _ _ (refuse-kept (ltb room (s .plan .cards)) _ (bare-kept 9)) (refuse-kept (eqb (s .clock) lastClock) _ (bare-kept 11)))

@@ -19,7 +19,8 @@ use Rattle.rack.specs.Rank.{due, until, served}
 use Rattle.rack.specs.Rank.Properties.{working-left, served-working}
 use Rattle.rack.specs.Release.{released, releaseAnswer}
 use Rattle.rack.specs.Release.Properties.{release-says, release-unit, release-others}
-use Rattle.rack.specs.Slice.{advanced, sliceAnswer}
+use Rattle.rack.specs.Advance.{advanced}
+use Rattle.rack.specs.Slice.{sliceAnswer}
 use Rattle.rack.specs.Slice.Properties.{slice-says}
 use Rattle.demands.specs.Run.{Call, runFrom, Accepted, rowWritten, slicesOf}
 use Rattle.demands.specs.Run.Properties.{along, now-at, run-clock, run-plan}
@@ -29,7 +30,7 @@ use Rattle.demands.specs.View.{cardsFrom}
 use Rattle.demands.specs.View.Properties.{until-gone}
 use Rattle.demands.specs.View.Steps.{sliced-released, sliced-left, sliced-until, new-until, kept-until}
 use Rattle.demands.specs.Safe.{Safe}
-use Rattle.demands.specs.Safe.Properties.{safe-unit, safe-left, slice-safe, release-safe, run-safe}
+use Rattle.demands.specs.Safe.Properties.{safe-unit, safe-left, advance-safe, release-safe, run-safe}
 
 -- with so much left, due in so many slices: in the rows until then kind i is named no more often, and no less but for the slices to come
 pub record OnTime (i left t : ℕ) (slices : List Accepted) : Type 0 where
@@ -79,10 +80,10 @@ module _ (i : ℕ) where
   step-slice : (s end : State) (bytes : List ℕ) (slices : List Accepted) → sliceAnswer s (length bytes) ≡ Good → Claim (advanced s) slices end → Claim s (record { before = s; row = rowWritten s bytes } ∷ slices) end
   unfolding advanced
   step-slice s end bytes slices good h u =
-      let may = slice-says s (length bytes) good in
-      let next : Under i (advanced s) = record { safe = slice-safe s (u .safe) (length bytes) good; its-kind = u .its-kind; released = sliced-released s (length bytes) may (u .safe .places) i (u .its-kind) ∙ u .released } in
+      let may = slice-says s (length bytes) good .advance in
+      let next : Under i (advanced s) = record { safe = advance-safe s (u .safe) may; its-kind = u .its-kind; released = sliced-released s may (u .safe .places) i (u .its-kind) ∙ u .released } in
       one-more i (unitOf s i .left) (until s i) (cond (served s i) 1 0) (record { before = s; row = rowWritten s bytes }) slices (safe-left s (u .safe) i (u .its-kind)) (kind-named (s .plan) (λ j. cardsFrom s j 0) (record { before = s; row = rowWritten s bytes }) (now-at s bytes good) i (u .its-kind)) (served-left s i)
-      (rw (← (sliced-left s (length bytes) may (u .safe .places) i (u .its-kind)), ← (sliced-until s (length bytes) may (u .safe .places) i (u .its-kind))) (h next))
+      (rw (← (sliced-left s may (u .safe .places) i (u .its-kind)), ← (sliced-until s may (u .safe .places) i (u .its-kind))) (h next))
 
   -- where the kind is released again, its unit's deadline has come
   again : (s : State) (e : ℕ) → releaseAnswer s i e ≡ Good → Under i s → until s i ≡ 0

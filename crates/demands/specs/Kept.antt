@@ -23,7 +23,8 @@ use Rattle.rack.specs.Start.Properties.{start-good}
 use Rattle.rack.specs.Rank.{gone, activeKinds}
 use Rattle.unit.specs.Start.{early}
 use Rattle.rack.specs.Release.{released, releaseAnswer, releaseOf}
-use Rattle.rack.specs.Slice.{sliceAnswer, advanced, sliceOf}
+use Rattle.rack.specs.Advance.{advanced}
+use Rattle.rack.specs.Slice.{sliceAnswer, sliceOf}
 use Rattle.demands.specs.Run.{Call, slice, release, nextAfter, runFrom, after, noSlice, slicesOf, rowWritten}
 use Rattle.demands.specs.Since.{never, sinceFrom, fewer}
 use Rattle.demands.specs.Run.Properties.{run-clock, run-plan, At, slices-at}

@@ -12,14 +12,15 @@ use Rattle.answer.specs.declared.Refusal.the-variants.{Bare}
 use Rattle.answer.specs.Answer.{number, refuse, _andThen_}
 use Rattle.plan.specs.Order.{within}
 use Rattle.rack.specs.declared.State.{State}
-use Rattle.rack.specs.State.{unitOf, kindAt}
+use Rattle.rack.specs.State.{lastClock, unitOf, kindAt}
 use Rattle.rack.specs.Form.{ready}
 use Rattle.rack.specs.Form.Properties.{ready-of}
 use Rattle.rack.specs.Rank.{gone}
 use Rattle.unit.specs.Start.{early, startable}
 use Rattle.rack.specs.Release.{releaseAnswer}
 use Rattle.unit.specs.Start.Properties.{early-says}
-use Rattle.rack.specs.Slice.{roomAndTime, sliceAnswer}
+use Rattle.rack.specs.Advance.{timeLeft}
+use Rattle.rack.specs.Slice.{roomFor, sliceAnswer}
 use Rattle.demands.specs.Safe.{Safe}
 use Rattle.demands.specs.Safe.Properties.{safe-none-left}
 
@@ -96,13 +97,13 @@ module _ (s : State) (safe : Safe s) where
   -- ---- a slice
 
   module _ (room : ℕ) where
-    slice-told : number (sliceAnswer s room) ≡ number (refuse (ltb room (s .plan .cards)) (Bare 9) andThen refuse (eqb (s .clock) 1000000000) (Bare 11))
-    unfolding sliceAnswer roomAndTime
+    slice-told : number (sliceAnswer s room) ≡ number (refuse (ltb room (s .plan .cards)) (Bare 9) andThen refuse (eqb (s .clock) lastClock) (Bare 11))
+    unfolding sliceAnswer roomFor timeLeft
     slice-told = rw is-ready
 
     -- 9, 11 or none
     pub slice-not : (n : ℕ) → 0 < n → n ≢ 9 → n ≢ 11 → number (sliceAnswer s room) ≢ n
-    slice-not n p q r h = go (ltb room (s .plan .cards)) (eqb (s .clock) 1000000000) (sym slice-told ∙ h)
+    slice-not n p q r h = go (ltb room (s .plan .cards)) (eqb (s .clock) lastClock) (sym slice-told ∙ h)
       where
         go : (a b : Bool) → number (refuse a (Bare 9) andThen refuse b (Bare 11)) ≡ n → ⊥
         go true b e = q (sym e)

@@ -11,7 +11,8 @@ use Rattle.rack.specs.declared.State.{State}
 use Rattle.rack.specs.State.{unitOf}
 use Rattle.rack.specs.Rank.{served}
 use Rattle.rack.specs.Rank.Properties.{served-working, working-left}
-use Rattle.rack.specs.Slice.{sliceAnswer, advanced}
+use Rattle.rack.specs.Advance.{advanced}
+use Rattle.rack.specs.Slice.{sliceAnswer}
 use Rattle.rack.specs.Slice.Properties.{slice-says}
 use Rattle.demands.specs.Run.{rowWritten}
 use Rattle.demands.specs.Run.Properties.{now-at}
@@ -23,7 +24,7 @@ use Rattle.demands.specs.View.Steps.{sliced-left}
 
 module _ (s : State) (safe : Safe s) (bytes : List ℕ) (good : sliceAnswer s (length bytes) ≡ Good) (i : ℕ) (l : i < s .plan .kinds) where
   falls : unitOf (advanced s) i .left ≡ unitOf s i .left - cond (served s i) 1 0
-  falls = sliced-left s (length bytes) (slice-says s (length bytes) good) (safe .places) i l
+  falls = sliced-left s (slice-says s (length bytes) good .advance) (safe .places) i l
 
   named : bytesIn (namesKind i) (rowWritten s bytes) ≡ cond (served s i) 1 0
   named = kind-named (s .plan) (λ j. cardsFrom s j 0) (record { before = s; row = rowWritten s bytes }) (now-at s bytes good) i l

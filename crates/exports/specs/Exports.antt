@@ -18,7 +18,8 @@ use Rattle.verdict.specs.Verdict.{judged}
 use Rattle.rack.specs.State.{freshOf}
 use Rattle.rack.specs.Start.{startAnswer}
 use Rattle.rack.specs.Release.{releaseAnswer, released}
-use Rattle.rack.specs.Slice.{sliceAnswer, advanced}
+use Rattle.rack.specs.Advance.{advanced}
+use Rattle.rack.specs.Slice.{sliceAnswer}
 use Rattle.rack.specs.Row.{rowOver}
 use Rattle.images.specs.Image.{planFrom, planImage, stateFrom, stateImage, releasedTold}
 use Rattle.images.specs.Lent.{room}

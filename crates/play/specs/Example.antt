@@ -30,7 +30,8 @@ use Rattle.rack.specs.Rank.{gone, due, working, active, outranks, rank, served}
 use Rattle.rack.specs.Row.{holds, cardsBefore, takes, rowByte}
 use Rattle.rack.specs.Start.{startAnswer, startOf}
 use Rattle.rack.specs.Release.{releaseAnswer, released, releaseOf}
-use Rattle.rack.specs.Slice.{unitAfter, advanced, roomAndTime, sliceAnswer, sliceOf}
+use Rattle.rack.specs.Advance.{unitAfter, advanced, timeLeft}
+use Rattle.rack.specs.Slice.{roomFor, sliceAnswer, sliceOf}
 use Rattle.commands.specs.Command.{commandFields, fieldsSay, commandOf}
 use Rattle.lines.specs.Text.{decimalIn, decimal}
 use Rattle.lines.specs.Line.{planLine, outcome, releaseLine, rowText, sliceLine, endLine}
@@ -47,5 +48,5 @@ abbrev pub output : List ℕ
 output = ascii "plan ok\nr 0 6 ok\nr 1 2 ok\nr 2 2 ok\nt 0: 1 2\nt 1: 1 2\nt 2: 1 3\nt 3: 3 0\nr 1 2 ok\nr 2 1 refused 14\nend 4\n"
 
 pub example : played input ≡ output
-unfolding sumTo leastTo firstTo countTo allTo written rankIn firstIn sooner eachTo within sized emptyProject emptyKind tidyProjects tidyKinds inRange timed budgets sizes unused projectsInRange kindInRange kindsInRange budgetsFit ranges checked bits unpack numberTo size partsTo headerFields projectFields kindFields projectFrom kindFrom projectsFrom kindsFrom headed decoded headerSpare projectSpare kindSpare projectsSpare kindsSpare placesSpare spareZero bodyAnswer readAnswer readOf cellAt firstCell owns held window supply workloadPart fitsAt leastWidth excessAt leastExcess besides partOf workload widthOf excessOf fitted admitted untouched underway unitInForm emptyUnit early startable inForm ready gone due working active outranks rank served holds cardsBefore takes rowByte startAnswer startOf releaseAnswer released releaseOf unitAfter advanced roomAndTime sliceAnswer sliceOf commandFields fieldsSay commandOf decimalIn decimal planLine outcome releaseLine rowText sliceLine endLine lineOf after turns opening played
+unfolding sumTo leastTo firstTo countTo allTo written rankIn firstIn sooner eachTo within sized emptyProject emptyKind tidyProjects tidyKinds inRange timed budgets sizes unused projectsInRange kindInRange kindsInRange budgetsFit ranges checked bits unpack numberTo size partsTo headerFields projectFields kindFields projectFrom kindFrom projectsFrom kindsFrom headed decoded headerSpare projectSpare kindSpare projectsSpare kindsSpare placesSpare spareZero bodyAnswer readAnswer readOf cellAt firstCell owns held window supply workloadPart fitsAt leastWidth excessAt leastExcess besides partOf workload widthOf excessOf fitted admitted untouched underway unitInForm emptyUnit early startable inForm ready gone due working active outranks rank served holds cardsBefore takes rowByte startAnswer startOf releaseAnswer released releaseOf unitAfter advanced timeLeft roomFor sliceAnswer sliceOf commandFields fieldsSay commandOf decimalIn decimal planLine outcome releaseLine rowText sliceLine endLine lineOf after turns opening played
 example = refl

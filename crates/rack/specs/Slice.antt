@@ -1,6 +1,5 @@
 -- Document 01, "Slice", and the refusal 9: the row that a state shows goes into a lent row, and the state that follows is handed back.
 -- Assumes nothing.
-use mathlib.Core.Path.{_≡_}
 use Prim.Native.Nat.{ℕ, _≤_}
 use mathlib.Core.List.{List}
 use lib.Dec.{ltb}
@@ -8,6 +7,7 @@ use lib.ListN.{length}
 use Rattle.answer.specs.declared.Answer.{Answer}
 use Rattle.answer.specs.declared.Refusal.the-variants.{Bare}
 use Rattle.answer.specs.Answer.{refuse, _andThen_, ifGood}
+use Rattle.answer.specs.Outcome.{Leaves}
 use Rattle.rack.specs.declared.State.{State}
 use Rattle.rack.specs.declared.Next.{Next}
 use Rattle.rack.specs.State.{nextOf}
@@ -33,9 +33,8 @@ unfoldable pub bufferAfter : State → List ℕ → List ℕ
 bufferAfter s bytes = ifGood (sliceAnswer s (length bytes)) (rowOver s bytes) bytes
 
 -- a slice's whole outcome: what it hands back, and the lent row as it leaves it
-pub record Sliced (s : State) (bytes : List ℕ) (next : Next) (after : List ℕ) : Type 0 where
-  pub result : next ≡ sliceOf s (length bytes)
-  pub buffer : after ≡ bufferAfter s bytes
+abbrev pub Sliced : State → List ℕ → Next → List ℕ → Type 0
+Sliced s bytes next after = Leaves (sliceOf s (length bytes)) (bufferAfter s bytes) next after
 
 -- ---- what a good answer says
 

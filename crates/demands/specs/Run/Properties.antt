@@ -2,21 +2,21 @@
 -- Assumes nothing.
 use mathlib.Core.Path.{_≡_, refl, sym, ap, _∙_}
 use mathlib.Core.List.{List, [], _∷_}
-use Prim.Native.Nat.{ℕ, zero, suc, _+_, _≤_, _<_}
+use Prim.Native.Nat.{ℕ, zero, suc, _+_, _<_}
 use native.Mathlib.Numerals.{one-add}
 use native.Mathlib.Omega.{arith}
-use lib.ListN.{length, getD, take}
-use lib.Seq.{length-take-le, getD-take}
-use Rattle.laws.specs.Written.Properties.{written-at, written-length}
+use lib.ListN.{length, getD}
 use Rattle.plan.specs.declared.Plan.{Plan}
 use Rattle.answer.specs.declared.Answer.{Answer}
 use Rattle.answer.specs.declared.Answer.the-variants.{Good, No}
 use Rattle.layout.specs.Layout.{held}
 use Rattle.rack.specs.declared.State.{State}
 use Rattle.rack.specs.Form.{Ready}
-use Rattle.rack.specs.Row.{rowByte, rowOver}
+use Rattle.rack.specs.Row.{rowByte, rowOf}
+use Rattle.rack.specs.Row.Properties.{row-size, row-shows, over-take}
 use Rattle.rack.specs.Release.{released, releaseAnswer, releaseOf}
-use Rattle.rack.specs.Slice.{advanced, sliceAnswer, sliceOf, bufferAfter}
+use Rattle.rack.specs.Advance.{advanced}
+use Rattle.rack.specs.Slice.{sliceAnswer, sliceOf, bufferAfter}
 use Rattle.rack.specs.Slice.Properties.{slice-says}
 use Rattle.demands.specs.View.{cardsFrom}
 use Rattle.demands.specs.View.Properties.{cards-now, cards-later, cards-kept}
@@ -75,24 +75,15 @@ run-plan = along (λ s slices end. end .plan ≡ s .plan) (λ s. refl) (λ s end
 
 -- the row of an accepted slice is what its state shows, card by card
 module _ (s : State) (bytes : List ℕ) (good : sliceAnswer s (length bytes) ≡ Good) where
-  row-room : s .plan .cards ≤ length bytes
-  row-room = slice-says s (length bytes) good .enough
-
-  row-over : rowWritten s bytes ≡ take (s .plan .cards) (rowOver s bytes)
+  row-is : rowWritten s bytes ≡ rowOf s
   unfolding bufferAfter
-  row-over = rw good
+  row-is = rw good (over-take s bytes)
 
   pub row-length : length (rowWritten s bytes) ≡ s .plan .cards
-  unfolding rowOver
-  row-length =
-      let room = written-length (s .plan .cards) (rowByte s) bytes in
-      rw row-over (length-take-le (s .plan .cards) (rowOver s bytes) (omega (arith, row-room, room)))
+  row-length = ap length row-is ∙ row-size s
 
   pub row-at : (card : ℕ) → card < s .plan .cards → getD (rowWritten s bytes) card 0 ≡ rowByte s card
-  unfolding rowOver
-  row-at card l =
-      rw row-over
-      (getD-take (s .plan .cards) (rowOver s bytes) card 0 l ∙ written-at (s .plan .cards) (rowByte s) bytes 0 card l row-room)
+  row-at card l = ap (λ (row : List ℕ). getD row card 0) row-is ∙ row-shows s card l
 
 -- an accepted slice on a plan, at which each project holds so many cards
 pub record At (p : Plan) (holds : ℕ → ℕ) (w : Accepted) : Type 0 where
@@ -106,7 +97,7 @@ pub now-at : (s : State) (bytes : List ℕ) → sliceAnswer s (length bytes) ≡
 now-at s bytes g = record {
   plan = refl;
   cards = λ j. sym (cards-now s j);
-  ready = slice-says s (length bytes) g .ready;
+  ready = slice-says s (length bytes) g .advance .ready;
   size = row-length s bytes g;
   shows = row-at s bytes g;
 }

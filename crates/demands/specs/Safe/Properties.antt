@@ -21,8 +21,9 @@ use Rattle.rack.specs.Start.{startAnswer, startOf}
 use Rattle.rack.specs.Start.Properties.{start-good, fresh-form, fresh-places}
 use Rattle.rack.specs.Release.{released, releaseAnswer}
 use Rattle.rack.specs.Release.Properties.{release-says, release-form, release-places}
-use Rattle.rack.specs.Slice.{advanced, sliceAnswer}
-use Rattle.rack.specs.Slice.Properties.{slice-says, slice-form, slice-places}
+use Rattle.rack.specs.Advance.{Advanceable, advanced}
+use Rattle.rack.specs.Advance.Properties.{advance-places, advance-form}
+use Rattle.rack.specs.Slice.Properties.{slice-says}
 use Rattle.analysis.specs.Setup.{Own}
 use Rattle.analysis.specs.Reached.{idle, slice, release}
 use Rattle.analysis.specs.InTime.{in-time, next-clear}
@@ -81,15 +82,14 @@ start-admitted p good = good
 pub start-safe : (p : Plan) → startOf p .answer ≡ Good → Safe (startOf p .state)
 start-safe p good = rw (start-good p good) (fresh-safe p (start-admitted p good))
 
-pub slice-safe : (s : State) → Safe s → (room : ℕ) → sliceAnswer s room ≡ Good → Safe (advanced s)
+pub advance-safe : (s : State) → Safe s → Advanceable s → Safe (advanced s)
 unfolding advanced
-slice-safe s safe room good =
-    let may = slice-says s room good in
+advance-safe s safe may =
     record {
       admitted = safe .admitted;
-      ready = slice-form s room may (safe .places);
-      places = slice-places s room may (safe .places);
-      reached = λ j. slice (served s) (safe .reached j) (slice-step s room may (safe .places) j);
+      ready = advance-form s may (safe .places);
+      places = advance-places s may (safe .places);
+      reached = λ j. slice (served s) (safe .reached j) (slice-step s may (safe .places) j);
     }
 
 pub release-safe : (s : State) → Safe s → (k e : ℕ) → releaseAnswer s k e ≡ Good → Safe (released s k e)
@@ -104,7 +104,7 @@ release-safe s safe k e good =
     }
 
 pub run-safe : (calls : List Call) (s : State) → Safe s → Safe (runFrom s calls)
-run-safe = along (λ s slices end. Safe s → Safe end) (λ s h. h) (λ s end bytes slices g h t. h (slice-safe s t (length bytes) g)) (λ s end i e slices g h t. h (release-safe s t i e g))
+run-safe = along (λ s slices end. Safe s → Safe end) (λ s h. h) (λ s end bytes slices g h t. h (advance-safe s t (slice-says s (length bytes) g .advance))) (λ s end i e slices g h t. h (release-safe s t i e g))
 
 -- every state that a run from a fresh start on an admitted plan comes to
 pub after-safe : (p : Plan) → startOf p .answer ≡ Good → (calls : List Call) → Safe (after p calls)

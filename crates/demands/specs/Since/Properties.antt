@@ -20,12 +20,13 @@ use Rattle.rack.specs.Rank.{gone}
 use Rattle.unit.specs.Start.{early}
 use Rattle.rack.specs.Release.{releaseAnswer, released, releaseOf, Releasable}
 use Rattle.rack.specs.Release.Properties.{release-says, release-unit, release-others}
-use Rattle.rack.specs.Slice.{sliceAnswer, advanced, sliceOf}
+use Rattle.rack.specs.Advance.{advanced}
+use Rattle.rack.specs.Slice.{sliceAnswer, sliceOf}
 use Rattle.rack.specs.Slice.Properties.{slice-says}
 use Rattle.demands.specs.Run.{Call, slice, release, nextAfter, runFrom}
 use Rattle.demands.specs.View.Steps.{sliced-released, sliced-gone, new-gone, kept-gone}
 use Rattle.demands.specs.Safe.{Safe}
-use Rattle.demands.specs.Safe.Properties.{slice-safe, release-safe}
+use Rattle.demands.specs.Safe.Properties.{advance-safe, release-safe}
 use Rattle.demands.specs.Since.{Since, never, ago, later, sinceCall, sinceFrom, fewer}
 
 -- the state counts the same of kind i
@@ -65,13 +66,13 @@ module _ (i : ℕ) where
   told-slice : (s : State) (since : Since) (room : ℕ) → Told i s since → sliceAnswer s room ≡ Good → Told i (advanced s) (later since)
   unfolding advanced
   told-slice s since room t good =
-      let may = slice-says s room good in
+      let may = slice-says s room good .advance in
       record {
-        safe = slice-safe s (t .safe) room good;
+        safe = advance-safe s (t .safe) may;
         its-kind = t .its-kind;
         tells =
-            tells-later s (advanced s) i since (sliced-released s room may (t .safe .places) i (t .its-kind))
-            (sliced-gone s room may (t .safe .places) i (t .its-kind)) (t .tells);
+            tells-later s (advanced s) i since (sliced-released s may (t .safe .places) i (t .its-kind))
+            (sliced-gone s may (t .safe .places) i (t .its-kind)) (t .tells);
       }
 
   told-release : (s : State) (since : Since) (k e : ℕ) → Told i s since → releaseAnswer s k e ≡ Good → Told i (released s k e) (cond (eqb k i) (ago 0) since)

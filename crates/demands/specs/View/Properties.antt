@@ -24,7 +24,7 @@ use Rattle.rack.specs.declared.State.{State}
 use Rattle.rack.specs.State.{unitOf, kindAt}
 use Rattle.rack.specs.Rank.{gone, due, until}
 use Rattle.rack.specs.Release.{released}
-use Rattle.rack.specs.Slice.{advanced}
+use Rattle.rack.specs.Advance.{advanced}
 use Rattle.analysis.specs.Setup.{Own, Timed, other}
 use Rattle.analysis.specs.Moment.{Supplied}
 use Rattle.analysis.specs.Moment.Properties.{window-same}

@@ -12,8 +12,8 @@ use Rattle.rack.specs.State.{unitOf, kindAt}
 use Rattle.rack.specs.Rank.{gone, due, until, served}
 use Rattle.rack.specs.Release.{released, Releasable}
 use Rattle.rack.specs.Release.Properties.{release-unit, release-others}
-use Rattle.rack.specs.Slice.{unitAfter, advanced, Sliceable}
-use Rattle.rack.specs.Slice.Properties.{unit-after}
+use Rattle.rack.specs.Advance.{Advanceable, unitAfter, advanced}
+use Rattle.rack.specs.Advance.Properties.{unit-after}
 use Rattle.analysis.specs.Step.{Slice, Release}
 use Rattle.analysis.specs.EarliestFirst.{noLater}
 use Rattle.demands.specs.View.{setupOf, waitOf, momentOf}
@@ -22,19 +22,19 @@ use Rattle.demands.specs.View.Ranks.{view-serves}
 
 -- ---- a slice
 
-module _ (s : State) (room : ℕ) (may : Sliceable s room) (places : length (s .unit) ≡ 16) where
+module _ (s : State) (may : Advanceable s) (places : length (s .unit) ≡ 16) where
   module _ (i : ℕ) (l : i < s .plan .kinds) where
     pub sliced-released : unitOf (advanced s) i .released ≡ unitOf s i .released
     unfolding unitAfter
-    sliced-released = ap (λ (v : Unit). v .released) (unit-after s room may places i l)
+    sliced-released = ap (λ (v : Unit). v .released) (unit-after s may places i l)
 
     sliced-at : unitOf (advanced s) i .at ≡ unitOf s i .at
     unfolding unitAfter
-    sliced-at = ap (λ (v : Unit). v .at) (unit-after s room may places i l)
+    sliced-at = ap (λ (v : Unit). v .at) (unit-after s may places i l)
 
     pub sliced-left : unitOf (advanced s) i .left ≡ unitOf s i .left - cond (served s i) 1 0
     unfolding unitAfter
-    sliced-left = ap (λ (v : Unit). v .left) (unit-after s room may places i l)
+    sliced-left = ap (λ (v : Unit). v .left) (unit-after s may places i l)
 
     pub sliced-gone : gone (advanced s) i ≡ gone s i + 1
     unfolding gone advanced

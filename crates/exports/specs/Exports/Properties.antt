@@ -38,7 +38,8 @@ use Rattle.rack.specs.Rank.{gone}
 use Rattle.rack.specs.Start.{startAnswer, startOf}
 use Rattle.unit.specs.Start.{startable}
 use Rattle.rack.specs.Release.{releaseAnswer, released, releaseOf}
-use Rattle.rack.specs.Slice.{sliceAnswer, sliceOf, advanced, bufferAfter, Sliced}
+use Rattle.rack.specs.Advance.{advanced}
+use Rattle.rack.specs.Slice.{sliceAnswer, sliceOf, bufferAfter, Sliced}
 use Rattle.rack.specs.Row.{rowOver}
 use Rattle.images.specs.declared.PlanFound.{PlanFound}
 use Rattle.images.specs.declared.StateFound.{StateFound}

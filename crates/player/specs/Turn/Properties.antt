@@ -5,7 +5,6 @@ use mathlib.Core.List.{List, _++_}
 use Prim.Native.Nat.{ℕ, zero, suc, _+_, _≤_, _<_, min}
 use native.Mathlib.Omega.{arith}
 use lib.ListN.{length, getD, replicate}
-use Rattle.laws.specs.Written.Properties.{written-at}
 use Rattle.answer.specs.declared.Answer.{Answer}
 use Rattle.answer.specs.declared.Answer.the-variants.{Good, No}
 use Rattle.codec.specs.Places.{partsTo}
@@ -15,6 +14,7 @@ use Rattle.rack.specs.Release.{releaseOf}
 use Rattle.rack.specs.Slice.{sliceAnswer, sliceOf, bufferAfter, Sliced}
 use Rattle.rack.specs.Slice.Properties.{slice-room}
 use Rattle.rack.specs.Row.{rowByte, rowOver}
+use Rattle.rack.specs.Row.Properties.{over-at}
 use Rattle.lines.specs.declared.line.Line.the-variants as line
 use Rattle.lines.specs.Ascii.{ascii}
 use Rattle.lines.specs.Text.{decimal}
@@ -46,10 +46,10 @@ module _ (s : State) (row : List ℕ) (next : Next) (sliced : Sliced s (replicat
   cards-fit e = slice-room s rowRoom (sliceAnswer s rowRoom) (good-is e) refl
 
   row-is : next .answer ≡ Good → (card : ℕ) → card < s .plan .cards → getD row card 0 ≡ rowByte s card
-  unfolding bufferAfter rowOver
+  unfolding bufferAfter
   row-is e card l =
       let a : row ≡ rowOver s (replicate 8 0) = sliced .buffer ∙ rw (good-is e) in
-      ap (λ (x : List ℕ). getD x card 0) a ∙ written-at (s .plan .cards) (rowByte s) (replicate 8 0) 0 card l (cards-fit e)
+      ap (λ (x : List ℕ). getD x card 0) a ∙ over-at s (replicate 8 0) card l
 
   told : (a : Answer) → next .answer ≡ a → sliceLine a (s .clock) (min (s .plan .cards) 8) (λ (card : ℕ). getD row card 0) ≡ sliceLine a (s .clock) (s .plan .cards) (rowByte s)
   unfolding sliceLine

@@ -140,24 +140,24 @@ module _ (s : State) where
 -- ---- the row in a lent row
 
 module _ (s : State) where
-  pub row-length : length (rowOf s) ≡ s .plan .cards
+  pub row-size : length (rowOf s) ≡ s .plan .cards
   unfolding rowOf
-  row-length = written-length (s .plan .cards) (rowByte s) (replicate (s .plan .cards) 0) ∙ length-replicate {A = ℕ} (s .plan .cards) 0
+  row-size = written-length (s .plan .cards) (rowByte s) (replicate (s .plan .cards) 0) ∙ length-replicate {A = ℕ} (s .plan .cards) 0
 
-  pub row-at : (card : ℕ) → card < s .plan .cards → getD (rowOf s) card 0 ≡ rowByte s card
+  pub row-shows : (card : ℕ) → card < s .plan .cards → getD (rowOf s) card 0 ≡ rowByte s card
   unfolding rowOf
-  row-at card l = stored-at (s .plan .cards) (s .plan .cards) (rowByte s) card l (omega arith)
+  row-shows card l = stored-at (s .plan .cards) (s .plan .cards) (rowByte s) card l (omega arith)
 
   module _ (bytes : List ℕ) where
     pub over-at : (card : ℕ) → card < s .plan .cards → getD (rowOver s bytes) card 0 ≡ rowByte s card
     unfolding rowOver
-    over-at card l = List·getD-append (rowOf s) (drop (s .plan .cards) bytes) 0 card (omega (arith, row-length)) ∙ row-at card l
+    over-at card l = List·getD-append (rowOf s) (drop (s .plan .cards) bytes) 0 card (omega (arith, row-size)) ∙ row-shows card l
 
     -- "bytes past those needed keep their value"
     pub over-kept : (x : ℕ) → s .plan .cards ≤ x → getD (rowOver s bytes) x 0 ≡ getD bytes x 0
     unfolding rowOver
     over-kept x l =
-        let past : x ≡ length (rowOf s) + (x - s .plan .cards) = omega (arith, row-length) in
+        let past : x ≡ length (rowOf s) + (x - s .plan .cards) = omega (arith, row-size) in
         let same : s .plan .cards + (x - s .plan .cards) ≡ x = omega arith in
         ap (λ (y : ℕ). getD (rowOver s bytes) y 0) past
         ∙ getD-append-add (rowOf s) (drop (s .plan .cards) bytes) (x - s .plan .cards) 0
@@ -170,7 +170,7 @@ module _ (s : State) where
     over-written l = ext-getD 0 (written (s .plan .cards) (rowByte s) bytes) (rowOver s bytes) same-length at
       where
         same-length : length (written (s .plan .cards) (rowByte s) bytes) ≡ length (rowOver s bytes)
-        same-length = omega (arith, written-length (s .plan .cards) (rowByte s) bytes, length-append (rowOf s) (drop (s .plan .cards) bytes), row-length, length-drop (s .plan .cards) bytes)
+        same-length = omega (arith, written-length (s .plan .cards) (rowByte s) bytes, length-append (rowOf s) (drop (s .plan .cards) bytes), row-size, length-drop (s .plan .cards) bytes)
 
         at : (i : ℕ) → i < length (written (s .plan .cards) (rowByte s) bytes) → getD (written (s .plan .cards) (rowByte s) bytes) i 0 ≡ getD (rowOver s bytes) i 0
         at i q =
@@ -182,7 +182,7 @@ module _ (s : State) where
     -- the first m bytes are the row
     pub over-take : take (s .plan .cards) (rowOver s bytes) ≡ rowOf s
     unfolding rowOver
-    over-take = take-at (rowOf s) (drop (s .plan .cards) bytes) (s .plan .cards) row-length
+    over-take = take-at (rowOf s) (drop (s .plan .cards) bytes) (s .plan .cards) row-size
 
 -- ---- the row of a state that is not refused
 

@@ -2,7 +2,7 @@
 -- Assumes nothing.
 use Prim.Native.Nat.{ℕ, zero, suc, _+_, _-_, _≤_}
 use mathlib.Core.Path.{_≡_}
-use mathlib.Core.Bool.{Bool, cond, not, _&&_, _||_}
+use mathlib.Core.Bool.{Bool, true, false, cond, not, _&&_, _||_}
 use mathlib.Core.List.{List, [], _++_}
 use lib.Dec.{ltb, eqb}
 use lib.ListN.{length, drop}
@@ -45,6 +45,10 @@ abbrev pub atStage : {A : Type 0} → Stage → A → A → A → A
 atStage Opening a b c = a
 atStage Running a b c = b
 atStage Over a b c = c
+
+-- whether the last line was printed
+abbrev pub isOver : Session → Bool
+isOver x = atStage (x .stage) false false true
 
 -- what is still to be printed, of all the input that is still to be taken
 unfoldable pub remaining : Session → List ℕ → List ℕ

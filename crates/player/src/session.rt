@@ -1,12 +1,12 @@
 // A play, line by line: the plan's line, one for each command, and the last.
 ghost use mathlib.Core.Path.{_≡_};
-ghost use mathlib.Core.Bool.{not, _&&_, true, false};
+ghost use mathlib.Core.Bool.{not, _&&_};
 ghost use Prim.Native.Nat.{_+_, _≤_};
 ghost use lib.Dec.{eqb};
 ghost use lib.ListN.{length};
 ghost use Rattle.answer.specs.Answer.{number};
 ghost use Rattle.rack.specs.Start.{startOf};
-ghost use Rattle.player.specs.Session.{unopened, running, over, atStage, firstLine, openOf, commandMove, runOf, stepOf, Steps, Plays};
+ghost use Rattle.player.specs.Session.{unopened, running, over, isOver, firstLine, openOf, commandMove, runOf, stepOf, Steps, Plays};
 use crate::turn;
 use answer::Answer;
 use commands::Command;
@@ -105,7 +105,7 @@ impl Session {
 
     // Whether the last line was printed.
     pub fn is_over(self) -> bool
-        ensures { λ r. ⌜ r ≡ atStage (self .stage) false false true ⌝ }
+        ensures { λ r. ⌜ r ≡ isOver self ⌝ }
     {
         let stage = self.stage;
         match stage {

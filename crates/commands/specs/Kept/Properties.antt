@@ -6,7 +6,7 @@ use Prim.Native.Nat.{ℕ, suc, _+_, _-_, _≤_, _<_}
 use native.Mathlib.Numerals.{add-one}
 use native.Mathlib.Omega.{arith}
 use lib.ListN.{length, take, drop, set, getD, length-drop}
-use lib.Seq.{take-suc, drop-cons, getD-drop, set-at, append-snoc, length-take-le, getD-append-add}
+use lib.Seq.{take-suc, drop-cons, getD-drop, set-at, append-snoc, length-take-le, take-at, getD-append-add}
 use borrow.Author.Tests.{le-leb, lt-leb}
 use Rattle.commands.specs.Kept.{within, inFront, Keeps}
 
@@ -63,3 +63,13 @@ keeps-part bytes m from to i n k l e f a b =
 pub keeps-within : (bytes after : List ℕ) (from to count : ℕ) → Keeps bytes from to count after → from ≤ to → to ≤ length bytes → count ≡ to - from
 unfolding within
 keeps-within bytes after from to count p k l = p .result ∙ rw (le-leb from to k, le-leb to (length bytes) l)
+
+-- and the part stands in front of it
+pub keeps-front : (bytes after : List ℕ) (from to count : ℕ) → Keeps bytes from to count after → from ≤ to → to ≤ length bytes → take count after ≡ take (to - from) (drop from bytes)
+unfolding within inFront
+keeps-front bytes after from to count p k l =
+    let n : count ≡ to - from = keeps-within bytes after from to count p k l in
+    let part = take (to - from) (drop from bytes) in
+    let e : after ≡ part ++ drop (to - from) bytes = p .buffer ∙ rw (le-leb from to k, le-leb to (length bytes) l) in
+    let m : length part ≡ count = length-take-le (to - from) (drop from bytes) (omega (arith, length-drop from bytes)) ∙ sym n in
+    ap (take count) e ∙ take-at part (drop (to - from) bytes) count m

@@ -44,7 +44,7 @@ use Rattle.commands.specs.Command.Properties.{command-short}
 use Rattle.player.specs.Turn.{rowRoom, lineOf, Turns}
 use Rattle.player.specs.Played.{opening}
 use Rattle.player.specs.Played.Front.{one-short}
-use Rattle.player.specs.Session.{unopened, running, over, atStage, Move, stay, firstLine, openOf, commandMove, lastLine, runOf, stepOf, Steps, onto, linesOf, playOf, Plays}
+use Rattle.player.specs.Session.{unopened, running, over, atStage, isOver, Move, stay, firstLine, openOf, commandMove, lastLine, runOf, stepOf, Steps, onto, linesOf, playOf, Plays}
 
 -- ---- where a play stands
 
@@ -397,7 +397,7 @@ run-idle x bytes e = elim (decLt (length bytes) 3) [ yes l ↦ omega arith | no 
     none : 3 ≤ length bytes → ⊥
     none l = let z : length (commandMove (x .state) (commandOf bytes) .text) ≡ 0 = rw (le-ltb (length bytes) 3 l) at e in omega (arith, line-some (x .state) (commandOf bytes))
 
-step-idle : (x : Session) (bytes : List ℕ) → atStage (x .stage) false false true ≡ false → length (stepOf x false bytes .text) ≡ 0 → length bytes < 99
+step-idle : (x : Session) (bytes : List ℕ) → isOver x ≡ false → length (stepOf x false bytes .text) ≡ 0 → length bytes < 99
 unfolding stepOf
 step-idle x bytes = go (x .stage)
   where
@@ -405,13 +405,6 @@ step-idle x bytes = go (x .stage)
     go Opening o e = open-idle x bytes e
     go Running o e = run-idle x bytes e
     go Over o e = absurd (true≢false o)
-
--- before the end of the input and of the play, it waits for more: few bytes are left
-pub idle-short : (x : Session) (last b : Bool) (bytes out held : List ℕ) (r : Progress) → Plays x last bytes out r held → r .count ≡ 0 → last ≡ false → b ≡ atStage (x .stage) false false true → b ≡ false → 128 ≤ length out
-    → length bytes < 99
-idle-short x last b bytes out held r p e f g h l =
-    let z : length (playOf x last bytes (length out) .text) ≡ 0 = sym (ap (λ (q : Progress). q .count) (p .result)) ∙ e in
-    step-idle x bytes (sym g ∙ h) (play-idle x false bytes (length out) l (rw f at z))
 
 -- after the end of the input, the play is over
 run-some : (x : Session) (bytes : List ℕ) → 0 < length (runOf x true bytes .text)
@@ -431,16 +424,19 @@ idle-over x bytes = go (x .stage)
     go Running e = absurd (omega (arith, run-some x bytes))
     go Over e = refl
 
--- ---- of a part of a buffer
+-- a play that prints nothing and is not over waits for more: the input has not ended, and few bytes are left
+pub waits-more : (x : Session) (last : Bool) (bytes : List ℕ) (room : ℕ) → 128 ≤ room → length (playOf x last bytes room .text) ≡ 0 → isOver x ≡ false
+    → (last ≡ false) × (length bytes < 99)
+waits-more x true bytes room l e o =
+    let g : x .stage ≡ Over = idle-over x bytes (play-idle x true bytes room l e) in
+    absurd (true≢false (at-over (x .stage) false false true g ∙ o))
+waits-more x false bytes room l e o = (refl, step-idle x bytes o (play-idle x false bytes room l e))
 
-pub part-taken : (x : Session) (last : Bool) (input out held : List ℕ) (from to : ℕ) (r : Progress) → Plays x last (take (to - from) (drop from input)) out r held → from ≤ to → to ≤ length input → from + r .taken ≤ to
-part-taken x last input out held from to r p a b =
-    let n : length (take (to - from) (drop from input)) ≡ to - from = length-take-le (to - from) (drop from input) (omega (arith, length-drop from input)) in
-    let e : r .taken ≡ playOf x last (take (to - from) (drop from input)) (length out) .taken = ap (λ (q : Progress). q .taken) (p .result) in
-    omega (arith, play-most x last (take (to - from) (drop from input)) (length out))
-
-pub part-short : (x : Session) (last b : Bool) (input out held : List ℕ) (from to : ℕ) (r : Progress) → Plays x last (take (to - from) (drop from input)) out r held → from ≤ to → to ≤ length input → r .count ≡ 0 → last ≡ false
-    → b ≡ atStage (x .stage) false false true → b ≡ false → 128 ≤ length out → 128 ≤ length input → to - from < length input
-part-short x last b input out held from to r p a c e f g h l k =
-    let n : length (take (to - from) (drop from input)) ≡ to - from = length-take-le (to - from) (drop from input) (omega (arith, length-drop from input)) in
-    omega (arith, idle-short x last b (take (to - from) (drop from input)) out held r p e f g h l)
+-- what has no next line prints nothing, whatever room there is
+pub idle-none : (x : Session) (last : Bool) (bytes : List ℕ) (room : ℕ) → length (stepOf x last bytes .text) ≡ 0 → playOf x last bytes room .text ≡ []
+unfolding playOf
+idle-none x last bytes room e =
+    elim (decLt room 128) [
+      | yes l ↦ ap (λ (m : Move). m .text) (lines-full room x last bytes room l)
+      | no l ↦ ap (λ (m : Move). m .text) (lines-idle room x last bytes room (omega arith) e)
+    ]

@@ -1,4 +1,4 @@
--- A project over a frame's length of slices in a row: the rows name its kinds as often as it holds cards, or as it has kinds with slices left.
+-- A project over F slices in a row: each row names as many of its kinds as it holds cards, or all that have slices left.
 -- Assumes nothing.
 use mathlib.Core.Path.{_≡_, ap, _∙_}
 use mathlib.Core.List.{List}

@@ -1,5 +1,5 @@
--- The three demands: `Outcomes` (1), `Verdicts` (2) and `Deadlines` (3) state them, the last over `Run`, `Since` and `Named`. The other modules tie
--- the theory of one project (`analysis`) to the rack.
+-- The three demands: `Outcomes` (1), `Verdicts` (2) and `Deadlines` (3) state them, the last over `Run`, `Since` and `Named`.
+-- The other modules tie the theory of one project (`analysis`) to the rack.
 -- Assumes nothing.
 -- ---- the statements
 pub mod Run

@@ -79,7 +79,8 @@ module _ (s : State) (safe : Safe s) where
     nothing-over : absent ≡ false → soon ≡ false → over ≡ true → ⊥
     nothing-over a c d =
         let l = its-kind a in
-        eqb-false (unitOf s i .left) 0 (not-true (eqb (unitOf s i .left) 0) d) (safe-none-left s safe i l (λ r. early-says (kindAt s i .separation) (unitOf s i) (gone s i) c r))
+        eqb-false (unitOf s i .left) 0 (not-true (eqb (unitOf s i .left) 0) d)
+        (safe-none-left s safe i l (λ r. early-says (kindAt s i .separation) (unitOf s i) (gone s i) c r))
 
     pub release-not-ten : number (releaseAnswer s i e) ≢ 10
     release-not-ten h = no-ten absent misfit soon over (sym release-told ∙ h)
@@ -88,10 +89,12 @@ module _ (s : State) (safe : Safe s) where
     release-not-fifteen h = let t = fifteen absent misfit soon over (sym release-told ∙ h) in nothing-over (t .0) (t .1) (t .2)
 
     -- "14: released before, and fewer than T slices ago"
-    pub fourteen-early : number (releaseAnswer s i e) ≡ 14 → (i < s .plan .kinds) × (within (kindAt s i .length) e ≡ true) × (early (kindAt s i .separation) (unitOf s i) (gone s i) ≡ true)
-    fourteen-early h = let t = fourteen absent misfit soon over (sym release-told ∙ h) in (its-kind (t .0), not-false (within (kindAt s i .length) e) (t .1), t .2)
+    pub fourteen-early : number (releaseAnswer s i e) ≡ 14 → (i < s .plan .kinds) × (within (kindAt s i .length) e ≡ true) × (soon ≡ true)
+    fourteen-early h =
+        let t = fourteen absent misfit soon over (sym release-told ∙ h) in
+        (its-kind (t .0), not-false (within (kindAt s i .length) e) (t .1), t .2)
 
-    pub early-fourteen : i < s .plan .kinds → within (kindAt s i .length) e ≡ true → early (kindAt s i .separation) (unitOf s i) (gone s i) ≡ true → number (releaseAnswer s i e) ≡ 14
+    pub early-fourteen : i < s .plan .kinds → within (kindAt s i .length) e ≡ true → soon ≡ true → number (releaseAnswer s i e) ≡ 14
     early-fourteen l w c = release-told ∙ rw (lt-ltb i (s .plan .kinds) l, w, c)
 
   -- ---- a slice

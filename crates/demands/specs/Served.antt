@@ -14,7 +14,7 @@ use Rattle.rack.specs.Rank.Properties.{served-working, working-left}
 use Rattle.rack.specs.Advance.{advanced}
 use Rattle.rack.specs.Slice.{sliceAnswer}
 use Rattle.rack.specs.Slice.Properties.{slice-says}
-use Rattle.demands.specs.Run.{rowWritten}
+use Rattle.demands.specs.Run.{accepted, rowWritten}
 use Rattle.demands.specs.Run.Properties.{now-at}
 use Rattle.demands.specs.Named.{namesKind, bytesIn}
 use Rattle.demands.specs.Named.Properties.{kind-named}
@@ -27,7 +27,7 @@ module _ (s : State) (safe : Safe s) (bytes : List ℕ) (good : sliceAnswer s (l
   falls = sliced-left s (slice-says s (length bytes) good .advance) (safe .places) i l
 
   named : bytesIn (namesKind i) (rowWritten s bytes) ≡ cond (served s i) 1 0
-  named = kind-named (s .plan) (λ j. cardsFrom s j 0) (record { before = s; row = rowWritten s bytes }) (now-at s bytes good) i l
+  named = kind-named (s .plan) (λ j. cardsFrom s j 0) (accepted s bytes) (now-at s bytes good) i l
 
   pub named-falls : unitOf (advanced s) i .left + bytesIn (namesKind i) (rowWritten s bytes) ≡ unitOf s i .left
   named-falls = go (served s i) refl

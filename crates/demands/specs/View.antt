@@ -1,5 +1,5 @@
--- A project's view of a plan and of a state: the quantities that the theory speaks of. They are counted from now, and what is above this view
--- reads them and no clock.
+-- A project's view of a plan and of a state: the quantities that the theory speaks of. They are counted from now; what stands on them
+-- reads no clock, and so counts on none that rises.
 -- Assumes nothing.
 use Prim.Native.Nat.{ℕ, _+_, _-_}
 use mathlib.Core.Bool.{cond}

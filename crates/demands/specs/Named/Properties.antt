@@ -29,7 +29,10 @@ module _ (p : Plan) (holds : ℕ → ℕ) (w : Accepted) (at : At p holds w) whe
   -- the bytes of the row are those that the state shows
   bytes-shown : (test : ℕ → Bool) → bytesIn test (w .row) ≡ countTo (w .before .plan .cards) (λ card. test (rowByte (w .before) card))
   unfolding bytesIn
-  bytes-shown test = rw (at .size) (count-cong (w .before .plan .cards) (λ card. test (getD (w .row) card 0)) (λ card. test (rowByte (w .before) card)) (λ card l. ap test (at .shows card l)))
+  bytes-shown test =
+      rw (at .size)
+      (count-cong (w .before .plan .cards) (λ card. test (getD (w .row) card 0)) (λ card. test (rowByte (w .before) card))
+      (λ card l. ap test (at .shows card l)))
 
   pub kind-at-most : (i : ℕ) → bytesIn (namesKind i) (w .row) ≤ 1
   kind-at-most i = omega (arith, bytes-shown (namesKind i), kind-once (w .before) (at .ready) i)
@@ -71,9 +74,14 @@ one-term f = zero-add (f 0)
 -- the first of a sum
 one-first : (n : ℕ) (f : ℕ → ℕ) → sumTo (suc n) f ≡ f 0 + sumTo n (λ x. f (suc x))
 one-first n f =
-    ap (λ (k : ℕ). sumTo k f) (sym (one-add n)) ∙ sum-split 1 n f ∙ ap₂ _+_ (one-term f) (sum-cong n (λ x. f (1 + x)) (λ x. f (suc x)) (λ x l. ap f (one-add x)))
+    ap (λ (k : ℕ). sumTo k f) (sym (one-add n))
+    ∙ sum-split 1 n f
+    ∙ ap₂ _+_ (one-term f) (sum-cong n (λ x. f (1 + x)) (λ x. f (suc x)) (λ x l. ap f (one-add x)))
 
-pub bytes-sum : (test : ℕ → Bool) (none : Accepted) (slices : List Accepted) → bytesNaming test slices ≡ sumTo (length slices) (λ x. bytesIn test (getD slices x none .row))
+pub bytes-sum : (test : ℕ → Bool) (none : Accepted) (slices : List Accepted) →
+    bytesNaming test slices ≡ sumTo (length slices) (λ x. bytesIn test (getD slices x none .row))
 unfolding bytesNaming
 bytes-sum test none [] = sum-none (λ x. bytesIn test (getD [] x none .row))
-bytes-sum test none (w ∷ slices) = sym (one-first (length slices) (λ x. bytesIn test (getD (w ∷ slices) x none .row)) ∙ ap (λ (n : ℕ). bytesIn test (w .row) + n) (sym (bytes-sum test none slices)))
+bytes-sum test none (w ∷ slices) =
+    ap (λ (n : ℕ). bytesIn test (w .row) + n) (bytes-sum test none slices)
+    ∙ sym (one-first (length slices) (λ x. bytesIn test (getD (w ∷ slices) x none .row)))

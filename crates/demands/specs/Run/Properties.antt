@@ -109,12 +109,14 @@ same-cards e a = record { plan = a .plan; cards = λ j. a .cards j ∙ e j; read
 pub slices-at : (none : Accepted) (calls : List Call) (s : State) (x : ℕ) → x < length (slicesOf s calls) →
     At (s .plan) (λ j. cardsFrom s j x) (getD (slicesOf s calls) x none)
 unfolding advanced released
-slices-at none = along Each (λ s x l. absurd (omega arith)) first (λ s end i e slices g h x l. same-cards (λ j. cards-kept s j i e x) (h x l))
+slices-at none = along Each (λ s x l. absurd (omega arith)) first same
   where
     Each : Claim
     Each s slices end = (x : ℕ) → x < length slices → At (s .plan) (λ j. cardsFrom s j x) (getD slices x none)
 
-    first : (s end : State) (bytes : List ℕ) (slices : List Accepted) → sliceAnswer s (length bytes) ≡ Good →
-        Each (advanced s) slices end → Each s (accepted s bytes ∷ slices) end
+    first : WithSlice Each
     first s end bytes slices g h zero l = now-at s bytes g
     first s end bytes slices g h (suc x) l = same-cards (λ j. cards-later s j x ∙ ap (cardsFrom s j) (one-add x)) (h x (omega arith))
+
+    same : WithRelease Each
+    same s end i e slices g h x l = same-cards (λ j. cards-kept s j i e x) (h x l)

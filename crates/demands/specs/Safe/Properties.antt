@@ -8,6 +8,7 @@ use native.Mathlib.Omega.{arith}
 use lib.ListN.{length, getD-replicate}
 use borrow.Author.Tests.{eq-eqb}
 use Rattle.plan.specs.declared.Plan.{Plan}
+use Rattle.plan.specs.Order.{InOrder}
 use Rattle.answer.specs.declared.Answer.the-variants.{Good}
 use Rattle.verdict.specs.Verdict.{judged}
 use Rattle.verdict.specs.Admission.Properties.{judged-in-order}
@@ -25,13 +26,14 @@ use Rattle.rack.specs.Advance.{Advanceable, advanced}
 use Rattle.rack.specs.Advance.Properties.{advance-places, advance-form}
 use Rattle.rack.specs.Slice.Properties.{slice-says}
 use Rattle.analysis.specs.Setup.{Own}
+use Rattle.analysis.specs.Moment.{Idle}
 use Rattle.analysis.specs.Reached.{idle, slice, release}
 use Rattle.analysis.specs.InTime.{in-time, next-clear}
 use Rattle.demands.specs.View.{setupOf, waitOf, momentOf}
 use Rattle.demands.specs.View.Properties.{view-admitted, cards-supplied}
 use Rattle.demands.specs.View.Steps.{slice-step, release-step}
 use Rattle.demands.specs.Run.{Call, runFrom, after}
-use Rattle.demands.specs.Run.Properties.{along}
+use Rattle.demands.specs.Run.Properties.{Claim, along}
 use Rattle.demands.specs.Safe.{Safe}
 
 -- ---- what it says of a kind
@@ -53,7 +55,9 @@ module _ (s : State) (safe : Safe s) (i : ℕ) (l : i < s .plan .kinds) where
   -- where no unit was released fewer than T slices ago, nothing is left
   pub safe-none-left : (unitOf s i .released ≡ true → kindAt s i .separation ≤ gone s i) → unitOf s i .left ≡ 0
   unfolding waitOf
-  safe-none-left h = next-clear (setupOf (s .plan) j) (view-admitted (s .plan) (safe .admitted) j) (momentOf s j) (safe .reached j) i own (omega (arith, go (unitOf s i .released) h))
+  safe-none-left h =
+      next-clear (setupOf (s .plan) j) (view-admitted (s .plan) (safe .admitted) j) (momentOf s j) (safe .reached j) i own
+      (omega (arith, go (unitOf s i .released) h))
     where
       go : (b : Bool) → (b ≡ true → kindAt s i .separation ≤ gone s i) → cond b (kindAt s i .separation - gone s i) 0 ≡ 0
       go true r = omega (arith, r refl)
@@ -61,18 +65,18 @@ module _ (s : State) (safe : Safe s) (i : ℕ) (l : i < s .plan .kinds) where
 
 -- ---- what keeps it
 
+fresh-idle : (p : Plan) → InOrder p → (j : ℕ) → Idle (setupOf p j) (momentOf (freshOf p) j)
+fresh-idle p order j = record { supplied = cards-supplied (freshOf p) j (order .counts .some-slice); none-left = none-left }
+  where
+    none-left : (i : ℕ) → Own (setupOf p j) i → unitOf (freshOf p) i .left ≡ 0
+    none-left i o =
+        let below : i < 16 = omega (arith, o .below, order .counts .kinds-most) in
+        ap (λ (v : Unit). v .left) (getD-replicate 16 i noUnit noUnit below)
+
 fresh-safe : (p : Plan) → judged p .answer ≡ Good → Safe (freshOf p)
 fresh-safe p good =
     let order = judged-in-order p good in
-    record {
-      admitted = good;
-      ready = fresh-form p order;
-      places = fresh-places p;
-      reached = λ j. idle (record {
-        supplied = cards-supplied (freshOf p) j (order .counts .some-slice);
-        none-left = λ i o. ap (λ (v : Unit). v .left) (getD-replicate 16 i noUnit noUnit (omega (arith, o .below, order .counts .kinds-most)));
-      });
-    }
+    record { admitted = good; ready = fresh-form p order; places = fresh-places p; reached = λ j. idle (fresh-idle p order j) }
 
 -- the fresh start refuses what the verdict does
 pub start-admitted : (p : Plan) → startOf p .answer ≡ Good → judged p .answer ≡ Good
@@ -104,7 +108,13 @@ release-safe s safe k e good =
     }
 
 pub run-safe : (calls : List Call) (s : State) → Safe s → Safe (runFrom s calls)
-run-safe = along (λ s slices end. Safe s → Safe end) (λ s h. h) (λ s end bytes slices g h t. h (advance-safe s t (slice-says s (length bytes) g .advance))) (λ s end i e slices g h t. h (release-safe s t i e g))
+run-safe =
+    along Keeps (λ s h. h)
+    (λ s end bytes slices g h t. h (advance-safe s t (slice-says s (length bytes) g .advance)))
+    (λ s end i e slices g h t. h (release-safe s t i e g))
+  where
+    Keeps : Claim
+    Keeps s slices end = Safe s → Safe end
 
 -- every state that a run from a fresh start on an admitted plan comes to
 pub after-safe : (p : Plan) → startOf p .answer ≡ Good → (calls : List Call) → Safe (after p calls)

@@ -34,7 +34,7 @@ abbrev pub Tells : State → ℕ → Since → Type 0
 Tells s i never = unitOf s i .released ≡ false
 Tells s i (ago slices) = (unitOf s i .released ≡ true) × (gone s i ≡ slices)
 
--- what the run counts is what the state's release clock says
+-- so 14 is told by the one as by the other
 pub tells-early : (s : State) (i : ℕ) (since : Since) → Tells s i since →
     early (kindAt s i .separation) (unitOf s i) (gone s i) ≡ fewer (kindAt s i .separation) since
 unfolding early
@@ -52,7 +52,8 @@ tells-kept s next i never p q t = p ∙ t
 tells-kept s next i (ago slices) p q t = (p ∙ t .0, q ∙ t .1)
 
 -- what a good answer moves, and a refusal keeps
-chosen : (P : State → Since → Type 0) (a : Answer) (new old : State) (more since : Since) → (a ≡ Good → P new more) → P old since → P (ifGood a new old) (ifGood a more since)
+chosen : (P : State → Since → Type 0) (a : Answer) (new old : State) (more since : Since) →
+    (a ≡ Good → P new more) → P old since → P (ifGood a new old) (ifGood a more since)
 chosen P Good new old more since g h = g refl
 chosen P (No r) new old more since g h = h
 
@@ -75,9 +76,14 @@ module _ (i : ℕ) where
             (sliced-gone s may (t .safe .places) i (t .its-kind)) (t .tells);
       }
 
-  told-release : (s : State) (since : Since) (k e : ℕ) → Told i s since → releaseAnswer s k e ≡ Good → Told i (released s k e) (cond (eqb k i) (ago 0) since)
+  told-release : (s : State) (since : Since) (k e : ℕ) → Told i s since → releaseAnswer s k e ≡ Good →
+      Told i (released s k e) (cond (eqb k i) (ago 0) since)
   unfolding released
-  told-release s since k e t good = record { safe = release-safe s (t .safe) k e good; its-kind = t .its-kind; tells = elim (ℕ-discrete k i) [ yes q ↦ rw (eq-eqb k i q) (same q) | no q ↦ rw (ne-eqb k i q) (other q) ] }
+  told-release s since k e t good = record {
+    safe = release-safe s (t .safe) k e good;
+    its-kind = t .its-kind;
+    tells = elim (ℕ-discrete k i) [ yes q ↦ rw (eq-eqb k i q) (same q) | no q ↦ rw (ne-eqb k i q) (other q) ];
+  }
     where
       may : Releasable s k e
       may = release-says s k e good
@@ -93,8 +99,10 @@ module _ (i : ℕ) where
 
   told-call : (s : State) (since : Since) (call : Call) → Told i s since → Told i (nextAfter s call .state) (sinceCall i s since call)
   unfolding sliceOf releaseOf sinceCall
-  told-call s since (slice bytes) t = chosen (Told i) (sliceAnswer s (length bytes)) (advanced s) s (later since) since (told-slice s since (length bytes) t) t
-  told-call s since (release k e) t = chosen (Told i) (releaseAnswer s k e) (released s k e) s (cond (eqb k i) (ago 0) since) since (told-release s since k e t) t
+  told-call s since (slice bytes) t =
+      chosen (Told i) (sliceAnswer s (length bytes)) (advanced s) s (later since) since (told-slice s since (length bytes) t) t
+  told-call s since (release k e) t =
+      chosen (Told i) (releaseAnswer s k e) (released s k e) s (cond (eqb k i) (ago 0) since) since (told-release s since k e t) t
 
   pub told-run : (calls : List Call) (s : State) (since : Since) → Told i s since → Told i (runFrom s calls) (sinceFrom i s since calls)
   unfolding runFrom sinceFrom

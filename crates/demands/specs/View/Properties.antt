@@ -1,4 +1,4 @@
--- Laws of a project's view: an admitted plan admits each of its projects, and a state's cards give each its supply, and its budget in a frame.
+-- Laws of a project's view: an admitted plan admits each of its projects, and a state's cards give it its supply, and in a frame its budget.
 -- Assumes nothing.
 use mathlib.Core.Path.{_≡_, refl, sym, ap, _∙_}
 use Prim.Native.Nat.{ℕ, _+_, _-_, _*_, _≤_, _<_}
@@ -57,7 +57,8 @@ module _ (p : Plan) (good : judged p .answer ≡ Good) where
       fits i o =
           let k = getD (judged p .width) i 0 in
           let e = own-project p i j o in
-          omega (arith, given-fits p good i (o .below) .room, workload-view p i j e, ap (λ (x : ℕ). supply (p .frame) (held p x) k (kindOf p i .deadline)) e)
+          let its = ap (λ (x : ℕ). supply (p .frame) (held p x) k (kindOf p i .deadline)) e in
+          omega (arith, given-fits p good i (o .below) .room, workload-view p i j e, its)
 
 -- ---- the slices until a deadline
 
@@ -69,6 +70,9 @@ until-gone s i l = omega arith
 -- ---- the cards from now on
 
 module _ (s : State) (j : ℕ) where
+  later : (x y : ℕ) → held (s .plan) j (s .clock + (x + y)) ≡ held (s .plan) j (s .clock + x + y)
+  later x y = ap (held (s .plan) j) (sym (add-assoc (s .clock) x y))
+
   -- "Let h(s) be the cards a project holds": this slice's
   pub cards-now : cardsFrom s j 0 ≡ held (s .plan) j (s .clock)
   unfolding cardsFrom
@@ -88,12 +92,13 @@ module _ (s : State) (j : ℕ) where
   pub cards-supplied : 0 < s .plan .frame → Supplied (setupOf (s .plan) j) (momentOf s j)
   unfolding cardsFrom
   cards-supplied some start k t =
-      rw (window-same k (λ x. held (s .plan) j (s .clock + x)) (held (s .plan) j) start (s .clock + start) t (λ x. ap (held (s .plan) j) (sym (add-assoc (s .clock) start x))))
+      rw (window-same k (λ x. held (s .plan) j (s .clock + x)) (held (s .plan) j) start (s .clock + start) t (later start))
       (supply-everywhere (s .plan .frame) (held (s .plan) j) (held-period (s .plan) j) some k (s .clock + start) t)
 
   -- over F slices in a row, from any on, they are exactly B
-  pub cards-frame : InOrder (s .plan) → j < s .plan .projects → (x : ℕ) → sumTo (s .plan .frame) (λ y. cardsFrom s j (x + y)) ≡ budgetOf (s .plan) j
+  pub cards-frame : InOrder (s .plan) → j < s .plan .projects → (x : ℕ) →
+      sumTo (s .plan .frame) (λ y. cardsFrom s j (x + y)) ≡ budgetOf (s .plan) j
   unfolding cardsFrom
   cards-frame order l x =
-      sum-cong (s .plan .frame) (λ y. held (s .plan) j (s .clock + (x + y))) (λ y. held (s .plan) j (s .clock + x + y)) (λ y m. rw (add-assoc (s .clock) x y))
+      sum-cong (s .plan .frame) (λ y. held (s .plan) j (s .clock + (x + y))) (λ y. held (s .plan) j (s .clock + x + y)) (λ y m. later x y)
       ∙ held-frame (s .plan) order j l (s .clock + x)

@@ -38,7 +38,9 @@ module _ (s : State) (may : Advanceable s) (places : length (s .unit) ≡ 16) wh
 
     pub sliced-gone : gone (advanced s) i ≡ gone s i + 1
     unfolding gone advanced
-    sliced-gone = omega (arith, sliced-at, may .ready .form .unit-at i (omega (arith, may .ready .order .counts .kinds-most)) l .release-clock)
+    sliced-gone =
+        let below : i < 16 = omega (arith, may .ready .order .counts .kinds-most) in
+        omega (arith, sliced-at, may .ready .form .unit-at i below l .release-clock)
 
     pub sliced-until : until (advanced s) i ≡ until s i - 1
     unfolding until due advanced
@@ -95,7 +97,9 @@ module _ (s : State) (k e : ℕ) (may : Releasable s k e) (places : length (s .u
 
   kept-wait : (i : ℕ) → i ≢ k → waitOf (released s k e) i ≡ waitOf s i
   unfolding waitOf released
-  kept-wait i d = rw (kept-gone i d) (ap (λ (v : Unit). cond (v .released) (kindAt s i .separation - gone s i) 0) (release-others s k e may places i d))
+  kept-wait i d =
+      rw (kept-gone i d)
+      (ap (λ (v : Unit). cond (v .released) (kindAt s i .separation - gone s i) 0) (release-others s k e may places i d))
 
   pub release-step : (j : ℕ) → Release (setupOf (s .plan) j) k e (momentOf s j) (momentOf (released s k e) j)
   unfolding released
@@ -109,5 +113,9 @@ module _ (s : State) (k e : ℕ) (may : Releasable s k e) (places : length (s .u
       may = omega (arith, waited, new-until);
       wait = omega (arith, new-until, new-wait);
     };
-    others = λ i o d. record { left = ap (λ (v : Unit). v .left) (release-others s k e may places i d); until = kept-until i d; wait = kept-wait i d };
+    others = λ i o d. record {
+      left = ap (λ (v : Unit). v .left) (release-others s k e may places i d);
+      until = kept-until i d;
+      wait = kept-wait i d;
+    };
   }

@@ -79,7 +79,7 @@ def functions(crate):
     for path, source in sources.items():
         methods = [(found.group(1), *found.span()) for found in re.finditer(r"^impl (\w+) \{\n.*?^\}", source, re.M | re.S)]
         found = list(HEAD.finditer(source))
-        heads = len(re.findall(r'\bpub (?:extern "C" )?fn ', source))
+        heads = len(re.findall(r'\bpub (?:[\w" ]+ )?fn ', source))
         if heads != len(found):
             raise SystemExit(f"{path}: {heads} public functions, of which {len(found)} can be read")
         for head in found:

@@ -1,76 +1,48 @@
-//! The functions of `include/parchbeetle.h`. The only `unsafe` code is here.
-//!
-//! Safety, for each call: a pointer and its length come from one slice, and so the pointer is valid
-//! for its length and not null; a buffer that is written comes from a `&mut` slice, so it overlaps no
-//! other; the library keeps no pointer.
+//! The functions of the library: buffers of any length, the answer decoded.
 
 use crate::Answer;
 
-extern "C" {
-    fn parchbeetle_check(plan: *const u8, plan_len: usize) -> u64;
-    fn parchbeetle_read(bytes: *const u8, bytes_len: usize, plan: *mut u8, plan_len: usize) -> u64;
-    fn parchbeetle_write(plan: *const u8, plan_len: usize, out: *mut u8, out_len: usize) -> u64;
-    fn parchbeetle_slot_table(
-        plan: *const u8,
-        plan_len: usize,
-        out: *mut u8,
-        out_len: usize,
-    ) -> u64;
-    fn parchbeetle_verdict(plan: *const u8, plan_len: usize, k: *mut u8, k_len: usize) -> u64;
-    fn parchbeetle_fresh(plan: *const u8, plan_len: usize, state: *mut u8, state_len: usize)
-        -> u64;
-    fn parchbeetle_release(state: *mut u8, state_len: usize, kind: u64, e: u64) -> u64;
-    fn parchbeetle_slice(state: *mut u8, state_len: usize, row: *mut u8, row_len: usize) -> u64;
-}
+#[cfg(not(target_arch = "x86_64"))]
+use crate::bridged as library;
+#[cfg(target_arch = "x86_64")]
+use crate::linked as library;
 
 /// Is the plan of this image in order?
 pub fn check(plan: &[u8]) -> Answer {
-    Answer::of_word(unsafe { parchbeetle_check(plan.as_ptr(), plan.len()) })
+    Answer::of_word(library::check(plan))
 }
 
 /// Reads plan bytes into a plan image; the count is how many bytes the plan took.
 pub fn read(bytes: &[u8], plan: &mut [u8]) -> Answer {
-    Answer::of_word(unsafe {
-        parchbeetle_read(bytes.as_ptr(), bytes.len(), plan.as_mut_ptr(), plan.len())
-    })
+    Answer::of_word(library::read(bytes, plan))
 }
 
 /// Writes the bytes of an image's plan; the count is how many.
 pub fn write(plan: &[u8], out: &mut [u8]) -> Answer {
-    Answer::of_word(unsafe {
-        parchbeetle_write(plan.as_ptr(), plan.len(), out.as_mut_ptr(), out.len())
-    })
+    Answer::of_word(library::write(plan, out))
 }
 
 /// Writes the slot table of an image's plan; the count is how many bytes.
 pub fn slot_table(plan: &[u8], out: &mut [u8]) -> Answer {
-    Answer::of_word(unsafe {
-        parchbeetle_slot_table(plan.as_ptr(), plan.len(), out.as_mut_ptr(), out.len())
-    })
+    Answer::of_word(library::slot_table(plan, out))
 }
 
 /// Judges the plan of an image: the least k of each kind.
 pub fn verdict(plan: &[u8], k: &mut [u8]) -> Answer {
-    Answer::of_word(unsafe {
-        parchbeetle_verdict(plan.as_ptr(), plan.len(), k.as_mut_ptr(), k.len())
-    })
+    Answer::of_word(library::verdict(plan, k))
 }
 
 /// Starts fresh on an image's plan: writes a state image.
 pub fn fresh(plan: &[u8], state: &mut [u8]) -> Answer {
-    Answer::of_word(unsafe {
-        parchbeetle_fresh(plan.as_ptr(), plan.len(), state.as_mut_ptr(), state.len())
-    })
+    Answer::of_word(library::fresh(plan, state))
 }
 
 /// Releases a unit of a kind with a length, in a state image.
 pub fn release(state: &mut [u8], kind: u64, e: u64) -> Answer {
-    Answer::of_word(unsafe { parchbeetle_release(state.as_mut_ptr(), state.len(), kind, e) })
+    Answer::of_word(library::release(state, kind, e))
 }
 
 /// Runs a slice in a state image and writes its row.
 pub fn slice(state: &mut [u8], row: &mut [u8]) -> Answer {
-    Answer::of_word(unsafe {
-        parchbeetle_slice(state.as_mut_ptr(), state.len(), row.as_mut_ptr(), row.len())
-    })
+    Answer::of_word(library::slice(state, row))
 }

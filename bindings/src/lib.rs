@@ -1,13 +1,18 @@
 //! Safe bindings of the proved static library, whose C interface is `include/parchbeetle.h`.
 //!
 //! `calls` has one function for each of the library's, on slices of any length, with the answer
-//! decoded. `record` has the plan and the state as records, and their images.
+//! decoded. `record` has the plan and the state as records, and their images. The library is for
+//! x86-64, where it is linked; elsewhere an emulated child makes the calls (`bridge.c`).
 
 #![warn(missing_docs)]
 
 mod answer;
-#[allow(unsafe_code)]
+#[cfg(not(target_arch = "x86_64"))]
+mod bridged;
 mod calls;
+#[cfg(target_arch = "x86_64")]
+#[allow(unsafe_code)]
+mod linked;
 mod record;
 
 pub use answer::{in_words, Answer, NUMBERS};

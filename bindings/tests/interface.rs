@@ -13,6 +13,9 @@ struct Texts {
     header: String,
     /// The bindings: their declarations, constants, numbers and records.
     bindings: String,
+    /// The bridge to the library: its calls, and those of the bindings.
+    bridge: String,
+    bridged: String,
     /// The crate whose functions are exported.
     exported: String,
     /// All code of the proved crates.
@@ -37,9 +40,11 @@ fn texts() -> Texts {
     }
     Texts {
         header: text("include/parchbeetle.h"),
-        bindings: ["lib", "calls", "answer", "record"]
+        bindings: ["lib", "calls", "linked", "answer", "record"]
             .map(|name| text(&format!("bindings/src/{name}.rs")))
             .concat(),
+        bridge: text("bindings/bridge.c"),
+        bridged: text("bindings/src/bridged.rs"),
         exported: text(EXPORTED),
         code,
         version: env!("CARGO_PKG_VERSION").to_string(),
@@ -146,6 +151,26 @@ fn on_slices(text: &str, before: &str, after: &str) -> Vec<Function> {
         .into_iter()
         .map(|(name, parameters)| (name, parameters.into_iter().map(given).collect()))
         .collect()
+}
+
+/// The functions of the bridge with their numbers.
+fn numbered(bridge: &str) -> Vec<(u64, String)> {
+    let one = |part: &str| {
+        let (number, rest) = part.split_once(':')?;
+        let call = rest.trim_start().strip_prefix("return parchbeetle_")?;
+        Some((number.parse().ok()?, call.split_once('(')?.0.to_string()))
+    };
+    bridge.split("case ").skip(1).filter_map(one).collect()
+}
+
+/// The functions that the bindings call by numbers.
+fn by_number(bridged: &str) -> Vec<(u64, String)> {
+    let one = |part: &str| {
+        let (name, rest) = part.split_once('(')?;
+        let (_, body) = rest.split_once("{\n    ")?;
+        Some((leading(body.split_once('(')?.1)?, name.to_string()))
+    };
+    bridged.split("\npub fn ").skip(1).filter_map(one).collect()
 }
 
 /// The fields of a record: names and types, in order.
@@ -274,6 +299,8 @@ fn differences(texts: &Texts) -> Vec<String> {
     let Texts {
         header,
         bindings,
+        bridge,
+        bridged,
         exported,
         code,
         version,
@@ -318,6 +345,30 @@ fn differences(texts: &Texts) -> Vec<String> {
         &[
             ("header", declared.to_string()),
             ("exported", exports.to_string()),
+        ],
+    );
+
+    let functions: Vec<_> = on_slices(bindings, "\npub fn ", "-> Answer {");
+    for (file, text) in [("linked", bindings), ("bridged", bridged)] {
+        same(
+            file,
+            &[
+                ("bindings", format!("{functions:?}")),
+                (
+                    file,
+                    format!("{:?}", on_slices(text, "\npub fn ", "-> u64 {")),
+                ),
+            ],
+        );
+    }
+    let names = functions.into_iter().map(|(name, _)| name);
+    let expected: Vec<_> = (0u64..).zip(names).collect();
+    same(
+        "the functions by number",
+        &[
+            ("header", format!("{expected:?}")),
+            ("bridge", format!("{:?}", numbered(bridge))),
+            ("bridged", format!("{:?}", by_number(bridged))),
         ],
     );
 
@@ -407,6 +458,8 @@ fn one_thing_changed_on_one_side_is_found() {
     let texts = texts();
     let header: fn(&mut Texts) -> &mut String = |texts| &mut texts.header;
     let bindings: fn(&mut Texts) -> &mut String = |texts| &mut texts.bindings;
+    let bridge: fn(&mut Texts) -> &mut String = |texts| &mut texts.bridge;
+    let bridged: fn(&mut Texts) -> &mut String = |texts| &mut texts.bridged;
     let exported: fn(&mut Texts) -> &mut String = |texts| &mut texts.exported;
     let code: fn(&mut Texts) -> &mut String = |texts| &mut texts.code;
     let version: fn(&mut Texts) -> &mut String = |texts| &mut texts.version;
@@ -429,6 +482,10 @@ fn one_thing_changed_on_one_side_is_found() {
         // One function more, and one that is not exported.
         (exported, "fn parchbeetle_check(plan", "fn parchbeetle_more() -> u64\n#[no_mangle]\npub extern \"C\" fn parchbeetle_check(plan"),
         (exported, "#[no_mangle]\npub extern \"C\" fn parchbeetle_slice", "pub fn parchbeetle_slice"),
+        // A function that the bridge has under another number or not at all.
+        (bridge, "return parchbeetle_verdict(", "return parchbeetle_fresh("),
+        (bridged, "changing(7", "changing(8"),
+        (bridged, "pub fn verdict(plan: &[u8], k", "pub fn verdict(k: &[u8], plan"),
         // A field's name, width and order, and how many places.
         (header, "field(budget, 2)", "field(budget, 4)"),
         (header, "field(budget, 2)", "field(cells, 2)"),

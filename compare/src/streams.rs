@@ -16,6 +16,7 @@ use std::thread::{scope, sleep};
 use std::time::Duration;
 
 /// A stream, what it was made for, and its lines where document 01 gives them.
+#[derive(Clone)]
 pub struct Stream {
     /// What the input was made for.
     pub name: String,

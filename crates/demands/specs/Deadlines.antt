@@ -1,5 +1,6 @@
 -- Demand 3: what the rows written owe each unit, each card and each project. Beside document 01, "Running".
--- Of every run: any calls of slice and release, with any arguments and any lent row, refused ones among them, from a fresh start on an admitted plan.
+-- Of every run: any calls of slice and release, with any arguments and any lent row, refused ones among them, from a fresh start
+-- on an admitted plan.
 -- Assumes nothing.
 use mathlib.Core.Path.{_≡_, ap}
 use mathlib.Core.Logic.{_≢_, _↔_}
@@ -22,7 +23,8 @@ use Rattle.rack.specs.Slice.{sliceOf}
 use Rattle.demands.specs.Run.{Call, nextAfter, runFrom, after, slicesOf, noSlice, rowWritten}
 use Rattle.demands.specs.Since.{never, sinceFrom, fewer}
 use Rattle.demands.specs.Named.{namesKind, namesProject, bytesIn, bytesNaming, Orderly}
-use Rattle.demands.specs.Kept.{unit-named, unit-left, row-orderly, row-serves, project-most, project-all, not-ten, not-fifteen, fourteen-says, fourteen-of, clock-counts}
+use Rattle.demands.specs.Kept.{unit-named, unit-left, row-orderly, row-serves, project-most, project-all}
+use Rattle.demands.specs.Kept.{not-ten, not-fifteen, fourteen-says, fourteen-of, clock-counts}
 
 module _ (p : Plan) (admitted : startOf p .answer ≡ Good) where
   -- ---- 1. In time
@@ -47,9 +49,11 @@ module _ (p : Plan) (admitted : startOf p .answer ≡ Good) where
       e - bytesNaming (namesKind i) slices ≤ deadline - length slices
   in-time-so-far calls more i e good few =
       let slices = slicesOf (releaseOf (after p calls) i e .state) more in
-      omega (arith, unit-named p admitted calls more i e good .least, ap (bytesNaming (namesKind i)) (take-all (kindOf p i .deadline) slices few))
+      let all = ap (bytesNaming (namesKind i)) (take-all (kindOf p i .deadline) slices few) in
+      omega (arith, unit-named p admitted calls more i e good .least, all)
 
-  -- "A unit released at clock r is in time if left is 0 when the clock is r + D": while it is the kind's last, the state's left is at most D - x
+  -- "A unit released at clock r is in time if left is 0 when the clock is r + D": while it is the kind's last, the state's left
+  -- is at most D - x
   pub left-in-time : (calls more : List Call) (i e : ℕ) →
       let next = releaseOf (after p calls) i e in
       let end = runFrom (next .state) more in
@@ -105,10 +109,12 @@ module _ (p : Plan) (admitted : startOf p .answer ≡ Good) where
   pub never-left-over : (calls : List Call) (call : Call) → number (nextAfter (after p calls) call .answer) ≢ 15
   never-left-over = not-fifteen p admitted
 
-  -- 14 says the truth: it is given exactly where 12 and 13 are not, and fewer than T accepted slices are gone since the last accepted release of the kind
+  -- 14 says the truth: it is given exactly where 12 and 13 are not, and fewer than T accepted slices are gone since the last
+  -- accepted release of the kind
   pub told-early : (calls : List Call) (i e : ℕ) →
       let since = sinceFrom i (startOf p .state) never calls in
-      (number (releaseOf (after p calls) i e .answer) ≡ 14) ↔ ((i < p .kinds) × (within (kindOf p i .length) e ≡ true) × (fewer (kindOf p i .separation) since ≡ true))
+      (number (releaseOf (after p calls) i e .answer) ≡ 14) ↔
+      ((i < p .kinds) × (within (kindOf p i .length) e ≡ true) × (fewer (kindOf p i .separation) since ≡ true))
   told-early calls i e = (fourteen-says p admitted calls i e, fourteen-of p admitted calls i e)
 
   -- ---- 5. The clock

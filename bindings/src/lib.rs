@@ -19,6 +19,9 @@ pub use answer::{in_words, Answer, NUMBERS};
 pub use calls::{check, fresh, read, release, slice, slot_table, verdict, write};
 pub use record::{Kind, Plan, Project, State, Unit};
 
+/// Whether the library is linked, so that a call takes no more than its own time.
+pub const LINKED: bool = cfg!(target_arch = "x86_64");
+
 /// Bytes of a plan image.
 pub const PLAN_IMAGE: usize = 140;
 /// Bytes of a state image.

@@ -13,9 +13,10 @@ pub record Setup : Type 0 where
   pub mine : ℕ → Bool
   -- T, from one release to the next
   pub separation : ℕ → ℕ
-  -- D, from a release until the unit is due
+  -- D, from a release until the unit is due: how far off its deadline can be (Step)
   pub deadline : ℕ → ℕ
-  -- the length that the test judges: so many slices before it is due a unit is here at the latest. D, where it comes when it is released
+  -- the length that the test judges, in W and in S(k,t): so many slices before it is due a unit is here at the latest, and from then
+  -- on the invariant is claimed of it. It is D where units come as they are released
   pub reach : ℕ → ℕ
   -- C
   pub length : ℕ → ℕ

@@ -17,7 +17,8 @@ use Rattle.codec.specs.Bytes.{numberTo}
 use Rattle.codec.specs.Places.{partsTo}
 use Rattle.plan_bytes.specs.Parts.{size, headerFields, projectFields, kindFields, projectFrom, kindFrom, projectsFrom, kindsFrom, headed, decoded}
 use Rattle.plan_bytes.specs.Reading.{headerSpare, projectSpare, kindSpare, projectsSpare, kindsSpare, placesSpare, spareZero, bodyAnswer, readAnswer, readOf}
-use Rattle.layout.specs.Layout.{cellAt, firstCell, owns, held}
+use Rattle.layout.specs.Cards.{heldFrom}
+use Rattle.layout.specs.Layout.{cellAt, firstCell, owns, slotOf, held}
 use Rattle.supply.specs.Supply.{window, supply}
 use Rattle.supply.specs.Workload.{workloadPart}
 use Rattle.supply.specs.Fit.{fitsAt, leastWidth, excessAt, leastExcess}
@@ -26,8 +27,9 @@ use Rattle.verdict.specs.Verdict.{widthOf, excessOf, fitted, admitted}
 use Rattle.unit.specs.Form.{untouched, underway, unitInForm, emptyUnit}
 use Rattle.unit.specs.Start.{early, startable}
 use Rattle.rack.specs.Form.{inForm, ready}
-use Rattle.rack.specs.Rank.{gone, due, working, active, outranks, rank, served}
-use Rattle.rack.specs.Row.{holds, cardsBefore, takes, rowByte}
+use Rattle.rack.specs.View.{hasCard, cardsHeld, rankOf, chosen, takesCard, byteOn}
+use Rattle.rack.specs.Rank.{gone, due, working, active, outranks, viewOf, rank, served}
+use Rattle.rack.specs.Row.{byteBy, rowByte}
 use Rattle.rack.specs.Start.{startAnswer, startOf}
 use Rattle.rack.specs.Release.{releaseAnswer, released, releaseOf}
 use Rattle.rack.specs.Advance.{unitAfter, advanced, timeLeft}
@@ -48,5 +50,5 @@ abbrev pub output : List ℕ
 output = ascii "plan ok\nr 0 6 ok\nr 1 2 ok\nr 2 2 ok\nt 0: 1 2\nt 1: 1 2\nt 2: 1 3\nt 3: 3 0\nr 1 2 ok\nr 2 1 refused 14\nend 4\n"
 
 pub example : played input ≡ output
-unfolding sumTo leastTo firstTo countTo allTo written rankIn firstIn sooner eachTo within sized emptyProject emptyKind tidyProjects tidyKinds inRange timed budgets sizes unused projectsInRange kindInRange kindsInRange budgetsFit ranges checked bits unpack numberTo size partsTo headerFields projectFields kindFields projectFrom kindFrom projectsFrom kindsFrom headed decoded headerSpare projectSpare kindSpare projectsSpare kindsSpare placesSpare spareZero bodyAnswer readAnswer readOf cellAt firstCell owns held window supply workloadPart fitsAt leastWidth excessAt leastExcess besides partOf workload widthOf excessOf fitted admitted untouched underway unitInForm emptyUnit early startable inForm ready gone due working active outranks rank served holds cardsBefore takes rowByte startAnswer startOf releaseAnswer released releaseOf unitAfter advanced timeLeft roomFor sliceAnswer sliceOf commandFields fieldsSay commandOf decimalIn decimal planLine outcome releaseLine rowText sliceLine endLine lineOf after turns opening played
+unfolding sumTo leastTo firstTo countTo allTo written rankIn firstIn sooner eachTo within sized emptyProject emptyKind tidyProjects tidyKinds inRange timed budgets sizes unused projectsInRange kindInRange kindsInRange budgetsFit ranges checked bits unpack numberTo size partsTo headerFields projectFields kindFields projectFrom kindFrom projectsFrom kindsFrom headed decoded headerSpare projectSpare kindSpare projectsSpare kindsSpare placesSpare spareZero bodyAnswer readAnswer readOf cellAt heldFrom firstCell owns slotOf held window supply workloadPart fitsAt leastWidth excessAt leastExcess besides partOf workload widthOf excessOf fitted admitted untouched underway unitInForm emptyUnit early startable inForm ready gone due working active outranks hasCard cardsHeld rankOf chosen takesCard byteOn viewOf rank served byteBy rowByte startAnswer startOf releaseAnswer released releaseOf unitAfter advanced timeLeft roomFor sliceAnswer sliceOf commandFields fieldsSay commandOf decimalIn decimal planLine outcome releaseLine rowText sliceLine endLine lineOf after turns opening played
 example = refl

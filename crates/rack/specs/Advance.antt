@@ -9,7 +9,7 @@ use Rattle.answer.specs.declared.Refusal.the-variants.{Bare}
 use Rattle.answer.specs.Answer.{refuse}
 use Rattle.unit.specs.declared.Unit.{Unit}
 use Rattle.rack.specs.declared.State.{State}
-use Rattle.rack.specs.State.{lastClock, unitOf}
+use Rattle.rack.specs.State.{lastClock, unitOf, kindPlaces}
 use Rattle.rack.specs.Form.{Ready}
 use Rattle.rack.specs.Rank.{served}
 pub mod Properties
@@ -20,7 +20,7 @@ unitAfter s i = record { released = unitOf s i .released; at = unitOf s i .at; l
 
 -- ".. the clock rises by one"
 unfoldable pub advanced : State → State
-advanced s = record { plan = s .plan; clock = s .clock + 1; unit = written (s .plan .kinds) (unitAfter s) (s .unit) }
+advanced s = record { plan = s .plan; clock = s .clock + 1; unit = written (kindPlaces s) (unitAfter s) (s .unit) }
 
 -- "11: clock is 1,000,000,000"
 unfoldable pub timeLeft : State → Answer

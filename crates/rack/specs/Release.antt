@@ -1,8 +1,7 @@
 -- Document 01, "Release", and the refusals 12 to 15.
 -- Assumes nothing.
-use Prim.Native.Nat.{ℕ, _<_}
+use Prim.Native.Nat.{ℕ}
 use mathlib.Core.Bool.{true, not}
-use lib.Dec.{ltb}
 use lib.ListN.{set}
 use Rattle.answer.specs.declared.Answer.{Answer}
 use Rattle.answer.specs.declared.Refusal.the-variants.{Bare}
@@ -10,14 +9,14 @@ use Rattle.answer.specs.Answer.{refuse, _andThen_}
 use Rattle.unit.specs.Start.{Startable, startable}
 use Rattle.rack.specs.declared.State.{State}
 use Rattle.rack.specs.declared.Next.{Next}
-use Rattle.rack.specs.State.{unitOf, kindAt, nextOf}
+use Rattle.rack.specs.State.{unitOf, kindAt, InUse, used, nextOf}
 use Rattle.rack.specs.Form.{Ready, ready}
 use Rattle.rack.specs.Rank.{gone}
 pub mod Properties
 
 -- "Release: the record order, 10, 12, 13, 14, 15"
 unfoldable pub releaseAnswer : State → ℕ → ℕ → Answer
-releaseAnswer s i e = ready s andThen (refuse (not (ltb i (s .plan .kinds))) (Bare 12) andThen startable (kindAt s i) (unitOf s i) (gone s i) e)
+releaseAnswer s i e = ready s andThen (refuse (not (used s i)) (Bare 12) andThen startable (kindAt s i) (unitOf s i) (gone s i) e)
 
 -- "Release of a kind with a length e .. sets that clock and sets left to e"
 unfoldable pub released : State → ℕ → ℕ → State
@@ -32,5 +31,5 @@ releaseOf s i e = nextOf (releaseAnswer s i e) (released s i e) s
 -- none of the record order, 10, 12, 13, 14 and 15
 pub record Releasable (s : State) (i e : ℕ) : Type 0 where
   pub ready : Ready s
-  pub its-kind : i < s .plan .kinds
+  pub its-kind : InUse s i
   pub start : Startable (kindAt s i) (unitOf s i) (gone s i) e

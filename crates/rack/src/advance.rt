@@ -10,7 +10,7 @@ impl State {
         requires { ⌜ Advanceable self × (now seat ≡ seatsOf self) ⌝ }
         ensures { λ r. ⌜ r ≡ advanced self ⌝ }
     {
-        let kinds = self.plan.kinds as usize;
+        let kinds = self.places();
         for i in 0..kinds {
             if seat[i] == 0 {
                 continue;

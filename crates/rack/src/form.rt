@@ -13,10 +13,9 @@ impl State {
             return false;
         }
         let plan = self.plan;
-        let used = plan.kinds as usize;
         for i in 0..16 {
             if !self.unit[i]
-                .fits_place(i < used, self.clock, plan.kind[i].length) {
+                .fits_place(self.in_use(i), self.clock, plan.kind[i].length) {
                 return false;
             }
         }

@@ -10,7 +10,7 @@ mod row;
 mod slice;
 
 ghost use mathlib.Core.Path.{_≡_};
-ghost use Rattle.rack.specs.State.{freshOf, noState};
+ghost use Rattle.rack.specs.State.{freshOf, noState, kindPlaces, used};
 ghost use Rattle.rack.specs.Start.{startOf};
 use answer::Answer;
 use plan::Plan;
@@ -34,6 +34,20 @@ pub struct Next {
 impl State {
     // Where the clock ends.
     pub const LAST: u32 = 1000000000;
+
+    // How many places of kinds are looked through.
+    pub(crate) fn places(self) -> usize
+        ensures { λ r. ⌜ r ≡ kindPlaces self ⌝ }
+    {
+        self.plan.kinds as usize
+    }
+
+    // Whether a place is a kind's.
+    pub(crate) fn in_use(self, place: usize) -> bool
+        ensures { λ r. ⌜ r ≡ used self place ⌝ }
+    {
+        place < self.plan.kinds as usize
+    }
 
     // The plan at clock 0, with no kind ever released.
     pub(crate) fn fresh(plan: Plan) -> Self

@@ -16,10 +16,10 @@ impl State {
         let Answer::Good = checked else {
             return checked;
         };
-        let plan = self.plan;
-        if plan.kinds as usize <= kind {
+        if !self.in_use(kind) {
             return Answer::No(Refusal::Bare(12));
         }
+        let plan = self.plan;
         let unit = self.unit[kind];
         unit.may_start(plan.kind[kind], self.clock - unit.at, length)
     }

@@ -15,7 +15,7 @@ ghost use Rattle.seats.specs.Seats.{at};
 ghost use Rattle.rack.specs.State.{lastClock};
 ghost use Rattle.rack.specs.Form.{Ready};
 ghost use Rattle.rack.specs.Row.{rowOver};
-ghost use Rattle.rack.specs.Seat.{idle, worksFor, lowest, seatsOf, seated};
+ghost use Rattle.rack.specs.Seat.{idle, worksFor, lowestAt, endAt, seatsOf, seated};
 use crate::State;
 use layout::cards_below;
 use plan::Kind;
@@ -23,20 +23,29 @@ use plan::Plan;
 use seats::seats;
 use unit::Unit;
 
-// For each project the card from which its own go on in this slice, and past the last project the
-// card after them: one walk over the projects.
-fn lowest_cards(plan: Plan, clock: u32) -> [u8; 9]
+// Each project's lowest card in this slice, and the card after its last.
+struct Cards {
+    low: [u8; 8],
+    end: [u8; 8],
+}
+
+// One walk over the projects: each one's cells begin where the last one's end.
+fn project_cards(plan: Plan, clock: u32) -> Cards
     requires { ⌜ InOrder plan ⌝ }
-    ensures { λ r. ⌜ r ≡ written (plan .projects + 1) (lowest plan clock) (replicate 9 0) ⌝ }
+    ensures { λ r. ⌜ (r .low ≡ written (plan .projects) (lowestAt plan clock) (replicate 8 0)) × (r .end ≡ written (plan .projects) (endAt plan clock) (replicate 8 0)) ⌝ }
 {
     let slice = (clock % plan.frame as u32) as u8;
-    let mut low = [0u8; 9];
+    let mut low = [0u8; 8];
+    let mut end = [0u8; 8];
     let mut cell: u16 = 0;
+    let mut card: u8 = 0;
     for j in 0..plan.projects as usize {
+        low[j] = card;
         cell += plan.project[j].budget;
-        low[j + 1] = cards_below(cell, plan.frame, slice) as u8;
+        card = cards_below(cell, plan.frame, slice) as u8;
+        end[j] = card;
     }
-    low
+    Cards { low, end }
 }
 
 // No kind on any card yet.
@@ -89,15 +98,17 @@ impl State {
         ensures { λ r. ⌜ r ≡ seatsOf self ⌝ }
     {
         let plan = self.plan;
-        let kinds = plan.kinds as usize;
+        let kinds = self.places();
         let mut works = [0u8; 16];
         let mut due = [0u32; 16];
         for i in 0..kinds {
             works[i] = works_for(self.unit[i], plan.kind[i]);
             due[i] = due_clock(self.unit[i], plan.kind[i]);
         }
-        let low = lowest_cards(plan, self.clock);
-        seats(&works, &due, &low, kinds)
+        let cards = project_cards(plan, self.clock);
+        let low = cards.low;
+        let end = cards.end;
+        seats(&works, &due, &low, &end, kinds)
     }
 
     // Writes the row into a lent one, by the seats.
@@ -107,6 +118,6 @@ impl State {
     {
         let plan = self.plan;
         clear(out, plan.cards as usize);
-        seat_kinds(out, seat, plan.kinds as usize);
+        seat_kinds(out, seat, self.places());
     }
 }

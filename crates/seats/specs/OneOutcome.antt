@@ -6,5 +6,5 @@ use Prim.Native.Nat.{ℕ}
 use Rattle.seats.specs.Seats.{seatsBy}
 
 -- `seats`
-pub seats-one-outcome : (works due low : List ℕ) (kinds : ℕ) (a b : List ℕ) → a ≡ seatsBy works due low kinds → b ≡ seatsBy works due low kinds → a ≡ b
-seats-one-outcome works due low kinds a b p q = p ∙ sym q
+pub seats-one-outcome : (works due low end : List ℕ) (kinds : ℕ) (a b : List ℕ) → a ≡ seatsBy works due low end kinds → b ≡ seatsBy works due low end kinds → a ≡ b
+seats-one-outcome works due low end kinds a b p q = p ∙ sym q

@@ -12,8 +12,9 @@ use Rattle.unit.specs.declared.Unit.{Unit}
 use Rattle.unit.specs.Unit.{noUnit}
 use Rattle.unit.specs.Form.{UnitInForm}
 use Rattle.rack.specs.declared.State.{State}
-use Rattle.rack.specs.State.{unitOf, kindAt}
+use Rattle.rack.specs.State.{unitOf, kindAt, kindPlaces, InUse}
 use Rattle.rack.specs.Form.{Ready}
+use Rattle.rack.specs.Form.Properties.{not-used}
 use Rattle.rack.specs.Rank.{served}
 use Rattle.rack.specs.Rank.Properties.{served-working, working-left}
 use Rattle.seats.specs.Seats.{at}
@@ -36,9 +37,9 @@ after-unserved s i e = rw e (λ k. record { released = unitOf s i .released; at 
 
 -- ---- the steps of a loop that lowers what is left, by the seats
 
-module _ (s : State) (r : Ready s) (seat : List ℕ) (es : seat ≡ seatsOf s) (units : List Unit) (i : ℕ) (so-far : units ≡ written i (unitAfter s) (s .unit)) (l : i < s .plan .kinds) where
+module _ (s : State) (r : Ready s) (seat : List ℕ) (es : seat ≡ seatsOf s) (units : List Unit) (i : ℕ) (so-far : units ≡ written i (unitAfter s) (s .unit)) (n : ℕ) (en : n ≡ kindPlaces s) (l : i < n) where
   here : at seat i ≡ seatOf s i
-  here = ap (λ (m : List ℕ). at m i) es ∙ seats-at s r i l
+  here = ap (λ (m : List ℕ). at m i) es ∙ seats-at s r i (omega arith)
 
   not-seated : at seat i ≡ 0 → served s i ≡ false
   not-seated z = go (served s i) refl
@@ -70,25 +71,26 @@ module _ (s : State) (r : Ready s) (seat : List ℕ) (es : seat ≡ seatsOf s) (
       lower : Unit → Unit
       lower v = record { released = v .released; at = v .at; left = v .left - 1 }
 
--- and the clock
-pub advanced-is : (s t : State) (n : ℕ) → t .plan ≡ s .plan → t .clock ≡ s .clock → t .unit ≡ written n (unitAfter s) (s .unit) → n ≤ s .plan .kinds → s .plan .kinds ≤ n → record { plan = t .plan; clock = t .clock + 1; unit = t .unit } ≡ advanced s
+-- and the clock: n of m places are done
+pub advanced-is : (s t : State) (n m : ℕ) → m ≡ kindPlaces s → t .plan ≡ s .plan → t .clock ≡ s .clock → t .unit ≡ written n (unitAfter s) (s .unit) → n ≤ m → m ≤ n →
+    record { plan = t .plan; clock = t .clock + 1; unit = t .unit } ≡ advanced s
 unfolding advanced
-advanced-is s t n p q u a b = λ k. record { plan = p k; clock = q k + 1; unit = written-stop n (s .plan .kinds) (unitAfter s) (s .unit) (t .unit) u a b k }
+advanced-is s t n m e p q u a b = λ k. record { plan = p k; clock = q k + 1; unit = written-stop n (kindPlaces s) (unitAfter s) (s .unit) (t .unit) u (omega arith) (omega arith) k }
 
 -- ---- it is in form
 
 module _ (s : State) (may : Advanceable s) (places : length (s .unit) ≡ 16) where
-  pub unit-after : (i : ℕ) → i < s .plan .kinds → unitOf (advanced s) i ≡ unitAfter s i
+  pub unit-after : (i : ℕ) → InUse s i → unitOf (advanced s) i ≡ unitAfter s i
   unfolding advanced
-  unit-after i l = written-at (s .plan .kinds) (unitAfter s) (s .unit) noUnit i l (omega (arith, may .ready .order .counts .kinds-most))
+  unit-after i l = written-at (kindPlaces s) (unitAfter s) (s .unit) noUnit i l (omega (arith, may .ready .order .counts .kinds-most))
 
-  unit-unused : (i : ℕ) → s .plan .kinds ≤ i → unitOf (advanced s) i ≡ unitOf s i
+  unit-unused : (i : ℕ) → (InUse s i → ⊥) → unitOf (advanced s) i ≡ unitOf s i
   unfolding advanced
-  unit-unused i l = written-kept (s .plan .kinds) (unitAfter s) (s .unit) noUnit i l
+  unit-unused i l = written-kept (kindPlaces s) (unitAfter s) (s .unit) noUnit i (not-used s i l)
 
   pub advance-places : length (advanced s .unit) ≡ 16
   unfolding advanced
-  advance-places = written-length (s .plan .kinds) (unitAfter s) (s .unit) ∙ places
+  advance-places = written-length (kindPlaces s) (unitAfter s) (s .unit) ∙ places
 
   in-form-after : (i : ℕ) → UnitInForm (s .clock) (kindAt s i .length) (unitOf s i) → UnitInForm (s .clock + 1) (kindAt s i .length) (unitAfter s i)
   unfolding unitAfter

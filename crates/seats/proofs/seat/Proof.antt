@@ -38,6 +38,9 @@ wide-requires-3 c κs = search needs
 add-card : tie.Need-add-card
 add-card c = search needs
 
+sub-seat-at : tie.Need-sub-seat-at
+sub-seat-at c = search needs
+
 element-copy-out-seat-at : tie.Need-element-copy-out-seat-at
 element-copy-out-seat-at c = search needs
 
@@ -62,6 +65,7 @@ seat-spec =
     rank-requires
     wide-requires-3
     add-card
+    sub-seat-at
     element-copy-out-seat-at
     seat-at-requires
     returns-3)

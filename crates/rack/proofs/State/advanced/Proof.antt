@@ -6,6 +6,7 @@ use native.Mathlib.Omega.{arith}
 use borrow.Author.Needs.{needs}
 use Rattle.laws.specs.Written.{written}
 use Rattle.laws.specs.Written.Properties.{written-none}
+use Rattle.rack.specs.Form.Properties.{places-most}
 use Rattle.rack.specs.Advance.{unitAfter}
 use Rattle.rack.specs.Advance.Properties.{lowered-not, lowered-some, lowered-one, advanced-is}
 use Rattle.rack.proofs.State.advanced.Statement.{statement}
@@ -17,11 +18,11 @@ Inv-loop seat self₀ kinds i₀ self i = (i ≤ kinds) × (kinds ≤ 16) × (se
 abbrev μ-loop : tie.MeasureT-loop
 μ-loop seat self₀ kinds i₀ self i = kinds - i
 
-cast-kinds : tie.Need-cast-kinds Inv-loop μ-loop
-cast-kinds c = search needs
+places-requires : tie.Need-places-requires Inv-loop μ-loop
+places-requires c κs = search needs
 
 loop-holds : tie.Need-loop-holds Inv-loop μ-loop
-loop-holds c = (omega arith, omega arith, refl, refl, written-none _ _)
+loop-holds c = (omega arith, search places-most, refl, refl, written-none _ _)
 
 element-copy-out-if1 : tie.Need-element-copy-out-if1 Inv-loop μ-loop
 element-copy-out-if1 c = search needs
@@ -68,7 +69,7 @@ advanced-spec =
     (tie.spec
     Inv-loop
     μ-loop
-    cast-kinds
+    places-requires
     loop-holds
     element-copy-out-if1
     add-i

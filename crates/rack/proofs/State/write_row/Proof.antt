@@ -1,7 +1,7 @@
 -- `rack::State::write_row` meets its contract.
 -- Assumes nothing.
 use Rattle.rack.specs.Seat.Properties.{seats-fit, row-written}
-use Rattle.rack.specs.Form.Properties.{kinds-most}
+use Rattle.rack.specs.Form.Properties.{places-most}
 use borrow.Author.Needs.{needs}
 use Rattle.rack.proofs.State.write_row.Statement.{statement}
 use Rattle.rack.proofs.State.write_row.Tie as tie
@@ -12,11 +12,11 @@ cast-clear c = search needs
 clear-requires : tie.Need-clear-requires
 clear-requires c κs = search needs
 
-cast-seat-kinds : tie.Need-cast-seat-kinds
-cast-seat-kinds c = search needs
+places-requires : tie.Need-places-requires
+places-requires c κs = search needs
 
 seat-kinds-requires : tie.Need-seat-kinds-requires
-seat-kinds-requires c κs = (search kinds-most, search seats-fit)
+seat-kinds-requires c κs = (search places-most, search seats-fit)
 
 same-length : tie.Need-same-length
 same-length c = search needs
@@ -27,4 +27,4 @@ returns c = search row-written
 pub write-row-spec : {M : Type 1} → statement M
 write-row-spec =
     tie.close
-    (tie.spec cast-clear clear-requires cast-seat-kinds seat-kinds-requires same-length returns)
+    (tie.spec cast-clear clear-requires places-requires seat-kinds-requires same-length returns)

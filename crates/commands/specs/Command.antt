@@ -25,4 +25,6 @@ fieldsSay which kind e zeros = cond (eqb zeros 0) (cond (eqb which 1) (Release k
 
 -- the command at the front of s; "one or two left over" are bad
 unfoldable pub commandOf : List ℕ → Command
-commandOf s = cond (ltb (length s) 3) Bad (fieldsSay (getD (commandFields s) 0 0) (getD (commandFields s) 1 0) (getD (commandFields s) 2 0) (getD (commandFields s) 3 0))
+commandOf s =
+    cond (ltb (length s) 3) Bad (fieldsSay (getD (commandFields s) 0 0) (getD (commandFields s) 1 0) (getD (commandFields s) 2 0)
+    (getD (commandFields s) 3 0))

@@ -12,5 +12,6 @@ pub decode-one-outcome : (bytes : List ℕ) (a b : Command) → a ≡ commandOf 
 decode-one-outcome bytes a b p q = p ∙ sym q
 
 -- `keep`
-pub keep-one-outcome : (bytes : List ℕ) (from to a b : ℕ) (after later : List ℕ) → Keeps bytes from to a after → Keeps bytes from to b later → (a ≡ b) × (after ≡ later)
+pub keep-one-outcome : (bytes : List ℕ) (from to a b : ℕ) (after later : List ℕ) → Keeps bytes from to a after → Keeps bytes from to b later
+    → (a ≡ b) × (after ≡ later)
 keep-one-outcome bytes from to a b after later x y = (x .result ∙ sym (y .result), x .buffer ∙ sym (y .buffer))

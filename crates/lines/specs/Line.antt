@@ -60,6 +60,10 @@ lineText (End clock) row = endLine clock
 abbrev pub lineRoom : ℕ
 lineRoom = 128
 
+-- what a line's last words may take of it
+abbrev pub endRoom : ℕ
+endRoom = 64
+
 -- the line, or nothing where a line may not have room behind `at`
 unfoldable pub printed : Line → List ℕ → List ℕ → ℕ → List ℕ
 printed line row out at = cond (leb (at + lineRoom) (length out)) (lineText line row) []

@@ -5,7 +5,7 @@ ghost use Prim.Native.Nat.{ℕ, _+_, _*_, _≤_, min};
 ghost use mathlib.Core.List.{_++_};
 ghost use lib.ListN.{length, getD};
 ghost use Rattle.lines.specs.Text.{decimal, Puts};
-ghost use Rattle.lines.specs.Line.{planLine, outcome, releaseLine, rowText, sliceLine, badLine, endLine, Prints};
+ghost use Rattle.lines.specs.Line.{planLine, outcome, releaseLine, rowText, sliceLine, badLine, endLine, lineRoom, endRoom, Prints};
 use crate::text::put;
 use crate::text::put_number;
 use answer::Answer;
@@ -35,8 +35,8 @@ fn put_both(out: &mut [u8], at: usize, word: &[u8], n: u32) -> usize
 
 // `plan ok` or `plan refused N at P`.
 fn put_plan(out: &mut [u8], at: usize, answer: Answer) -> usize
-    requires { ⌜ at + 128 ≤ length (now out) ⌝ }
-    ensures { λ r. ⌜ (Puts (now (out .entry)) at (planLine answer) r (now (out .exit))) × (r ≤ at + 128) ⌝ }
+    requires { ⌜ at + lineRoom ≤ length (now out) ⌝ }
+    ensures { λ r. ⌜ (Puts (now (out .entry)) at (planLine answer) r (now (out .exit))) × (r ≤ at + lineRoom) ⌝ }
 {
     let Answer::No(_) = answer else {
         return put(out, at, b"plan ok\n");
@@ -48,8 +48,8 @@ fn put_plan(out: &mut [u8], at: usize, answer: Answer) -> usize
 
 // ` ok` or ` refused N`, with the line's end.
 fn put_outcome(out: &mut [u8], at: usize, answer: Answer) -> usize
-    requires { ⌜ at + 64 ≤ length (now out) ⌝ }
-    ensures { λ r. ⌜ (Puts (now (out .entry)) at (outcome answer) r (now (out .exit))) × (r ≤ at + 64) ⌝ }
+    requires { ⌜ at + endRoom ≤ length (now out) ⌝ }
+    ensures { λ r. ⌜ (Puts (now (out .entry)) at (outcome answer) r (now (out .exit))) × (r ≤ at + endRoom) ⌝ }
 {
     let Answer::No(_) = answer else {
         return put(out, at, b" ok\n");
@@ -60,8 +60,8 @@ fn put_outcome(out: &mut [u8], at: usize, answer: Answer) -> usize
 
 // `r KIND E ok` or `r KIND E refused N`.
 fn put_release(out: &mut [u8], at: usize, kind: u8, e: u16, answer: Answer) -> usize
-    requires { ⌜ at + 128 ≤ length (now out) ⌝ }
-    ensures { λ r. ⌜ (Puts (now (out .entry)) at (releaseLine kind e answer) r (now (out .exit))) × (r ≤ at + 128) ⌝ }
+    requires { ⌜ at + lineRoom ≤ length (now out) ⌝ }
+    ensures { λ r. ⌜ (Puts (now (out .entry)) at (releaseLine kind e answer) r (now (out .exit))) × (r ≤ at + lineRoom) ⌝ }
 {
     let at = put_both(out, at, b"r ", kind as u32);
     let at = put_both(out, at, b" ", e as u32);
@@ -82,8 +82,8 @@ fn put_row(out: &mut [u8], at: usize, row: [u8; 8], cards: u8) -> usize
 
 // `t CLOCK:` and the row's bytes.
 fn put_served(out: &mut [u8], at: usize, clock: u32, row: &[u8; 8], cards: u8) -> usize
-    requires { ⌜ (cards ≤ 8) × (at + 128 ≤ length (now out)) ⌝ }
-    ensures { λ r. ⌜ (Puts (now (out .entry)) at (sliceLine Answer.Good clock cards (λ (card : ℕ). getD (now (row .entry)) card 0)) r (now (out .exit))) × (r ≤ at + 128) ⌝ }
+    requires { ⌜ (cards ≤ 8) × (at + lineRoom ≤ length (now out)) ⌝ }
+    ensures { λ r. ⌜ (Puts (now (out .entry)) at (sliceLine Answer.Good clock cards (λ (card : ℕ). getD (now (row .entry)) card 0)) r (now (out .exit))) × (r ≤ at + lineRoom) ⌝ }
 {
     let at = put_both(out, at, b"t ", clock);
     let at = put(out, at, b":");
@@ -110,8 +110,8 @@ fn put_slice(
     row: &[u8; 8],
     cards: u8,
 ) -> usize
-    requires { ⌜ at + 128 ≤ length (now out) ⌝ }
-    ensures { λ r. ⌜ (Puts (now (out .entry)) at (sliceLine answer clock (min cards 8) (λ (card : ℕ). getD (now (row .entry)) card 0)) r (now (out .exit))) × (r ≤ at + 128) ⌝ }
+    requires { ⌜ at + lineRoom ≤ length (now out) ⌝ }
+    ensures { λ r. ⌜ (Puts (now (out .entry)) at (sliceLine answer clock (min cards 8) (λ (card : ℕ). getD (now (row .entry)) card 0)) r (now (out .exit))) × (r ≤ at + lineRoom) ⌝ }
 {
     let Answer::No(_) = answer else {
         return put_served(out, at, clock, row, row_cards(cards));
@@ -122,8 +122,8 @@ fn put_slice(
 
 // `end CLOCK`.
 fn put_end(out: &mut [u8], at: usize, clock: u32) -> usize
-    requires { ⌜ at + 64 ≤ length (now out) ⌝ }
-    ensures { λ r. ⌜ (Puts (now (out .entry)) at (endLine clock) r (now (out .exit))) × (r ≤ at + 64) ⌝ }
+    requires { ⌜ at + endRoom ≤ length (now out) ⌝ }
+    ensures { λ r. ⌜ (Puts (now (out .entry)) at (endLine clock) r (now (out .exit))) × (r ≤ at + endRoom) ⌝ }
 {
     let at = put_both(out, at, b"end ", clock);
     put(out, at, b"\n")
@@ -131,23 +131,26 @@ fn put_end(out: &mut [u8], at: usize, clock: u32) -> usize
 
 // `bad command`, and then the last line.
 fn put_bad(out: &mut [u8], at: usize, clock: u32) -> usize
-    requires { ⌜ at + 128 ≤ length (now out) ⌝ }
-    ensures { λ r. ⌜ (Puts (now (out .entry)) at (badLine ++ endLine clock) r (now (out .exit))) × (r ≤ at + 128) ⌝ }
+    requires { ⌜ at + lineRoom ≤ length (now out) ⌝ }
+    ensures { λ r. ⌜ (Puts (now (out .entry)) at (badLine ++ endLine clock) r (now (out .exit))) × (r ≤ at + lineRoom) ⌝ }
 {
     let at = put(out, at, b"bad command\n");
     put_end(out, at, clock)
 }
 
 impl Line {
+    // What a line may take of a buffer: every line fits in it.
+    pub const ROOM: usize = 128;
+
     // The line's bytes, from index at on; its row's bytes stand in row. Answers the index after
-    // it. Where fewer than 128 bytes stand behind at, nothing is written.
+    // it. Where less than a line's room stands behind at, nothing is written.
     pub fn put(self, row: &[u8; 8], out: &mut [u8], at: usize) -> usize
         ensures { λ r. ⌜ Prints self (now (row .entry)) (now (out .entry)) at r (now (out .exit)) ⌝ }
     {
-        if out.len() < 128 {
+        if out.len() < Line::ROOM {
             return at;
         }
-        if out.len() - 128 < at {
+        if out.len() - Line::ROOM < at {
             return at;
         }
         match self {

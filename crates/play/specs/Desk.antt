@@ -1,4 +1,5 @@
--- The loop of `play`: where a play of standard input stands between two rounds, and what a round leaves, for whatever a read may bring and a write may answer.
+-- The loop of `play`: where a play of standard input stands between two rounds, and what a round leaves, for whatever a read may bring and
+-- a write may answer.
 -- Assumes nothing.
 use Prim.Native.Nat.{ℕ, suc, _+_, _-_, _^_, _≤_, _<_, min}
 use mathlib.Core.Path.{_≡_}
@@ -76,7 +77,8 @@ toldOf desk x taken written = record { session = x; from = desk .from + taken; t
 abbrev pub endedOf : Desk → Desk
 endedOf desk = record { session = desk .session; from = desk .from; to = desk .to; last = desk .last; course = Over }
 
--- so many bytes are held at the front, and what a read brought stands behind them; a read that brings nothing says that the input has ended, one that fails does not
+-- so many bytes are held at the front, and what a read brought stands behind them; a read that brings nothing says that the input has
+-- ended, one that fails does not
 abbrev pub heardOf : Session → ℕ → Arrival → Desk
 heardOf x held (Came n) = record { session = x; from = 0; to = held + n; last = eqb n 0; course = On }
 heardOf x held Failed = record { session = x; from = 0; to = held; last = false; course = Unread }
@@ -89,14 +91,16 @@ pub record Hears (desk : Desk) (input : List ℕ) (r : Desk) (after : List ℕ) 
   pub long : length after ≡ length input
   pub most : length (holds desk input) + countOf arrival ≤ length after
 
--- a round: there are lines, and they stand at the front of the output; or there is none, and the play is over; or there is none without more input, and one read is made
+-- a round: there are lines, and they stand at the front of the output; or there is none, and the play is over; or there is none without
+-- more input, and one read is made
 pub data Round (desk : Desk) (input output : List ℕ) : Desk → List ℕ → List ℕ → Type 0 where
   tells : (written : Bool) → 0 < length (linesNow desk input (length output) .text)
       → Round desk input output
       (toldOf desk (linesNow desk input (length output) .session) (linesNow desk input (length output) .taken) written)
       input
       (linesNow desk input (length output) .text ++ drop (length (linesNow desk input (length output) .text)) output)
-  ends : linesNow desk input (length output) .text ≡ [] → isOver (desk .session) ≡ true → Round desk input output (endedOf desk) input output
+  ends : linesNow desk input (length output) .text ≡ [] → isOver (desk .session) ≡ true
+      → Round desk input output (endedOf desk) input output
   hears : (r : Desk) (after : List ℕ) → linesNow desk input (length output) .text ≡ [] → isOver (desk .session) ≡ false → desk .last ≡ false
       → Hears desk input r after → Round desk input output r after output
 

@@ -11,6 +11,7 @@
 ghost use mathlib.Core.Path.{_≡_};
 ghost use Prim.Native.Nat.{_+_, _-_, _^_, _≤_, _<_};
 ghost use lib.ListN.{length};
+ghost use Rattle.lines.specs.Line.{lineRoom};
 ghost use Rattle.play.specs.Desk.{isClosed, Fits, arrivalOf, countOf, Arrives, courseOf, toldOf, endedOf, heardOf, Hears, Round, Ends};
 use libc::STDIN_FILENO;
 use libc::STDOUT_FILENO;
@@ -150,7 +151,7 @@ fn told(desk: Desk, session: Session, taken: usize, written: bool) -> Desk
 
 // Plays what is there and writes the lines, or reads where there is no line.
 fn round(desk: Desk, input: &mut [u8], output: &mut [u8]) -> Desk
-    requires { ⌜ (Fits desk (now input)) × (128 ≤ length (now input)) × (128 ≤ length (now output)) ⌝ }
+    requires { ⌜ (Fits desk (now input)) × (lineRoom ≤ length (now input)) × (lineRoom ≤ length (now output)) ⌝ }
     ensures { λ r. ⌜ Round desk (now (input .entry)) (now (output .entry)) r (now (input .exit)) (now (output .exit)) ⌝ }
 {
     let session = desk.session;
@@ -173,7 +174,7 @@ fn round(desk: Desk, input: &mut [u8], output: &mut [u8]) -> Desk
 // A proved loop has to end, and nothing says that the input does. So it counts its rounds, up to
 // a number that no run comes to.
 fn play_all(input: &mut [u8], output: &mut [u8]) -> Desk
-    requires { ⌜ (128 ≤ length (now input)) × (128 ≤ length (now output)) ⌝ }
+    requires { ⌜ (lineRoom ≤ length (now input)) × (lineRoom ≤ length (now output)) ⌝ }
     ensures { λ r. ⌜ Ends r (now (input .exit)) ⌝ }
 {
     let mut desk = Desk {

@@ -17,5 +17,6 @@ pub is-over-one-outcome : (x : Session) (a b : Bool) → a ≡ isOver x → b �
 is-over-one-outcome x a b p q = p ∙ sym q
 
 -- `Session::play`
-pub play-one-outcome : (x : Session) (last : Bool) (bytes out : List ℕ) (r s : Progress) (held later : List ℕ) → Plays x last bytes out r held → Plays x last bytes out s later → (r ≡ s) × (held ≡ later)
+pub play-one-outcome : (x : Session) (last : Bool) (bytes out : List ℕ) (r s : Progress) (held later : List ℕ)
+    → Plays x last bytes out r held → Plays x last bytes out s later → (r ≡ s) × (held ≡ later)
 play-one-outcome x last bytes out r s held later a b = (a .result ∙ sym (b .result), a .buffer ∙ sym (b .buffer))

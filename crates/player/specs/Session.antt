@@ -68,7 +68,8 @@ stay x = record { session = x; taken = 0; text = [] }
 
 -- "First line: `plan ok` or `plan refused N at P`, and then it stops"
 abbrev pub firstLine : Answer → State → ℕ → Move
-firstLine a s n = record { session = record { stage = ifGood a Running Over; state = ifGood a s noState }; taken = ifGood a n 0; text = planLine a }
+firstLine a s n =
+    record { session = record { stage = ifGood a Running Over; state = ifGood a s noState }; taken = ifGood a n 0; text = planLine a }
 
 -- the first line, unless the plan is cut short and the input has not ended with these bytes
 unfoldable pub openOf : Session → Bool → List ℕ → Move

@@ -18,7 +18,8 @@ pub mod Properties
 abbrev pub rowRoom : ℕ
 rowRoom = 8
 
--- "A release prints ..; a slice prints `t CLOCK:` with the clock before it and the row's bytes ..; Any other three bytes .. print `bad command`"
+-- "A release prints ..; a slice prints `t CLOCK:` with the clock before it and the row's bytes ..; Any other three bytes .. print `bad
+-- command`"
 unfoldable pub lineOf : State → Command → List ℕ
 lineOf s Slice = sliceLine (sliceOf s rowRoom .answer) (s .clock) (s .plan .cards) (rowByte s)
 lineOf s (Release kind e) = releaseLine kind e (releaseOf s kind e .answer)

@@ -6,6 +6,7 @@ ghost use lib.Dec.{eqb};
 ghost use lib.ListN.{length};
 ghost use Rattle.answer.specs.Answer.{number};
 ghost use Rattle.rack.specs.Start.{startOf};
+ghost use Rattle.lines.specs.Line.{lineRoom};
 ghost use Rattle.player.specs.Session.{unopened, running, over, isOver, firstLine, openOf, commandMove, runOf, stepOf, Steps, Plays};
 use crate::turn;
 use answer::Answer;
@@ -45,15 +46,12 @@ pub struct Progress {
 fn waits(answer: Answer, last: bool) -> bool
     ensures { λ r. ⌜ r ≡ (not last && eqb (number answer) 1) ⌝ }
 {
-    if last {
-        return false;
-    }
-    answer.number() == 1
+    !last && answer.number() == 1
 }
 
 // The line of a plan that was read, and its fresh start.
 fn start(plan: Plan, taken: usize, out: &mut [u8], at: usize) -> Step
-    requires { ⌜ at + 128 ≤ length (now out) ⌝ }
+    requires { ⌜ at + lineRoom ≤ length (now out) ⌝ }
     ensures { λ r. ⌜ Steps (firstLine (startOf plan .answer) (startOf plan .state) taken) (now (out .entry)) at r (now (out .exit)) ⌝ }
 {
     let start = State::start(plan);
@@ -117,7 +115,7 @@ impl Session {
 
     // The first line.
     fn open(self, bytes: &[u8], last: bool, out: &mut [u8], at: usize) -> Step
-        requires { ⌜ at + 128 ≤ length (now out) ⌝ }
+        requires { ⌜ at + lineRoom ≤ length (now out) ⌝ }
         ensures { λ r. ⌜ Steps (openOf self last (now (bytes .entry))) (now (out .entry)) at r (now (out .exit)) ⌝ }
     {
         let reading = plan_reader::read(bytes);
@@ -143,7 +141,7 @@ impl Session {
 
     // A command's line.
     fn obey(self, command: Command, out: &mut [u8], at: usize) -> Step
-        requires { ⌜ at + 128 ≤ length (now out) ⌝ }
+        requires { ⌜ at + lineRoom ≤ length (now out) ⌝ }
         ensures { λ r. ⌜ Steps (commandMove (self .state) command) (now (out .entry)) at r (now (out .exit)) ⌝ }
     {
         let state = self.state;
@@ -179,7 +177,7 @@ impl Session {
 
     // The line of the next command, or the last line.
     fn run(self, bytes: &[u8], last: bool, out: &mut [u8], at: usize) -> Step
-        requires { ⌜ at + 128 ≤ length (now out) ⌝ }
+        requires { ⌜ at + lineRoom ≤ length (now out) ⌝ }
         ensures { λ r. ⌜ Steps (runOf self last (now (bytes .entry))) (now (out .entry)) at r (now (out .exit)) ⌝ }
     {
         if last {
@@ -206,7 +204,7 @@ impl Session {
 
     // The next line.
     fn step(self, bytes: &[u8], last: bool, out: &mut [u8], at: usize) -> Step
-        requires { ⌜ at + 128 ≤ length (now out) ⌝ }
+        requires { ⌜ at + lineRoom ≤ length (now out) ⌝ }
         ensures { λ r. ⌜ Steps (stepOf self last (now (bytes .entry))) (now (out .entry)) at r (now (out .exit)) ⌝ }
     {
         let stage = self.stage;
@@ -231,7 +229,7 @@ impl Session {
         let mut count = 0;
         let mut lines = out.len();
         while 0 < lines {
-            if out.len() - count < 128 {
+            if out.len() - count < Line::ROOM {
                 return Progress {
                     session,
                     taken,

@@ -1,6 +1,7 @@
 // One command: its line, and the state that follows.
 ghost use Prim.Native.Nat.{_+_, _≤_};
 ghost use lib.ListN.{length};
+ghost use Rattle.lines.specs.Line.{lineRoom};
 ghost use Rattle.player.specs.Turn.{Turns};
 use commands::Command;
 use lines::Line;
@@ -14,7 +15,7 @@ pub struct Turn {
 
 // Runs a slice and prints its row.
 pub fn slice(state: State, out: &mut [u8], at: usize) -> Turn
-    requires { ⌜ at + 128 ≤ length (now out) ⌝ }
+    requires { ⌜ at + lineRoom ≤ length (now out) ⌝ }
     ensures { λ r. ⌜ Turns state Command.Slice (now (out .entry)) at r (now (out .exit)) ⌝ }
 {
     let mut row = [0u8; 8];
@@ -31,7 +32,7 @@ pub fn slice(state: State, out: &mut [u8], at: usize) -> Turn
 
 // Releases a unit and prints the answer.
 pub fn release(state: State, kind: u8, e: u16, out: &mut [u8], at: usize) -> Turn
-    requires { ⌜ at + 128 ≤ length (now out) ⌝ }
+    requires { ⌜ at + lineRoom ≤ length (now out) ⌝ }
     ensures { λ r. ⌜ Turns state (Command.Release kind e) (now (out .entry)) at r (now (out .exit)) ⌝ }
 {
     let run = state.release(kind as usize, e as u32);

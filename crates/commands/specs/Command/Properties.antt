@@ -18,8 +18,10 @@ unfolding commandOf
 command-short s l = rw (lt-ltb (length s) 3 l)
 
 -- three bytes as one number, and its fields
-pub command-fields : (s : List ℕ) (x y z : ℕ) (r : Command) → 3 ≤ length s → x ≡ getD s 0 0 → y ≡ getD s 1 0 → z ≡ getD s 2 0 → x < 256 → y < 256 → z < 256
-    → r ≡ fieldsSay ((x * 65536 + y * 256 + z) / 8388608) ((x * 65536 + y * 256 + z) / 524288 % 16) ((x * 65536 + y * 256 + z) / 128 % 4096) ((x * 65536 + y * 256 + z) % 128)
+pub command-fields : (s : List ℕ) (x y z : ℕ) (r : Command) → 3 ≤ length s → x ≡ getD s 0 0 → y ≡ getD s 1 0 → z ≡ getD s 2 0 → x < 256
+    → y < 256 → z < 256
+    → r ≡ fieldsSay ((x * 65536 + y * 256 + z) / 8388608) ((x * 65536 + y * 256 + z) / 524288 % 16) ((x * 65536 + y * 256 + z) / 128 % 4096)
+    ((x * 65536 + y * 256 + z) % 128)
     → r ≡ commandOf s
 unfolding commandOf commandFields unpack bits numberTo
 command-fields s x y z r l e f g p q t h =

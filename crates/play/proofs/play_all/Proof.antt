@@ -4,6 +4,7 @@ use mathlib.Core.Path.{_≡_, refl}
 use Prim.Native.Nat.{_≤_, _-_}
 use native.Mathlib.Omega.{arith}
 use lib.ListN.{length}
+use Rattle.lines.specs.Line.{lineRoom}
 use Rattle.play.specs.Desk.{Playing, mostRounds}
 use Rattle.play.specs.Desk.Properties.{playing-none, playing-fits, playing-again, ends-closed, ends-used}
 use borrow.Author.Needs.{needs}
@@ -12,7 +13,8 @@ use Rattle.play.proofs.play_all.Tie as tie
 
 abbrev Inv-loop : tie.InvT-loop
 Inv-loop input₀ output₀ desk₀ rounds₀ input output desk rounds =
-    (Playing rounds desk input) × (rounds ≤ mostRounds) × (128 ≤ length input) × (128 ≤ length output) × (length input ≡ length input₀) × (length output ≡ length output₀)
+    (Playing rounds desk input) × (rounds ≤ mostRounds) × (lineRoom ≤ length input) × (lineRoom ≤ length output) ×
+    (length input ≡ length input₀) × (length output ≡ length output₀)
 
 abbrev μ-loop : tie.MeasureT-loop
 μ-loop input₀ output₀ desk₀ rounds₀ input output desk rounds = mostRounds - rounds

@@ -51,13 +51,23 @@ slice-reshare-prefix-write-all : tie.Need-slice-reshare-prefix-write-all
 slice-reshare-prefix-write-all c = search needs
 
 slice-aggregate-write-all : tie.Need-slice-aggregate-write-all
-slice-aggregate-write-all c = sym (length-take-le _ _ (omega (arith, c .before .before .before .before .play .ensures .room, c .before .before .before .before .play .kept .1 .1 .1 .0)))
+slice-aggregate-write-all c =
+    sym (length-take-le _ _ (omega (
+      arith,
+      c .before .before .before .before .play .ensures .room,
+      c .before .before .before .before .play .kept .1 .1 .1 .0,
+    )))
 
 write-all-requires : tie.Need-write-all-requires
 write-all-requires c κs = search needs
 
 told-requires : tie.Need-told-requires
-told-requires c κs = omega (arith, taken-fits _ _ _ _ _ (c .before .before .before .before .before .before .play .ensures) (c .before .before .before .before .before .before .before .before .before .before .before .before .before .pre .0))
+told-requires c κs =
+    omega (
+      arith,
+      taken-fits _ _ _ _ _ (c .before .before .before .before .before .before .play .ensures)
+          (c .before .before .before .before .before .before .before .before .before .before .before .before .before .pre .0),
+    )
 
 same-length-5 : tie.Need-same-length-5
 same-length-5 c = search needs

@@ -44,7 +44,8 @@ use Rattle.commands.specs.Command.Properties.{command-short}
 use Rattle.player.specs.Turn.{rowRoom, lineOf, Turns}
 use Rattle.player.specs.Played.{opening}
 use Rattle.player.specs.Played.Front.{one-short}
-use Rattle.player.specs.Session.{unopened, running, over, atStage, isOver, Move, stay, firstLine, openOf, commandMove, lastLine, runOf, stepOf, Steps, onto, linesOf, playOf, Plays}
+use Rattle.player.specs.Session.{unopened, running, over, atStage, isOver, Move, stay, firstLine, openOf, commandMove, lastLine}
+use Rattle.player.specs.Session.{runOf, stepOf, Steps, onto, linesOf, playOf, Plays}
 
 -- ---- where a play stands
 
@@ -61,7 +62,7 @@ at-running g a b c e = rw e
 pub at-over : {A : Type 0} (g : Stage) (a b c : A) → g ≡ Over → c ≡ atStage g a b c
 at-over g a b c e = rw e
 
-pub waits-on : (last : Bool) (n : ℕ) (a : Answer) → last ≡ false → n ≡ number a → eqb n 1 ≡ (not last && eqb (number a) 1)
+pub waits-on : (last : Bool) (n : ℕ) (a : Answer) → not last ≡ true → n ≡ number a → eqb n 1 ≡ (not last && eqb (number a) 1)
 waits-on last n a e f = rw (e, f)
 
 -- ---- the ways out of a line, into a buffer
@@ -72,23 +73,31 @@ module _ (out held : List ℕ) (at next : ℕ) where
   stays m x e = rw e (record { session = refl; taken = refl; text = puts-none out at; room = omega arith })
 
   -- the first line
-  plan-text : (a : Answer) (row : List ℕ) → at + 128 ≤ length out → Prints (line.Plan a) row out at next held → Puts out at (planLine a) next held
+  plan-text : (a : Answer) (row : List ℕ) → at + lineRoom ≤ length out → Prints (line.Plan a) row out at next held
+      → Puts out at (planLine a) next held
   unfolding lineText
   plan-text a row l p = prints-all (line.Plan a) row out at next held l p
 
-  first-no : (m : Move) (a : Answer) (w : Refusal) (s z : State) (v : Session) (n : ℕ) (row : List ℕ) → m ≡ firstLine a s n → a ≡ No w → z ≡ noState → v ≡ over z → at + 128 ≤ length out → Prints (line.Plan a) row out at next held
+  first-no : (m : Move) (a : Answer) (w : Refusal) (s z : State) (v : Session) (n : ℕ) (row : List ℕ) → m ≡ firstLine a s n → a ≡ No w
+      → z ≡ noState → v ≡ over z → at + lineRoom ≤ length out → Prints (line.Plan a) row out at next held
       → Steps m out at (record { session = v; taken = 0; next = next }) held
-  first-no m a w s z v n row q e f g l p = rw (q, e) (record { session = g ∙ ap over f; taken = refl; text = rw e at (plan-text a row l p); room = p .room })
+  first-no m a w s z v n row q e f g l p =
+      rw (q, e) (record { session = g ∙ ap over f; taken = refl; text = rw e at (plan-text a row l p); room = p .room })
 
-  pub start-no : (p : Plan) (x : Next) (w : Refusal) (z : State) (v : Session) (n : ℕ) (row : List ℕ) → x ≡ startOf p → x .answer ≡ No w → z ≡ noState → v ≡ over z → at + 128 ≤ length out → Prints (line.Plan (x .answer)) row out at next held
+  pub start-no : (p : Plan) (x : Next) (w : Refusal) (z : State) (v : Session) (n : ℕ) (row : List ℕ) → x ≡ startOf p → x .answer ≡ No w
+      → z ≡ noState → v ≡ over z → at + lineRoom ≤ length out → Prints (line.Plan (x .answer)) row out at next held
       → Steps (firstLine (startOf p .answer) (startOf p .state) n) out at (record { session = v; taken = 0; next = next }) held
-  start-no p x w z v n row q e f g l t = rw (← q) (first-no (firstLine (x .answer) (x .state) n) (x .answer) w (x .state) z v n row refl e f g l t)
+  start-no p x w z v n row q e f g l t =
+      rw (← q) (first-no (firstLine (x .answer) (x .state) n) (x .answer) w (x .state) z v n row refl e f g l t)
 
-  pub start-good : (p : Plan) (x : Next) (v : Session) (n : ℕ) (row : List ℕ) → x ≡ startOf p → x .answer ≡ Good → v ≡ running (x .state) → at + 128 ≤ length out → Prints (line.Plan (x .answer)) row out at next held
+  pub start-good : (p : Plan) (x : Next) (v : Session) (n : ℕ) (row : List ℕ) → x ≡ startOf p → x .answer ≡ Good → v ≡ running (x .state)
+      → at + lineRoom ≤ length out → Prints (line.Plan (x .answer)) row out at next held
       → Steps (firstLine (startOf p .answer) (startOf p .state) n) out at (record { session = v; taken = n; next = next }) held
-  start-good p x v n row q e g l t = rw (← q, e) (record { session = g; taken = refl; text = rw e at (plan-text (x .answer) row l t); room = t .room })
+  start-good p x v n row q e g l t =
+      rw (← q, e) (record { session = g; taken = refl; text = rw e at (plan-text (x .answer) row l t); room = t .room })
 
-  module _ (x : Session) (last : Bool) (bytes : List ℕ) (r : Reading) (b : Bool) (reading-is : r ≡ readOf bytes) (waits-is : b ≡ (not last && eqb (number (r .answer)) 1)) where
+  module _ (x : Session) (last : Bool) (bytes : List ℕ) (r : Reading) (b : Bool) (reading-is : r ≡ readOf bytes)
+      (waits-is : b ≡ (not last && eqb (number (r .answer)) 1)) where
     pub open-waits : b ≡ true → Steps (openOf x last bytes) out at (record { session = x; taken = 0; next = at }) out
     unfolding openOf
     open-waits t = stays (openOf x last bytes) x (rw (← reading-is, ← waits-is, t))
@@ -97,40 +106,58 @@ module _ (out held : List ℕ) (at next : ℕ) where
     unfolding openOf opening
     opens t = rw (← reading-is, ← waits-is, t)
 
-    pub open-refused : (w : Refusal) (z : State) (v : Session) (row : List ℕ) → b ≡ false → r .answer ≡ No w → z ≡ noState → v ≡ over z → at + 128 ≤ length out → Prints (line.Plan (r .answer)) row out at next held
+    pub open-refused : (w : Refusal) (z : State) (v : Session) (row : List ℕ) → b ≡ false → r .answer ≡ No w → z ≡ noState → v ≡ over z
+        → at + lineRoom ≤ length out → Prints (line.Plan (r .answer)) row out at next held
         → Steps (openOf x last bytes) out at (record { session = v; taken = 0; next = next }) held
     open-refused w z v row t e f g l p =
-        let a : (r .answer andThen startOf (r .plan) .answer) ≡ r .answer = andThen-no (r .answer) (startOf (r .plan) .answer) w e ∙ sym e in
-        first-no (openOf x last bytes) (r .answer) w (startOf (r .plan) .state) z v (r .taken) row (opens t ∙ ap (λ (y : Answer). firstLine y (startOf (r .plan) .state) (r .taken)) a) e f g l p
+        let a : (r .answer andThen startOf (r .plan) .answer) ≡ r .answer =
+        andThen-no (r .answer) (startOf (r .plan) .answer) w e ∙ sym e in
+        first-no (openOf x last bytes) (r .answer) w (startOf (r .plan) .state) z v (r .taken) row
+        (opens t ∙ ap (λ (y : Answer). firstLine y (startOf (r .plan) .state) (r .taken)) a) e f g l p
 
-    pub open-started : (step : Step) → b ≡ false → r .answer ≡ Good → Steps (firstLine (startOf (r .plan) .answer) (startOf (r .plan) .state) (r .taken)) out at step held → Steps (openOf x last bytes) out at step held
+    pub open-started : (step : Step) → b ≡ false → r .answer ≡ Good
+        → Steps (firstLine (startOf (r .plan) .answer) (startOf (r .plan) .state) (r .taken)) out at step held
+        → Steps (openOf x last bytes) out at step held
     open-started step t e p =
         let q : openOf x last bytes ≡ firstLine (startOf (r .plan) .answer) (startOf (r .plan) .state) (r .taken) =
-        opens t ∙ ap (λ (y : Answer). firstLine y (startOf (r .plan) .state) (r .taken)) (andThen-good (r .answer) (startOf (r .plan) .answer) e) in
+        opens t ∙ ap (λ (y : Answer). firstLine y (startOf (r .plan) .state) (r .taken))
+        (andThen-good (r .answer) (startOf (r .plan) .answer) e) in
         rw q p
 
   -- a command
-  pub obey-slice : (s : State) (k : Command) (t : Turn) (v : Session) → k ≡ Slice → Turns s Slice out at t held → v ≡ running (t .state) → Steps (commandMove s k) out at (record { session = v; taken = 3; next = t .next }) held
+  pub obey-slice : (s : State) (k : Command) (t : Turn) (v : Session) → k ≡ Slice → Turns s Slice out at t held → v ≡ running (t .state)
+      → Steps (commandMove s k) out at (record { session = v; taken = 3; next = t .next }) held
   unfolding commandMove
   obey-slice s k t v e p g = rw e (record { session = g ∙ ap running (p .state); taken = refl; text = p .line; room = p .room })
 
-  pub obey-release : (s : State) (k : Command) (kind e : ℕ) (t : Turn) (v : Session) → k ≡ Release kind e → Turns s (Release kind e) out at t held → v ≡ running (t .state)
+  pub obey-release : (s : State) (k : Command) (kind e : ℕ) (t : Turn) (v : Session) → k ≡ Release kind e
+      → Turns s (Release kind e) out at t held → v ≡ running (t .state)
       → Steps (commandMove s k) out at (record { session = v; taken = 3; next = t .next }) held
   unfolding commandMove
   obey-release s k kind n t v e p g = rw e (record { session = g ∙ ap running (p .state); taken = refl; text = p .line; room = p .room })
 
-  pub obey-bad : (s : State) (k : Command) (v : Session) (row : List ℕ) → k ≡ Bad → at + 128 ≤ length out → Prints (line.Bad (s .clock)) row out at next held → v ≡ over s
+  pub obey-bad : (s : State) (k : Command) (v : Session) (row : List ℕ) → k ≡ Bad → at + lineRoom ≤ length out
+      → Prints (line.Bad (s .clock)) row out at next held → v ≡ over s
       → Steps (commandMove s k) out at (record { session = v; taken = 0; next = next }) held
   unfolding commandMove lineText
-  obey-bad s k v row e l p g = rw e (record { session = g; taken = refl; text = prints-all (line.Bad (s .clock)) row out at next held l p; room = p .room })
+  obey-bad s k v row e l p g =
+      rw e (record { session = g; taken = refl; text = prints-all (line.Bad (s .clock)) row out at next held l p; room = p .room })
 
   module _ (x : Session) (last : Bool) (bytes : List ℕ) where
-    pub run-ends : (v : Session) (row : List ℕ) → last ≡ true → length bytes ≡ 0 → at + 128 ≤ length out → Prints (line.End (x .state .clock)) row out at next held → v ≡ over (x .state)
+    pub run-ends : (v : Session) (row : List ℕ) → last ≡ true → length bytes ≡ 0 → at + lineRoom ≤ length out
+        → Prints (line.End (x .state .clock)) row out at next held → v ≡ over (x .state)
         → Steps (runOf x last bytes) out at (record { session = v; taken = 0; next = next }) held
     unfolding runOf lineText
-    run-ends v row e n l p g = rw (e, eq-eqb (length bytes) 0 n) (record { session = g; taken = refl; text = prints-all (line.End (x .state .clock)) row out at next held l p; room = p .room })
+    run-ends v row e n l p g =
+        rw (e, eq-eqb (length bytes) 0 n) (record {
+          session = g;
+          taken = refl;
+          text = prints-all (line.End (x .state .clock)) row out at next held l p;
+          room = p .room;
+        })
 
-    pub run-left : (k : Command) (step : Step) → last ≡ true → (length bytes ≡ 0 → ⊥) → k ≡ commandOf bytes → Steps (commandMove (x .state) k) out at step held → Steps (runOf x last bytes) out at step held
+    pub run-left : (k : Command) (step : Step) → last ≡ true → (length bytes ≡ 0 → ⊥) → k ≡ commandOf bytes
+        → Steps (commandMove (x .state) k) out at step held → Steps (runOf x last bytes) out at step held
     unfolding runOf
     run-left k step e n c p = rw (e, ne-eqb (length bytes) 0 n, ← c) p
 
@@ -138,15 +165,18 @@ module _ (out held : List ℕ) (at next : ℕ) where
     unfolding runOf
     run-waits e n = stays (runOf x last bytes) x (rw (e, lt-ltb (length bytes) 3 n))
 
-    pub run-obeys : (k : Command) (step : Step) → last ≡ false → 3 ≤ length bytes → k ≡ commandOf bytes → Steps (commandMove (x .state) k) out at step held → Steps (runOf x last bytes) out at step held
+    pub run-obeys : (k : Command) (step : Step) → last ≡ false → 3 ≤ length bytes → k ≡ commandOf bytes
+        → Steps (commandMove (x .state) k) out at step held → Steps (runOf x last bytes) out at step held
     unfolding runOf
     run-obeys k step e n c p = rw (e, le-ltb (length bytes) 3 n, ← c) p
 
-    pub step-opens : (step : Step) → x .stage ≡ Opening → Steps (openOf x last bytes) out at step held → Steps (stepOf x last bytes) out at step held
+    pub step-opens : (step : Step) → x .stage ≡ Opening → Steps (openOf x last bytes) out at step held
+        → Steps (stepOf x last bytes) out at step held
     unfolding stepOf
     step-opens step e p = rw (at-opening (x .stage) (openOf x last bytes) (runOf x last bytes) (stay x) e) at p
 
-    pub step-runs : (step : Step) → x .stage ≡ Running → Steps (runOf x last bytes) out at step held → Steps (stepOf x last bytes) out at step held
+    pub step-runs : (step : Step) → x .stage ≡ Running → Steps (runOf x last bytes) out at step held
+        → Steps (stepOf x last bytes) out at step held
     unfolding stepOf
     step-runs step e p = rw (at-running (x .stage) (openOf x last bytes) (runOf x last bytes) (stay x) e) at p
 
@@ -183,7 +213,8 @@ open-most : (x : Session) (last : Bool) (bytes : List ℕ) → openOf x last byt
 unfolding openOf
 open-most x last bytes = go (not last && eqb (number (readOf bytes .answer)) 1)
   where
-    go : (b : Bool) → cond b (stay x) (firstLine (opening bytes) (startOf (readOf bytes .plan) .state) (readOf bytes .taken)) .taken ≤ length bytes
+    go : (b : Bool) → cond b (stay x) (firstLine (opening bytes) (startOf (readOf bytes .plan) .state)
+        (readOf bytes .taken)) .taken ≤ length bytes
     go true = omega arith
     go false = first-most bytes (opening bytes) (startOf (readOf bytes .plan) .state) refl
 
@@ -200,7 +231,7 @@ run-most x false bytes = go (ltb (length bytes) 3)
     go true = omega arith
     go false = obey-most (x .state) bytes
 
-pub step-most : (x : Session) (last : Bool) (bytes : List ℕ) → stepOf x last bytes .taken ≤ length bytes
+step-most : (x : Session) (last : Bool) (bytes : List ℕ) → stepOf x last bytes .taken ≤ length bytes
 unfolding stepOf
 step-most x last bytes = go (x .stage)
   where
@@ -211,42 +242,50 @@ step-most x last bytes = go (x .stage)
 
 -- ---- lines one behind the other
 
-pub onto-none : (m : Move) → m ≡ onto 0 [] m
+onto-none : (m : Move) → m ≡ onto 0 [] m
 onto-none m = let e : m .taken ≡ 0 + m .taken = omega arith in λ i. record { session = m .session; taken = e i; text = m .text }
 
-pub onto-onto : (n k : ℕ) (xs ys : List ℕ) (m : Move) → onto n xs (onto k ys m) ≡ onto (n + k) (xs ++ ys) m
-onto-onto n k xs ys m = let e : n + (k + m .taken) ≡ n + k + m .taken = omega arith in λ i. record { session = m .session; taken = e i; text = sym (append-assoc xs ys (m .text)) i }
+onto-onto : (n k : ℕ) (xs ys : List ℕ) (m : Move) → onto n xs (onto k ys m) ≡ onto (n + k) (xs ++ ys) m
+onto-onto n k xs ys m =
+    let e : n + (k + m .taken) ≡ n + k + m .taken = omega arith in
+    λ i. record { session = m .session; taken = e i; text = sym (append-assoc xs ys (m .text)) i }
 
 -- where the lines stop
-pub lines-none : (n : ℕ) (x : Session) (last : Bool) (bytes : List ℕ) (room : ℕ) → n ≤ 0 → linesOf n x last bytes room ≡ stay x
+lines-none : (n : ℕ) (x : Session) (last : Bool) (bytes : List ℕ) (room : ℕ) → n ≤ 0 → linesOf n x last bytes room ≡ stay x
 unfolding linesOf
 lines-none zero x last bytes room l = refl
 lines-none (suc n) x last bytes room l = absurd (omega arith)
 
-pub lines-full : (n : ℕ) (x : Session) (last : Bool) (bytes : List ℕ) (room : ℕ) → room < 128 → linesOf n x last bytes room ≡ stay x
+lines-full : (n : ℕ) (x : Session) (last : Bool) (bytes : List ℕ) (room : ℕ) → room < lineRoom → linesOf n x last bytes room ≡ stay x
 unfolding linesOf
 lines-full zero x last bytes room l = refl
-lines-full (suc n) x last bytes room l = rw (lt-ltb room 128 l)
+lines-full (suc n) x last bytes room l = rw (lt-ltb room lineRoom l)
 
-pub lines-idle : (n : ℕ) (x : Session) (last : Bool) (bytes : List ℕ) (room : ℕ) → 128 ≤ room → length (stepOf x last bytes .text) ≡ 0 → linesOf n x last bytes room ≡ stay x
+lines-idle : (n : ℕ) (x : Session) (last : Bool) (bytes : List ℕ) (room : ℕ) → lineRoom ≤ room → length (stepOf x last bytes .text) ≡ 0
+    → linesOf n x last bytes room ≡ stay x
 unfolding linesOf
 lines-idle zero x last bytes room l e = refl
-lines-idle (suc n) x last bytes room l e = rw (le-ltb room 128 l, eq-eqb (length (stepOf x last bytes .text)) 0 e)
+lines-idle (suc n) x last bytes room l e = rw (le-ltb room lineRoom l, eq-eqb (length (stepOf x last bytes .text)) 0 e)
 
 -- where they go on
-pub lines-on : (n : ℕ) (x : Session) (last : Bool) (bytes : List ℕ) (room : ℕ) → 0 < n → 128 ≤ room → 0 < length (stepOf x last bytes .text)
+lines-on : (n : ℕ) (x : Session) (last : Bool) (bytes : List ℕ) (room : ℕ) → 0 < n → lineRoom ≤ room
+    → 0 < length (stepOf x last bytes .text)
     → linesOf n x last bytes room
-    ≡ onto (stepOf x last bytes .taken) (stepOf x last bytes .text) (linesOf (n - 1) (stepOf x last bytes .session) last (drop (stepOf x last bytes .taken) bytes) (room - length (stepOf x last bytes .text)))
+    ≡ onto (stepOf x last bytes .taken) (stepOf x last bytes .text)
+    (linesOf (n - 1) (stepOf x last bytes .session) last (drop (stepOf x last bytes .taken) bytes)
+    (room - length (stepOf x last bytes .text)))
 unfolding linesOf
 lines-on zero x last bytes room l r t = absurd (omega arith)
 lines-on (suc n) x last bytes room l r t =
     let e : suc n - 1 ≡ n = omega arith in
-    rw (le-ltb room 128 r, ne-eqb (length (stepOf x last bytes .text)) 0 (omega arith), e)
+    rw (le-ltb room lineRoom r, ne-eqb (length (stepOf x last bytes .text)) 0 (omega arith), e)
 
 -- ---- the loop: what has been printed stands at the front, and what is left is still to be played
 
-pub record Playing (x : Session) (last : Bool) (bytes start : List ℕ) (session : Session) (taken count lines : ℕ) (out : List ℕ) : Type 0 where
-  pub whole : playOf x last bytes (length start) ≡ onto taken (take count out) (linesOf lines session last (drop taken bytes) (length start - count))
+pub record Playing (x : Session) (last : Bool) (bytes start : List ℕ) (session : Session) (taken count lines : ℕ)
+    (out : List ℕ) : Type 0 where
+  pub whole : playOf x last bytes (length start)
+      ≡ onto taken (take count out) (linesOf lines session last (drop taken bytes) (length start - count))
   pub long : length out ≡ length start
   pub count-most : count ≤ length start
   pub taken-most : taken ≤ length bytes
@@ -264,17 +303,25 @@ playing-starts x last bytes start =
       kept = refl;
     }
 
-module _ (x : Session) (last : Bool) (bytes start : List ℕ) (session : Session) (taken count lines : ℕ) (out : List ℕ) (p : Playing x last bytes start session taken count lines out) where
+module _ (x : Session) (last : Bool) (bytes start : List ℕ) (session : Session) (taken count lines : ℕ) (out : List ℕ)
+    (p : Playing x last bytes start session taken count lines out) where
   -- the lines stop: the outcome
-  stopped : linesOf lines session last (drop taken bytes) (length start - count) ≡ stay session → Plays x last bytes start (record { session = session; taken = taken; count = count }) out
+  stopped : linesOf lines session last (drop taken bytes) (length start - count) ≡ stay session
+      → Plays x last bytes start (record { session = session; taken = taken; count = count }) out
   stopped e =
-      let m : playOf x last bytes (length start) ≡ onto taken (take count out) (stay session) = p .whole ∙ ap (onto taken (take count out)) e in
+      let m : playOf x last bytes (length start) ≡ onto taken (take count out) (stay session) =
+      p .whole ∙ ap (onto taken (take count out)) e in
       let t : playOf x last bytes (length start) .text ≡ take count out = ap (λ (k : Move). k .text) m ∙ append-nil (take count out) in
       let n : length (take count out) ≡ count = length-take-le count out (omega (arith, p .long, p .count-most)) in
       let k : length (playOf x last bytes (length start) .text) ≡ count = ap length t ∙ n in
       let z : taken ≡ taken + 0 = omega arith in
       record {
-        result = λ i. record { session = sym (ap (λ (k : Move). k .session) m) i; taken = (z ∙ sym (ap (λ (k : Move). k .taken) m)) i; count = sym k i };
+        result =
+            λ i. record {
+              session = sym (ap (λ (k : Move). k .session) m) i;
+              taken = (z ∙ sym (ap (λ (k : Move). k .taken) m)) i;
+              count = sym k i;
+            };
         buffer = sym (take-append-drop count out) ∙ ap₂ _++_ (sym t) (p .kept ∙ ap (λ (j : ℕ). drop j start) (sym k));
         room = p .count-most;
       }
@@ -282,10 +329,12 @@ module _ (x : Session) (last : Bool) (bytes start : List ℕ) (session : Session
   pub playing-done : lines ≤ 0 → Plays x last bytes start (record { session = session; taken = taken; count = count }) out
   playing-done l = stopped (lines-none lines session last (drop taken bytes) (length start - count) l)
 
-  pub playing-full : length out - count < 128 → Plays x last bytes start (record { session = session; taken = taken; count = count }) out
+  pub playing-full : length out - count < lineRoom
+      → Plays x last bytes start (record { session = session; taken = taken; count = count }) out
   playing-full l = let e = p .long in stopped (lines-full lines session last (drop taken bytes) (length start - count) (omega arith))
 
-  module _ (step : Step) (held : List ℕ) (room : 128 ≤ length out - count) (s : Steps (stepOf session last (take (length bytes - taken) (drop taken bytes))) out count step held) where
+  module _ (step : Step) (held : List ℕ) (room : lineRoom ≤ length out - count)
+      (s : Steps (stepOf session last (take (length bytes - taken) (drop taken bytes))) out count step held) where
     m : Move
     m = stepOf session last (drop taken bytes)
 
@@ -305,7 +354,8 @@ module _ (x : Session) (last : Bool) (bytes start : List ℕ) (session : Session
     unfolding m
     taken-fits = omega (arith, moved .taken, step-most session last (drop taken bytes), length-drop taken bytes, p .taken-most)
 
-    pub playing-again : (step .next ≡ count → ⊥) → 0 < lines → Playing x last bytes start (step .session) (taken + step .taken) (step .next) (lines - 1) held
+    pub playing-again : (step .next ≡ count → ⊥) → 0 < lines
+        → Playing x last bytes start (step .session) (taken + step .taken) (step .next) (lines - 1) held
     unfolding m
     playing-again ne l =
         let long = p .long in
@@ -314,21 +364,28 @@ module _ (x : Session) (last : Bool) (bytes start : List ℕ) (session : Session
         let close = moved .room in
         let t : 0 < length (m .text) = omega arith in
         let fits : count + length (m .text) ≤ length out = omega arith in
-        let stored : held ≡ take count out ++ m .text ++ drop (count + length (m .text)) out = moved .text .buffer ∙ sets-eq (m .text) out count fits in
-        let front : length (take count out ++ m .text) ≡ step .next = length-append (take count out) (m .text) ∙ omega (arith, length-take-le count out (omega arith)) in
-        let printed : take (step .next) held ≡ take count out ++ m .text = ap (take (step .next)) stored ∙ take-at (take count out ++ m .text) (drop (count + length (m .text)) out) (step .next) front in
+        let stored : held ≡ take count out ++ m .text ++ drop (count + length (m .text)) out =
+        moved .text .buffer ∙ sets-eq (m .text) out count fits in
+        let front : length (take count out ++ m .text) ≡ step .next =
+        length-append (take count out) (m .text) ∙ omega (arith, length-take-le count out (omega arith)) in
+        let printed : take (step .next) held ≡ take count out ++ m .text =
+        ap (take (step .next)) stored ∙ take-at (take count out ++ m .text) (drop (count + length (m .text)) out) (step .next) front in
         let left : length start - count - length (m .text) ≡ length start - step .next = omega arith in
         record {
           whole =
-              p .whole ∙ ap (onto taken (take count out)) (lines-on lines session last (drop taken bytes) (length start - count) l (omega arith) t)
-              ∙ onto-onto taken (m .taken) (take count out) (m .text) (linesOf (lines - 1) (m .session) last (drop (m .taken) (drop taken bytes)) (length start - count - length (m .text)))
+              p .whole ∙ ap (onto taken (take count out))
+              (lines-on lines session last (drop taken bytes) (length start - count) l (omega arith) t)
+              ∙ onto-onto taken (m .taken) (take count out) (m .text)
+              (linesOf (lines - 1) (m .session) last (drop (m .taken) (drop taken bytes)) (length start - count - length (m .text)))
               ∙ rw (moved .session, moved .taken, printed, ← left, drop-drop (m .taken) taken bytes);
           long = ap length (moved .text .buffer) ∙ length-sets out count (m .text) ∙ long;
           count-most = omega arith;
           taken-most = taken-fits;
           kept =
-              ap (drop (step .next)) stored ∙ drop-at (take count out ++ m .text) (drop (count + length (m .text)) out) (step .next) front ∙ ap (λ (j : ℕ). drop j out) (sym ended)
-              ∙ ap (λ (j : ℕ). drop j out) ended ∙ sym (drop-drop (length (m .text)) count out) ∙ ap (drop (length (m .text))) (p .kept) ∙ drop-drop (length (m .text)) count start ∙ ap (λ (j : ℕ). drop j start) (sym ended);
+              ap (drop (step .next)) stored ∙ drop-at (take count out ++ m .text) (drop (count + length (m .text)) out) (step .next) front
+              ∙ ap (λ (j : ℕ). drop j out) (sym ended)
+              ∙ ap (λ (j : ℕ). drop j out) ended ∙ sym (drop-drop (length (m .text)) count out) ∙ ap (drop (length (m .text))) (p .kept)
+              ∙ drop-drop (length (m .text)) count start ∙ ap (λ (j : ℕ). drop j start) (sym ended);
         }
 
 -- ---- playing takes no more than is there
@@ -336,10 +393,15 @@ module _ (x : Session) (last : Bool) (bytes start : List ℕ) (session : Session
 lines-most : (n : ℕ) (x : Session) (last : Bool) (bytes : List ℕ) (room : ℕ) → linesOf n x last bytes room .taken ≤ length bytes
 unfolding linesOf
 lines-most zero x last bytes room = omega arith
-lines-most (suc n) x last bytes room = go (ltb room lineRoom || eqb (length (stepOf x last bytes .text)) 0) (lines-most n (stepOf x last bytes .session) last (drop (stepOf x last bytes .taken) bytes) (room - length (stepOf x last bytes .text)))
+lines-most (suc n) x last bytes room =
+    go (ltb room lineRoom || eqb (length (stepOf x last bytes .text)) 0)
+    (lines-most n (stepOf x last bytes .session) last (drop (stepOf x last bytes .taken) bytes) (room - length (stepOf x last bytes .text)))
   where
-    go : (b : Bool) → linesOf n (stepOf x last bytes .session) last (drop (stepOf x last bytes .taken) bytes) (room - length (stepOf x last bytes .text)) .taken ≤ length (drop (stepOf x last bytes .taken) bytes)
-        → cond b (stay x) (onto (stepOf x last bytes .taken) (stepOf x last bytes .text) (linesOf n (stepOf x last bytes .session) last (drop (stepOf x last bytes .taken) bytes) (room - length (stepOf x last bytes .text)))) .taken ≤ length bytes
+    go : (b : Bool) → linesOf n (stepOf x last bytes .session) last (drop (stepOf x last bytes .taken) bytes)
+        (room - length (stepOf x last bytes .text)) .taken ≤ length (drop (stepOf x last bytes .taken) bytes)
+        → cond b (stay x) (onto (stepOf x last bytes .taken) (stepOf x last bytes .text)
+        (linesOf n (stepOf x last bytes .session) last (drop (stepOf x last bytes .taken) bytes)
+        (room - length (stepOf x last bytes .text)))) .taken ≤ length bytes
     go true h = omega arith
     go false h = omega (arith, step-most x last bytes, length-drop (stepOf x last bytes .taken) bytes)
 
@@ -371,14 +433,19 @@ end-some clock = omega arith
 -- ---- where a play with room prints nothing
 
 -- it prints the next line, if there is one
-pub play-idle : (x : Session) (last : Bool) (bytes : List ℕ) (room : ℕ) → 128 ≤ room → length (playOf x last bytes room .text) ≡ 0 → length (stepOf x last bytes .text) ≡ 0
+pub play-idle : (x : Session) (last : Bool) (bytes : List ℕ) (room : ℕ) → lineRoom ≤ room → length (playOf x last bytes room .text) ≡ 0
+    → length (stepOf x last bytes .text) ≡ 0
 unfolding playOf
 play-idle x last bytes room r e =
     elim (decLt 0 (length (stepOf x last bytes .text))) [
       | yes t ↦
           let m = stepOf x last bytes in
           let q = ap (λ (k : Move). length (k .text)) (lines-on room x last bytes room (omega arith) r t) in
-          absurd (omega (arith, length-append (m .text) (linesOf (room - 1) (m .session) last (drop (m .taken) bytes) (room - length (m .text)) .text)))
+          absurd (omega (
+            arith,
+            length-append (m .text)
+                (linesOf (room - 1) (m .session) last (drop (m .taken) bytes) (room - length (m .text)) .text),
+          ))
       | no t ↦ omega arith
     ]
 
@@ -386,7 +453,9 @@ open-idle : (x : Session) (bytes : List ℕ) → length (openOf x false bytes .t
 unfolding openOf
 open-idle x bytes e = go (eqb (number (readOf bytes .answer)) 1) refl e
   where
-    go : (b : Bool) → eqb (number (readOf bytes .answer)) 1 ≡ b → length (cond b (stay x) (firstLine (opening bytes) (startOf (readOf bytes .plan) .state) (readOf bytes .taken)) .text) ≡ 0 → length bytes < 99
+    go : (b : Bool) → eqb (number (readOf bytes .answer)) 1 ≡ b
+        → length (cond b (stay x) (firstLine (opening bytes) (startOf (readOf bytes .plan) .state) (readOf bytes .taken)) .text) ≡ 0
+        → length bytes < 99
     go true q z = one-short bytes (eqb-true (number (readOf bytes .answer)) 1 q)
     go false q z = absurd (omega (arith, plan-some (opening bytes)))
 
@@ -395,13 +464,16 @@ unfolding runOf
 run-idle x bytes e = elim (decLt (length bytes) 3) [ yes l ↦ omega arith | no l ↦ absurd (none (omega arith)) ]
   where
     none : 3 ≤ length bytes → ⊥
-    none l = let z : length (commandMove (x .state) (commandOf bytes) .text) ≡ 0 = rw (le-ltb (length bytes) 3 l) at e in omega (arith, line-some (x .state) (commandOf bytes))
+    none l =
+        let z : length (commandMove (x .state) (commandOf bytes) .text) ≡ 0 = rw (le-ltb (length bytes) 3 l) at e in
+        omega (arith, line-some (x .state) (commandOf bytes))
 
 step-idle : (x : Session) (bytes : List ℕ) → isOver x ≡ false → length (stepOf x false bytes .text) ≡ 0 → length bytes < 99
 unfolding stepOf
 step-idle x bytes = go (x .stage)
   where
-    go : (g : Stage) → atStage g false false true ≡ false → length (atStage g (openOf x false bytes) (runOf x false bytes) (stay x) .text) ≡ 0 → length bytes < 99
+    go : (g : Stage) → atStage g false false true ≡ false
+        → length (atStage g (openOf x false bytes) (runOf x false bytes) (stay x) .text) ≡ 0 → length bytes < 99
     go Opening o e = open-idle x bytes e
     go Running o e = run-idle x bytes e
     go Over o e = absurd (true≢false o)
@@ -425,7 +497,8 @@ idle-over x bytes = go (x .stage)
     go Over e = refl
 
 -- a play that prints nothing and is not over waits for more: the input has not ended, and few bytes are left
-pub waits-more : (x : Session) (last : Bool) (bytes : List ℕ) (room : ℕ) → 128 ≤ room → length (playOf x last bytes room .text) ≡ 0 → isOver x ≡ false
+pub waits-more : (x : Session) (last : Bool) (bytes : List ℕ) (room : ℕ) → lineRoom ≤ room → length (playOf x last bytes room .text) ≡ 0
+    → isOver x ≡ false
     → (last ≡ false) × (length bytes < 99)
 waits-more x true bytes room l e o =
     let g : x .stage ≡ Over = idle-over x bytes (play-idle x true bytes room l e) in
@@ -433,10 +506,11 @@ waits-more x true bytes room l e o =
 waits-more x false bytes room l e o = (refl, step-idle x bytes o (play-idle x false bytes room l e))
 
 -- what has no next line prints nothing, whatever room there is
-pub idle-none : (x : Session) (last : Bool) (bytes : List ℕ) (room : ℕ) → length (stepOf x last bytes .text) ≡ 0 → playOf x last bytes room .text ≡ []
+pub idle-none : (x : Session) (last : Bool) (bytes : List ℕ) (room : ℕ) → length (stepOf x last bytes .text) ≡ 0
+    → playOf x last bytes room .text ≡ []
 unfolding playOf
 idle-none x last bytes room e =
-    elim (decLt room 128) [
+    elim (decLt room lineRoom) [
       | yes l ↦ ap (λ (m : Move). m .text) (lines-full room x last bytes room l)
       | no l ↦ ap (λ (m : Move). m .text) (lines-idle room x last bytes room (omega arith) e)
     ]

@@ -8,13 +8,12 @@ use lib.ListN.{length, getD, take, drop, length-drop}
 use lib.Seq.{length-take-le, getD-take, getD-drop}
 use Rattle.laws.specs.Sum.{sumTo}
 use Rattle.laws.specs.Sum.Properties.{sum-cong, sum-le}
-use Rattle.plan.specs.declared.Plan.{Plan}
 use Rattle.plan.specs.Order.{budgetOf, InOrder}
 use Rattle.layout.specs.Layout.{held}
 use Rattle.rack.specs.declared.State.{State}
 use Rattle.rack.specs.Rank.{activeKinds}
 use Rattle.demands.specs.Run.{Call, Accepted, noSlice, slicesOf}
-use Rattle.demands.specs.Run.Properties.{At, slices-at}
+use Rattle.demands.specs.Run.Properties.{At, at-held, slices-at}
 use Rattle.demands.specs.View.{cardsFrom}
 use Rattle.demands.specs.View.Properties.{cards-frame}
 use Rattle.demands.specs.Named.{namesProject, bytesIn, bytesNaming}
@@ -54,14 +53,18 @@ module _ (s : State) (order : InOrder (s .plan)) (calls : List Call) (x j : ℕ)
       ∙ ap (λ (n : ℕ). sumTo n (λ y. bytesIn (namesProject (s .plan) j) (getD inARow y noSlice .row))) row-count
       ∙ sum-cong (s .plan .frame) (λ y. bytesIn (namesProject (s .plan) j) (getD inARow y noSlice .row)) namedAt row-named
 
+  -- in all it holds B
+  cards-all : sumTo (s .plan .frame) cardsAt ≡ budgetOf (s .plan) j
+  cards-all = cards-frame s j (order .counts .some-slice) x
+
   pub named-most : bytesNaming (namesProject (s .plan) j) inARow ≤ budgetOf (s .plan) j
-  named-most = omega (arith, named-sum, cards-frame s j order project x, sum-le (s .plan .frame) namedAt cardsAt (λ y l. omega arith))
+  named-most = omega (arith, named-sum, cards-all, sum-le (s .plan .frame) namedAt cardsAt (λ y l. omega arith))
 
   -- where as many of its kinds have slices left at each of them
   pub named-all : ((y : ℕ) → y < s .plan .frame → held (s .plan) j (sliceAt y .before .clock) ≤ activeKinds (sliceAt y .before) j) →
       bytesNaming (namesProject (s .plan) j) inARow ≡ budgetOf (s .plan) j
-  named-all h = named-sum ∙ sum-cong (s .plan .frame) namedAt cardsAt (λ y l. all y (h y l) (at y l)) ∙ cards-frame s j order project x
+  named-all h = named-sum ∙ sum-cong (s .plan .frame) namedAt cardsAt (λ y l. all y (h y l) (at y l)) ∙ cards-all
     where
       all : (y : ℕ) → held (s .plan) j (sliceAt y .before .clock) ≤ activeKinds (sliceAt y .before) j →
           At (s .plan) (λ j. cardsFrom s j (x + y)) (sliceAt y) → namedAt y ≡ cardsAt y
-      all y enough a = omega (arith, a .cards j, ap (λ (p : Plan). held p j (sliceAt y .before .clock)) (a .plan))
+      all y enough a = omega (arith, at-held a j project)

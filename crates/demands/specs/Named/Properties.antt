@@ -14,12 +14,12 @@ use Rattle.laws.specs.Count.Properties.{count-cong}
 use Rattle.laws.specs.Sum.{sumTo}
 use Rattle.laws.specs.Sum.Properties.{sum-none, sum-split, sum-cong}
 use Rattle.plan.specs.declared.Plan.{Plan}
-use Rattle.plan.specs.Order.{projectOf}
+use Rattle.layout.specs.Layout.{held}
 use Rattle.layout.specs.Layout.Properties.{held-ceiling}
 use Rattle.rack.specs.Rank.{activeKinds, served}
 use Rattle.rack.specs.Row.{rowByte}
 use Rattle.demands.specs.Run.{Accepted}
-use Rattle.demands.specs.Run.Properties.{At}
+use Rattle.demands.specs.Run.Properties.{At, at-held}
 use Rattle.demands.specs.Row.{kind-once, kind-cards, project-cards}
 use Rattle.demands.specs.Named.{namesKind, namesProject, bytesIn, bytesNaming, Orderly}
 
@@ -47,7 +47,7 @@ module _ (p : Plan) (holds : ℕ → ℕ) (w : Accepted) (at : At p holds w) whe
       ap (λ (q : Plan). bytesIn (namesProject q j) (w .row)) (sym (at .plan))
       ∙ bytes-shown (namesProject (w .before .plan) j)
       ∙ project-cards (w .before) (at .ready) j (omega (arith, ap (λ (q : Plan). q .projects) (at .plan)))
-      ∙ ap (λ (n : ℕ). min n (activeKinds (w .before) j)) (at .cards j)
+      ∙ ap (λ (n : ℕ). min n (activeKinds (w .before) j)) (ap (λ (q : Plan). held q j (w .before .clock)) (at .plan) ∙ at-held at j l)
 
 -- every row written
 pub orderly : (p : Plan) (holds : ℕ → ℕ) (w : Accepted) → At p holds w → Orderly p (w .row)
@@ -59,9 +59,8 @@ orderly p holds w at = record {
   ceiling = λ j l. omega (
     arith,
     project-named p holds w at j l,
-    at .cards j,
-    held-ceiling (w .before .plan) (at .ready .order) j (omega (arith, ap (λ (q : Plan). q .projects) (at .plan))) (w .before .clock),
-    ap (λ (q : Plan). projectOf q j .ceiling) (at .plan),
+    at-held at j l,
+    held-ceiling p (rw (at .plan) at (at .ready .order)) j l (w .before .clock),
   );
 }
 

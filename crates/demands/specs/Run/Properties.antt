@@ -9,9 +9,12 @@ use lib.ListN.{length, getD}
 use Rattle.plan.specs.declared.Plan.{Plan}
 use Rattle.answer.specs.declared.Answer.{Answer}
 use Rattle.answer.specs.declared.Answer.the-variants.{Good, No}
-use Rattle.layout.specs.Layout.{held}
 use Rattle.rack.specs.declared.State.{State}
+use Rattle.layout.specs.Layout.{held}
 use Rattle.rack.specs.Form.{Ready}
+use Rattle.rack.specs.View.{cardsHeld}
+use Rattle.rack.specs.Rank.{viewOf}
+use Rattle.rack.specs.Rank.Properties.{view-held}
 use Rattle.rack.specs.Row.{rowByte, rowOf}
 use Rattle.rack.specs.Row.Properties.{row-size, row-shows, over-take}
 use Rattle.rack.specs.Release.{released, releaseAnswer, releaseOf}
@@ -88,7 +91,7 @@ module _ (s : State) (bytes : List ℕ) (good : sliceAnswer s (length bytes) ≡
 -- an accepted slice on a plan, at which each project holds so many cards
 pub record At (p : Plan) (holds : ℕ → ℕ) (w : Accepted) : Type 0 where
   pub plan : w .before .plan ≡ p
-  pub cards : (j : ℕ) → held (w .before .plan) j (w .before .clock) ≡ holds j
+  pub cards : (j : ℕ) → cardsHeld (viewOf (w .before) j) ≡ holds j
   pub ready : Ready (w .before)
   pub size : length (w .row) ≡ w .before .plan .cards
   pub shows : (card : ℕ) → card < w .before .plan .cards → getD (w .row) card 0 ≡ rowByte (w .before) card
@@ -101,6 +104,12 @@ now-at s bytes g = record {
   size = row-length s bytes g;
   shows = row-at s bytes g;
 }
+
+-- as the layout counts them
+pub at-held : {p : Plan} {holds : ℕ → ℕ} {w : Accepted} → At p holds w → (j : ℕ) → j < p .projects → held p j (w .before .clock) ≡ holds j
+at-held {w = w} a j l =
+    let used : j < w .before .plan .projects = omega (arith, ap (λ (q : Plan). q .projects) (a .plan)) in
+    ap (λ (q : Plan). held q j (w .before .clock)) (sym (a .plan)) ∙ sym (view-held (w .before) (a .ready) j used) ∙ a .cards j
 
 same-cards : {p : Plan} {f g : ℕ → ℕ} {w : Accepted} → ((j : ℕ) → f j ≡ g j) → At p f w → At p g w
 same-cards e a = record { plan = a .plan; cards = λ j. a .cards j ∙ e j; ready = a .ready; size = a .size; shows = a .shows }

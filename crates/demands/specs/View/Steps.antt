@@ -57,7 +57,7 @@ module _ (s : State) (may : Advanceable s) (places : length (s .unit) ≡ 16) wh
   pub slice-step : (j : ℕ) → Slice (setupOf (s .plan) j) (noLater (setupOf (s .plan) j)) (served s) (momentOf s j) (momentOf (advanced s) j)
   unfolding advanced
   slice-step j = record {
-    serves = view-serves s (may .ready) j;
+    serves = view-serves s j;
     cards = cards-later s j;
     left = λ i o. sliced-left i (o .below);
     until = λ i o p. sliced-until i (o .below);

@@ -30,6 +30,9 @@ extern "C" {
  * version that made it. Plan bytes are read by every later version.
  */
 #define PARCHBEETLE_VERSION "0.1.0"
+#define PARCHBEETLE_VERSION_MAJOR 0
+#define PARCHBEETLE_VERSION_MINOR 1
+#define PARCHBEETLE_VERSION_PATCH 0
 
 /* ---- Images */
 

@@ -435,10 +435,18 @@ fn differences(texts: &Texts) -> Vec<String> {
 
     let own = header.split_once("#define PARCHBEETLE_VERSION \"");
     let own = own.and_then(|(_, rest)| rest.split_once('"'));
+    let part = |name: &str| {
+        let found = header.split_once(&format!("#define PARCHBEETLE_VERSION_{name} "));
+        found
+            .and_then(|(_, rest)| leading(rest))
+            .unwrap_or(u64::MAX)
+    };
+    let [major, minor, patch] = ["MAJOR", "MINOR", "PATCH"].map(part);
     same(
         "the version",
         &[
             ("header", own.map_or("none", |(own, _)| own).to_string()),
+            ("header, in parts", format!("{major}.{minor}.{patch}")),
             ("packages", version.clone()),
         ],
     );
@@ -505,6 +513,7 @@ fn one_thing_changed_on_one_side_is_found() {
         (code, "struct Plan {", "bare(16) struct Plan {"),
         (header, "12, 13, 14, 15.", "12, 13, 14."),
         (version, ".", ".1."),
+        (header, "VERSION_MINOR ", "VERSION_MINOR 9"),
     ] {
         let mut edited = texts.clone();
         let text = side(&mut edited);

@@ -2,17 +2,19 @@
 -- No operation has a `requires`, and a proved function ends; so whatever the input, the one outcome is reached.
 -- Assumes nothing.
 use mathlib.Core.Path.{_≡_, refl, sym, ap, _∙_}
+use mathlib.Core.Logic.{_≢_}
 use mathlib.Core.List.{List, _++_}
 use Prim.Native.Nat.{ℕ}
 use lib.ListN.{length, drop, replicate}
 use Rattle.plan.specs.declared.Plan.{Plan}
-use Rattle.answer.specs.declared.Answer.the-variants.{No}
+use Rattle.answer.specs.declared.Answer.{Answer}
+use Rattle.answer.specs.declared.Answer.the-variants.{Good, No}
 use Rattle.answer.specs.declared.Refusal.{Refusal}
-use Rattle.answer.specs.Answer.{ifGood}
+use Rattle.answer.specs.Answer.{number, ifGood}
 use Rattle.plan.specs.Record.{noPlan}
 use Rattle.plan_bytes.specs.declared.Written.{Written}
 use Rattle.plan_bytes.specs.Parts.{encoded, size}
-use Rattle.plan_bytes.specs.Reading.{readOf}
+use Rattle.plan_bytes.specs.Reading.{readAnswer, readOf}
 use Rattle.plan_bytes.specs.Writing.{writeAnswer, counted, Writes}
 use Rattle.plan_writer.specs.OneOutcome.{write-one-outcome}
 use Rattle.layout.specs.declared.table.TableWritten.{TableWritten}
@@ -49,15 +51,20 @@ pub record Lent (A : Type 0) : Type 0 where
 lent : {A : Type 0} (a b : Lent A) → (a .result ≡ b .result) × (a .buffer ≡ b .buffer) → a ≡ b
 lent a b e = λ i. record { result = e .0 i; buffer = e .1 i }
 
+-- an answer that is not good, by its number
+refusal : (a : Answer) → number a ≢ 0 → (w : Refusal) × (a ≡ No w)
+refusal Good h = absurd (h refl)
+refusal (No w) h = (w, refl)
+
 -- ---- reading a plan
 
 pub reading : (bytes : List ℕ) → One (λ r. r ≡ readOf bytes)
 reading bytes = one (readOf bytes)
 
 -- "A refused read gives an all-zero plan and 0 bytes taken"
-pub reading-refused : (bytes : List ℕ) (w : Refusal) → readOf bytes .answer ≡ No w → (readOf bytes .plan ≡ noPlan) × (readOf bytes .taken ≡ 0)
+pub reading-refused : (bytes : List ℕ) → number (readOf bytes .answer) ≢ 0 → (readOf bytes .plan ≡ noPlan) × (readOf bytes .taken ≡ 0)
 unfolding readOf
-reading-refused bytes w e = (rw e, rw e)
+reading-refused bytes h = let t = refusal (readAnswer bytes) h in (rw (t .1), rw (t .1))
 
 -- ---- writing a plan
 
@@ -68,9 +75,10 @@ writing p out = record { outcome = made; meets = record { result = refl; buffer 
     made = record { result = counted (writeAnswer p out) (size p); buffer = ifGood (writeAnswer p out) (encoded p ++ drop (size p) out) out }
 
 -- "0 on a refusal. Lent buffers keep every byte on a refusal"
-pub writing-refused : (p : Plan) (out after : List ℕ) (r : Written) (w : Refusal) → Writes p out r after → r .answer ≡ No w → (r .count ≡ 0) × (after ≡ out)
-writing-refused p out after r w c e =
-    let a : writeAnswer p out ≡ No w = ap (λ (x : Written). x .answer) (sym (c .result)) ∙ e in
+pub writing-refused : (p : Plan) (out after : List ℕ) (r : Written) → Writes p out r after → number (r .answer) ≢ 0 → (r .count ≡ 0) × (after ≡ out)
+writing-refused p out after r c h =
+    let t = refusal (r .answer) h in
+    let a : writeAnswer p out ≡ No (t .0) = ap (λ (x : Written). x .answer) (sym (c .result)) ∙ t .1 in
     (ap (λ (x : Written). x .count) (c .result) ∙ (rw a), c .buffer ∙ (rw a))
 
 -- ---- writing the slot table
@@ -82,9 +90,10 @@ tabling p out = record { outcome = made; meets = record { answer = refl; count =
     made = record { result = record { answer = tableAnswer p (length out); count = ifGood (tableAnswer p (length out)) (tableLength p) 0 }; buffer = ifGood (tableAnswer p (length out)) (tableOver p out) out }
 
 -- "Lent buffers keep every byte on a refusal"
-pub tabling-refused : (p : Plan) (out after : List ℕ) (r : TableWritten) (w : Refusal) → Tabled p out after r → r .answer ≡ No w → (r .count ≡ 0) × (after ≡ out)
-tabling-refused p out after r w c e =
-    let a : tableAnswer p (length out) ≡ No w = sym (c .answer) ∙ e in
+pub tabling-refused : (p : Plan) (out after : List ℕ) (r : TableWritten) → Tabled p out after r → number (r .answer) ≢ 0 → (r .count ≡ 0) × (after ≡ out)
+tabling-refused p out after r c h =
+    let t = refusal (r .answer) h in
+    let a : tableAnswer p (length out) ≡ No (t .0) = sym (c .answer) ∙ t .1 in
     (c .count ∙ (rw a), c .bytes ∙ (rw a))
 
 -- ---- the verdict
@@ -93,8 +102,8 @@ pub judging : (p : Plan) → One (λ v. v ≡ judged p)
 judging p = one (judged p)
 
 -- "A refused verdict gives k 0 for every kind"
-pub judging-refused : (p : Plan) (w : Refusal) → judged p .answer ≡ No w → judged p .width ≡ replicate 16 0
-judging-refused = none-refused
+pub judging-refused : (p : Plan) → number (judged p .answer) ≢ 0 → judged p .width ≡ replicate 16 0
+judging-refused p h = let t = refusal (judged p .answer) h in none-refused p (t .0) (t .1)
 
 -- ---- a fresh start
 
@@ -102,8 +111,8 @@ pub starting : (p : Plan) → One (λ n. n ≡ startOf p)
 starting p = one (startOf p)
 
 -- "a refused fresh start gives an all-zero state"
-pub starting-refused : (p : Plan) (w : Refusal) → startOf p .answer ≡ No w → startOf p .state ≡ noState
-starting-refused = start-refused
+pub starting-refused : (p : Plan) → number (startOf p .answer) ≢ 0 → startOf p .state ≡ noState
+starting-refused p h = let t = refusal (startOf p .answer) h in start-refused p (t .0) (t .1)
 
 -- ---- a release
 
@@ -111,8 +120,8 @@ pub releasing : (s : State) (i e : ℕ) → One (λ n. n ≡ releaseOf s i e)
 releasing s i e = one (releaseOf s i e)
 
 -- "a refused slice or release gives back the state handed in"
-pub releasing-refused : (s : State) (i e : ℕ) (w : Refusal) → releaseOf s i e .answer ≡ No w → releaseOf s i e .state ≡ s
-releasing-refused = release-refused
+pub releasing-refused : (s : State) (i e : ℕ) → number (releaseOf s i e .answer) ≢ 0 → releaseOf s i e .state ≡ s
+releasing-refused s i e h = let t = refusal (releaseOf s i e .answer) h in release-refused s i e (t .0) (t .1)
 
 -- ---- a slice
 
@@ -123,5 +132,5 @@ slicing s bytes = record { outcome = made; meets = record { result = refl; buffe
     made = record { result = sliceOf s (length bytes); buffer = bufferAfter s bytes }
 
 -- "a refused slice .. gives back the state handed in", and the lent row keeps every byte
-pub slicing-refused : (s : State) (bytes after : List ℕ) (next : Next) (w : Refusal) → Sliced s bytes next after → next .answer ≡ No w → (next .state ≡ s) × (after ≡ bytes)
-slicing-refused = slice-refused
+pub slicing-refused : (s : State) (bytes after : List ℕ) (next : Next) → Sliced s bytes next after → number (next .answer) ≢ 0 → (next .state ≡ s) × (after ≡ bytes)
+slicing-refused s bytes after next c h = let t = refusal (next .answer) h in slice-refused s bytes after next (t .0) c (t .1)

@@ -1,6 +1,7 @@
 -- Document 01, "Running": the bytes of the rows written that name a kind, or the kinds of a project.
 -- Assumes nothing.
 use mathlib.Core.Path.{_≡_}
+use mathlib.Core.Logic.{_≢_}
 use Prim.Native.Nat.{ℕ, _+_, _≤_, _<_, pred}
 use mathlib.Core.Bool.{Bool, true, not, _&&_}
 use mathlib.Core.List.{List, [], _∷_}
@@ -41,3 +42,11 @@ pub record Orderly (p : Plan) (row : List ℕ) : Type 0 where
   pub one-card : (i : ℕ) → bytesIn (namesKind i) row ≤ 1
   -- no project exceeds its ceiling
   pub ceiling : (j : ℕ) → j < p .projects → bytesIn (namesProject p j) row ≤ projectOf p j .ceiling
+
+-- a row that names kinds i and k: a card of each, and they are two
+pub record Apart (i k : ℕ) (row : List ℕ) : Type 0 where
+  pub card : ℕ
+  pub other : ℕ
+  pub two : card ≢ other
+  pub first : (card < length row) × (namesKind i (getD row card 0) ≡ true)
+  pub second : (other < length row) × (namesKind k (getD row other 0) ≡ true)

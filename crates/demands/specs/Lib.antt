@@ -5,12 +5,18 @@
 pub mod Run
 pub mod Since
 pub mod Named
+pub mod Shown
 pub mod Outcomes
 pub mod Excess
 pub mod Verdicts
 pub mod Deadlines
+pub mod Sufficient
+-- ---- the statements at work
+pub mod Uses
 -- ---- what a row is
 pub mod Row
+pub mod Stands
+pub mod Cards
 -- ---- the rack as a project sees it: the ranking, and the rack's calls as steps of the theory
 pub mod View
 -- ---- runs
@@ -19,4 +25,6 @@ pub mod Served
 pub mod InTime
 pub mod Budget
 pub mod Refusals
+pub mod Eight
 pub mod Kept
+pub mod KeptShown

@@ -112,6 +112,7 @@ static void functions(void) {
 
 /* A field that was set by its name: its bytes stand there and nothing else changed. */
 static uint8_t image[256];
+static size_t covered = 0;
 
 static void stands(const char *what, uint32_t found, uint32_t value, size_t at, size_t bytes) {
     uint8_t expected[256] = {0};
@@ -120,6 +121,7 @@ static void stands(const char *what, uint32_t found, uint32_t value, size_t at, 
     }
     expect(what, found == value && memcmp(image, expected, sizeof image) == 0);
     memset(image, 0, sizeof image);
+    covered += bytes;
 }
 
 #define ONCE(name, value, at, bytes)                     \
@@ -148,6 +150,8 @@ static void fields(void) {
         EACH(unit_at, i, 0x12345678, 145 + 7 * i, 4);
         EACH(unit_left, i, 0x1234, 149 + 7 * i, 2);
     }
+
+    expect("every byte of the images is some field's", covered == sizeof image);
 
     /* A place that is not there, and values too wide. */
     parchbeetle_set_project_budget(image, 8, 1);

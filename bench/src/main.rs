@@ -202,12 +202,7 @@ fn long_stream(stream: &Stream) -> Row {
     };
     let tuned = || {
         let mut state = stream.start;
-        let played = played(
-            stream,
-            &mut state,
-            |state, kind, e| tuned::release(state, kind, e),
-            |state, row| tuned::slice(state, row),
-        );
+        let played = played(stream, &mut state, tuned::release, tuned::slice);
         (state_image(&state), played)
     };
     let proved = through(&Proved);

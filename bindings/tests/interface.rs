@@ -608,6 +608,7 @@ fn the_records_are_what_the_library_reads_and_writes() {
 fn the_sizes_are_the_librarys() {
     let plan = plan_a().image();
     let state = plan_a().fresh().unwrap().image();
+    let copy = |size: usize| state[..size].to_vec();
     type Call<'a> = &'a dyn Fn(usize) -> Answer;
     let calls: [(usize, Call); 10] = [
         (PLAN_IMAGE, &|size| check(&plan[..size])),
@@ -618,12 +619,8 @@ fn the_sizes_are_the_librarys() {
         (K_BYTES, &|size| verdict(&plan, &mut vec![0; size])),
         (PLAN_IMAGE, &|size| fresh(&plan[..size], &mut [0; 256])),
         (STATE_IMAGE, &|size| fresh(&plan, &mut vec![0; size])),
-        (STATE_IMAGE, &|size| {
-            release(&mut state.clone()[..size], 0, 1)
-        }),
-        (STATE_IMAGE, &|size| {
-            slice(&mut state.clone()[..size], &mut [0; 2])
-        }),
+        (STATE_IMAGE, &|size| release(&mut copy(size), 0, 1)),
+        (STATE_IMAGE, &|size| slice(&mut copy(size), &mut [0; 2])),
     ];
     for (size, call) in calls {
         assert_eq!(call(size).number, 0);

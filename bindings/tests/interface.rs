@@ -16,7 +16,7 @@ struct Texts {
     /// The bridge to the library: its calls, and those of the bindings.
     bridge: String,
     bridged: String,
-    /// The crate whose functions are exported.
+    /// The code of the proved crates that exports functions.
     exported: String,
     /// All code of the proved crates.
     code: String,
@@ -24,18 +24,20 @@ struct Texts {
     version: String,
 }
 
-const EXPORTED: &str = "crates/exports/src/lib.rt";
-
 fn texts() -> Texts {
     let root = Path::new(env!("CARGO_MANIFEST_DIR")).join("..");
     let text = |path: &str| read_to_string(root.join(path)).expect(path);
-    let mut code = String::new();
+    let (mut code, mut exported) = (String::new(), String::new());
     for folder in read_dir(root.join("crates")).unwrap() {
         let Ok(files) = read_dir(folder.unwrap().path().join("src")) else {
             continue;
         };
         for file in files {
-            code += &read_to_string(file.unwrap().path()).unwrap();
+            let text = read_to_string(file.unwrap().path()).unwrap();
+            if text.contains("#[no_mangle]") {
+                exported += &text;
+            }
+            code += &text;
         }
     }
     Texts {
@@ -45,7 +47,7 @@ fn texts() -> Texts {
             .concat(),
         bridge: text("bindings/bridge.c"),
         bridged: text("bindings/src/bridged.rs"),
-        exported: text(EXPORTED),
+        exported,
         code,
         version: env!("CARGO_PKG_VERSION").to_string(),
     }
@@ -325,17 +327,19 @@ fn differences(texts: &Texts) -> Vec<String> {
                 "bindings",
                 format!("{:?}", on_slices(bindings, "\npub fn ", "-> Answer {")),
             ),
-            (
-                "exported",
-                format!(
-                    "{:?}",
-                    on_slices(
-                        exported,
-                        "#[no_mangle]\npub extern \"C\" fn parchbeetle_",
-                        "-> u64"
-                    )
-                ),
-            ),
+        ],
+    );
+    // These may stand in more than one file.
+    let sorted = |mut functions: Vec<Function>| {
+        functions.sort_by(|(one, _), (other, _)| one.cmp(other));
+        format!("{functions:?}")
+    };
+    let marked = "#[no_mangle]\npub extern \"C\" fn parchbeetle_";
+    same(
+        "exported functions",
+        &[
+            ("header", sorted(declared(header))),
+            ("exported", sorted(on_slices(exported, marked, "-> u64"))),
         ],
     );
     let exports = exported.matches("extern \"C\"").count();

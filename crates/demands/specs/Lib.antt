@@ -1,5 +1,6 @@
--- The three demands: `Outcomes` (1), `Verdicts` (2) and `Deadlines` (3) state them, the last over `Run`, `Since` and `Named`.
--- The other modules tie the theory of one project (`analysis`) to the rack.
+-- The three demands: `Outcomes` (1), `Verdicts` (2) and `Deadlines` (3) state them, the last over `Run`, `Since`, `Named` and
+-- `Shown`; `Sufficient` has a refused plan that runs well, and `Uses` puts every statement to work. The other modules tie the
+-- theory of one project (`analysis`) to the rack.
 -- Assumes nothing.
 -- ---- the statements
 pub mod Run

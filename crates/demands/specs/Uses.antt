@@ -52,6 +52,7 @@ use Rattle.demands.specs.Sufficient.{enoughCards, runs-well}
 use Rattle.demands.specs.Uses.Figures.{tick, row, releases, threeSlices, fourSlices, example, rows, earlier, later, begun, fourRows}
 use Rattle.demands.specs.Uses.Figures.{oneSlice, running, longer, both, waiting, verdicts, ranks, answers}
 pub mod Figures
+pub mod Worst
 
 -- ---- demand 1: one outcome, and a refusal that changes nothing
 

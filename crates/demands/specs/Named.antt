@@ -36,14 +36,14 @@ bytesNaming test (slice ∷ slices) = bytesIn test (slice .row) + bytesNaming te
 pub record Orderly (p : Plan) (row : List ℕ) : Type 0 where
   -- "The row written has m bytes": one for each card
   pub cards : length row ≡ p .cards
-  -- no card serves two units
+  -- no card serves two units: its byte names one kind at most (that what is done is what the bytes say is `rows-serve`)
   pub one-unit : (card i k : ℕ) → namesKind i (getD row card 0) ≡ true → namesKind k (getD row card 0) ≡ true → i ≡ k
   -- no unit holds two cards
   pub one-card : (i : ℕ) → bytesIn (namesKind i) row ≤ 1
   -- no project exceeds its ceiling
   pub ceiling : (j : ℕ) → j < p .projects → bytesIn (namesProject p j) row ≤ projectOf p j .ceiling
 
--- a row that names kinds i and k: a card of each, and they are two
+-- no card serves two units: kinds i and k stand on two
 pub record Apart (i k : ℕ) (row : List ℕ) : Type 0 where
   pub card : ℕ
   pub other : ℕ

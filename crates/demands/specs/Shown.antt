@@ -57,7 +57,7 @@ unfoldable pub lastFrom : ℕ → Last → List Event → Last
 lastFrom i last [] = last
 lastFrom i last (event ∷ events) = lastFrom i (lastAfter i last event) events
 
--- what is left of it: "e less the bytes that have named its kind since its release"
+-- what is left of it: e less those bytes
 abbrev pub leftOf : Last → ℕ
 leftOf none = 0
 leftOf (unit e named) = e - named

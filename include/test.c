@@ -5,6 +5,8 @@
 
 #include "parchbeetle.h"
 
+enum { PLAN = PARCHBEETLE_PLAN_IMAGE, STATE = PARCHBEETLE_STATE_IMAGE };
+
 static int checks = 0, faults = 0;
 
 static void expect(const char *what, int holds) {
@@ -29,7 +31,7 @@ static const uint8_t widths_a[16] = {1, 1, 1};
 
 static void make_plan_a(uint8_t *plan) {
     static const unsigned kinds[3][4] = {{0, 8, 8, 6}, {1, 4, 4, 2}, {1, 8, 8, 2}};
-    memset(plan, 0, PARCHBEETLE_PLAN_IMAGE);
+    memset(plan, 0, PLAN);
     parchbeetle_set_plan_cards(plan, 2);
     parchbeetle_set_plan_projects(plan, 2);
     parchbeetle_set_plan_kinds(plan, 3);
@@ -48,74 +50,74 @@ static void make_plan_a(uint8_t *plan) {
 
 /* Every function, on good answers and on refusals with each part. */
 static void functions(void) {
-    uint8_t plan[140], made[140], wrong[140], state[256], kept[256];
+    uint8_t plan[PLAN], made[PLAN], wrong[PLAN], state[STATE], kept[STATE];
     uint8_t bytes[22], slots[8], widths[16], row[2];
 
-    answers("read", parchbeetle_read(bytes_a, 22, plan, 140), 0, 0, 22, 0);
+    answers("read", parchbeetle_read(bytes_a, 22, plan, PLAN), 0, 0, 22, 0);
     make_plan_a(made);
-    expect("plan A by its fields", memcmp(plan, made, 140) == 0);
-    answers("read, short", parchbeetle_read(bytes_a, 21, wrong, 140), 1, 0, 0, 0);
-    answers("read, no room", parchbeetle_read(bytes_a, 22, wrong, 139), 9, 0, 0, 0);
+    expect("plan A by its fields", memcmp(plan, made, PLAN) == 0);
+    answers("read, short", parchbeetle_read(bytes_a, 21, wrong, PLAN), 1, 0, 0, 0);
+    answers("read, no room", parchbeetle_read(bytes_a, 22, wrong, PLAN - 1), 9, 0, 0, 0);
 
-    answers("check", parchbeetle_check(plan, 140), 0, 0, 0, 0);
-    answers("check, short", parchbeetle_check(plan, 139), 9, 0, 0, 0);
-    memcpy(wrong, plan, 140);
+    answers("check", parchbeetle_check(plan, PLAN), 0, 0, 0, 0);
+    answers("check, short", parchbeetle_check(plan, PLAN - 1), 9, 0, 0, 0);
+    memcpy(wrong, plan, PLAN);
     parchbeetle_set_project_ceiling(wrong, 1, 3);
-    answers("check, project 1", parchbeetle_check(wrong, 140), 4, 1, 0, 0);
-    answers("write, project 1", parchbeetle_write(wrong, 140, bytes, 22), 4, 1, 0, 0);
-    answers("slot_table, project 1", parchbeetle_slot_table(wrong, 140, slots, 8), 4, 1, 0, 0);
-    memcpy(wrong, plan, 140);
+    answers("check, project 1", parchbeetle_check(wrong, PLAN), 4, 1, 0, 0);
+    answers("write, project 1", parchbeetle_write(wrong, PLAN, bytes, 22), 4, 1, 0, 0);
+    answers("slot_table, project 1", parchbeetle_slot_table(wrong, PLAN, slots, 8), 4, 1, 0, 0);
+    memcpy(wrong, plan, PLAN);
     parchbeetle_set_kind_project(wrong, 2, 2);
-    answers("check, kind 2", parchbeetle_check(wrong, 140), 5, 2, 0, 0);
+    answers("check, kind 2", parchbeetle_check(wrong, PLAN), 5, 2, 0, 0);
     parchbeetle_set_kind_deadline(wrong, 1, 5);
-    answers("fresh, kind 1", parchbeetle_fresh(wrong, 140, state, 256), 6, 1, 0, 0);
+    answers("fresh, kind 1", parchbeetle_fresh(wrong, PLAN, state, STATE), 6, 1, 0, 0);
 
-    answers("write", parchbeetle_write(plan, 140, bytes, 22), 0, 0, 22, 0);
+    answers("write", parchbeetle_write(plan, PLAN, bytes, 22), 0, 0, 22, 0);
     expect("bytes", memcmp(bytes, bytes_a, 22) == 0);
-    answers("write, no room", parchbeetle_write(plan, 140, bytes, 21), 9, 0, 0, 0);
+    answers("write, no room", parchbeetle_write(plan, PLAN, bytes, 21), 9, 0, 0, 0);
 
-    answers("slot_table", parchbeetle_slot_table(plan, 140, slots, 8), 0, 0, 8, 0);
+    answers("slot_table", parchbeetle_slot_table(plan, PLAN, slots, 8), 0, 0, 8, 0);
     expect("slots", memcmp(slots, slots_a, 8) == 0);
-    answers("slot_table, no room", parchbeetle_slot_table(plan, 140, slots, 7), 9, 0, 0, 0);
+    answers("slot_table, no room", parchbeetle_slot_table(plan, PLAN, slots, 7), 9, 0, 0, 0);
 
-    answers("verdict", parchbeetle_verdict(plan, 140, widths, 16), 0, 0, 0, 0);
+    answers("verdict", parchbeetle_verdict(plan, PLAN, widths, 16), 0, 0, 0, 0);
     expect("widths", memcmp(widths, widths_a, 16) == 0);
-    answers("verdict, no room", parchbeetle_verdict(plan, 140, widths, 15), 9, 0, 0, 0);
-    memcpy(wrong, plan, 140);
+    answers("verdict, no room", parchbeetle_verdict(plan, PLAN, widths, 15), 9, 0, 0, 0);
+    memcpy(wrong, plan, PLAN);
     parchbeetle_set_kind_length(wrong, 1, 4);
-    answers("verdict, kind 1 by 2", parchbeetle_verdict(wrong, 140, widths, 16), 8, 1, 0, 2);
-    answers("fresh, kind 1 by 2", parchbeetle_fresh(wrong, 140, state, 256), 8, 1, 0, 2);
+    answers("verdict, kind 1 by 2", parchbeetle_verdict(wrong, PLAN, widths, 16), 8, 1, 0, 2);
+    answers("fresh, kind 1 by 2", parchbeetle_fresh(wrong, PLAN, state, STATE), 8, 1, 0, 2);
 
-    answers("fresh", parchbeetle_fresh(plan, 140, state, 256), 0, 0, 0, 0);
-    expect("the plan in the state", memcmp(state, plan, 140) == 0);
-    answers("fresh, no room", parchbeetle_fresh(plan, 140, state, 255), 9, 0, 0, 0);
+    answers("fresh", parchbeetle_fresh(plan, PLAN, state, STATE), 0, 0, 0, 0);
+    expect("the plan in the state", memcmp(state, plan, PLAN) == 0);
+    answers("fresh, no room", parchbeetle_fresh(plan, PLAN, state, STATE - 1), 9, 0, 0, 0);
 
-    answers("release", parchbeetle_release(state, 256, 0, 6), 0, 0, 0, 0);
-    memcpy(kept, state, 256);
-    answers("release, too early", parchbeetle_release(state, 256, 0, 6), 14, 0, 0, 0);
-    answers("release, no kind", parchbeetle_release(state, 256, (uint64_t)1 << 32, 1), 12, 0, 0, 0);
-    answers("release, too long", parchbeetle_release(state, 256, 1, ((uint64_t)1 << 32) + 1), 13, 0, 0, 0);
-    answers("release, short", parchbeetle_release(state, 255, 1, 1), 9, 0, 0, 0);
-    answers("slice, no room", parchbeetle_slice(state, 256, row, 1), 9, 0, 0, 0);
-    expect("a refusal keeps the state", memcmp(state, kept, 256) == 0);
+    answers("release", parchbeetle_release(state, STATE, 0, 6), 0, 0, 0, 0);
+    memcpy(kept, state, STATE);
+    answers("release, too early", parchbeetle_release(state, STATE, 0, 6), 14, 0, 0, 0);
+    answers("release, no kind", parchbeetle_release(state, STATE, (uint64_t)1 << 32, 1), 12, 0, 0, 0);
+    answers("release, too long", parchbeetle_release(state, STATE, 1, ((uint64_t)1 << 32) + 1), 13, 0, 0, 0);
+    answers("release, short", parchbeetle_release(state, STATE - 1, 1, 1), 9, 0, 0, 0);
+    answers("slice, no room", parchbeetle_slice(state, STATE, row, 1), 9, 0, 0, 0);
+    expect("a refusal keeps the state", memcmp(state, kept, STATE) == 0);
 
-    answers("slice", parchbeetle_slice(state, 256, row, 2), 0, 0, 0, 0);
+    answers("slice", parchbeetle_slice(state, STATE, row, 2), 0, 0, 0, 0);
     expect("row", row[0] == 1 && row[1] == 0);
     expect("clock", parchbeetle_state_clock(state) == 1);
     expect("left", parchbeetle_unit_left(state, 0) == 5);
     parchbeetle_set_state_clock(state, 1000000000);
-    answers("slice, at the end", parchbeetle_slice(state, 256, row, 2), 11, 0, 0, 0);
+    answers("slice, at the end", parchbeetle_slice(state, STATE, row, 2), 11, 0, 0, 0);
     parchbeetle_set_kind_project(state, 2, 2);
-    answers("slice, kind 2", parchbeetle_slice(state, 256, row, 2), 5, 2, 0, 0);
-    answers("release, kind 2", parchbeetle_release(state, 256, 0, 1), 5, 2, 0, 0);
+    answers("slice, kind 2", parchbeetle_slice(state, STATE, row, 2), 5, 2, 0, 0);
+    answers("release, kind 2", parchbeetle_release(state, STATE, 0, 1), 5, 2, 0, 0);
 }
 
 /* A field that was set by its name: its bytes stand there and nothing else changed. */
-static uint8_t image[256];
+static uint8_t image[STATE];
 static size_t covered = 0;
 
 static void stands(const char *what, uint32_t found, uint32_t value, size_t at, size_t bytes) {
-    uint8_t expected[256] = {0};
+    uint8_t expected[STATE] = {0};
     for (size_t i = 0; i < bytes; i++) {
         expected[at + i] = (uint8_t)(value >> 8 * (bytes - 1 - i));
     }
@@ -131,26 +133,32 @@ static void stands(const char *what, uint32_t found, uint32_t value, size_t at, 
     parchbeetle_set_##name(image, place, value);         \
     stands(#name, parchbeetle_##name(image, place), value, at, bytes)
 
+/* Where the parts of the images begin, and the bytes of each place. */
+enum { PROJECTS = 4, PROJECT = 3 };
+enum { KINDS = PROJECTS + 8 * PROJECT, KIND = 7 };
+enum { CLOCK = KINDS + 16 * KIND, UNITS = CLOCK + 4, UNIT = 7 };
+
 static void fields(void) {
     ONCE(plan_cards, 0x12, 0, 1);
     ONCE(plan_projects, 0x12, 1, 1);
     ONCE(plan_kinds, 0x12, 2, 1);
     ONCE(plan_frame, 0x12, 3, 1);
-    ONCE(state_clock, 0x12345678, 140, 4);
     for (size_t j = 0; j < 8; j++) {
-        EACH(project_ceiling, j, 0x12, 4 + 3 * j, 1);
-        EACH(project_budget, j, 0x1234, 5 + 3 * j, 2);
+        EACH(project_ceiling, j, 0x12, PROJECTS + PROJECT * j, 1);
+        EACH(project_budget, j, 0x1234, PROJECTS + PROJECT * j + 1, 2);
     }
     for (size_t i = 0; i < 16; i++) {
-        EACH(kind_project, i, 0x12, 28 + 7 * i, 1);
-        EACH(kind_separation, i, 0x1234, 29 + 7 * i, 2);
-        EACH(kind_deadline, i, 0x1234, 31 + 7 * i, 2);
-        EACH(kind_length, i, 0x1234, 33 + 7 * i, 2);
-        EACH(unit_released, i, 1, 144 + 7 * i, 1);
-        EACH(unit_at, i, 0x12345678, 145 + 7 * i, 4);
-        EACH(unit_left, i, 0x1234, 149 + 7 * i, 2);
+        EACH(kind_project, i, 0x12, KINDS + KIND * i, 1);
+        EACH(kind_separation, i, 0x1234, KINDS + KIND * i + 1, 2);
+        EACH(kind_deadline, i, 0x1234, KINDS + KIND * i + 3, 2);
+        EACH(kind_length, i, 0x1234, KINDS + KIND * i + 5, 2);
     }
-
+    ONCE(state_clock, 0x12345678, CLOCK, 4);
+    for (size_t i = 0; i < 16; i++) {
+        EACH(unit_released, i, 1, UNITS + UNIT * i, 1);
+        EACH(unit_at, i, 0x12345678, UNITS + UNIT * i + 1, 4);
+        EACH(unit_left, i, 0x1234, UNITS + UNIT * i + 5, 2);
+    }
     expect("every byte of the images is some field's", covered == sizeof image);
 
     /* A place that is not there, and values too wide. */
@@ -159,9 +167,9 @@ static void fields(void) {
     parchbeetle_set_unit_left(image, 16, 1);
     stands("no kind 16", parchbeetle_unit_left(image, 16), 0, 0, 0);
     parchbeetle_set_kind_length(image, 0, 65536 + 5);
-    stands("too wide", parchbeetle_kind_length(image, 0), 65535, 33, 2);
+    stands("too wide", parchbeetle_kind_length(image, 0), 65535, KINDS + 5, 2);
     parchbeetle_set_state_clock(image, (uint64_t)1 << 32);
-    stands("much too wide", parchbeetle_state_clock(image), 0xffffffff, 140, 4);
+    stands("much too wide", parchbeetle_state_clock(image), 0xffffffff, CLOCK, 4);
 }
 
 static void words(void) {

@@ -15,6 +15,7 @@ use Rattle.rack.specs.Release.{releaseAnswer}
 use Rattle.rack.specs.Slice.{sliceAnswer}
 use Rattle.demands.specs.Run.{Call, slice, release, nextAfter, rowWritten}
 use Rattle.demands.specs.Named.{namesKind, bytesIn}
+pub mod Along
 pub mod Properties
 
 -- an accepted release of a kind with a length, or the row that an accepted slice writes

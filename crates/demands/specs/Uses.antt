@@ -26,10 +26,10 @@ use Rattle.layout.specs.declared.table.TableWritten.{TableWritten}
 use Rattle.layout.specs.Table.{Tabled}
 use Rattle.verdict.specs.declared.Verdict.{Verdict}
 use Rattle.verdict.specs.Verdict.{ceilingOn, judged}
-use Rattle.verdict.specs.Admission.{asked, given, Fits, NotAdmitted}
+use Rattle.verdict.specs.Admission.{given, Fits, NotAdmitted}
 use Rattle.rack.specs.declared.State.{State}
 use Rattle.rack.specs.declared.Next.{Next}
-use Rattle.rack.specs.State.{freshOf, noState, unitOf}
+use Rattle.rack.specs.State.{noState, unitOf}
 use Rattle.rack.specs.Form.{Ready}
 use Rattle.rack.specs.Form.Properties.{ready-says}
 use Rattle.rack.specs.Rank.{outranks, rank}
@@ -37,7 +37,7 @@ use Rattle.rack.specs.Row.{holds, takes, rowByte}
 use Rattle.rack.specs.Start.{startOf}
 use Rattle.rack.specs.Release.{releaseOf}
 use Rattle.rack.specs.Slice.{sliceOf, Sliced}
-use Rattle.demands.specs.Run.{release, nextAfter, runFrom, after, slicesOf, noSlice, rowWritten}
+use Rattle.demands.specs.Run.{release, nextAfter, runFrom, after, noSlice, rowWritten}
 use Rattle.demands.specs.Named.{namesKind, namesProject, bytesIn, bytesNaming, Orderly, Apart}
 use Rattle.demands.specs.Shown.{shown, upTo, none, lastFrom, leftOf, restarted, kindsLeft}
 use Rattle.demands.specs.Outcomes.{Lent, reading, reading-refused, writing, writing-refused, tabling, tabling-refused}
@@ -48,7 +48,7 @@ use Rattle.demands.specs.Verdicts.{stands-when, nothing-left, all-stand,
 use Rattle.demands.specs.Deadlines.{in-time, in-time-so-far, left-in-time, rows-orderly, rows-serve, one-kind-a-card, rows-name}
 use Rattle.demands.specs.Deadlines.{served-apart, budget-at-most, budget-exactly, never-out-of-form, never-left-over, told-early}
 use Rattle.demands.specs.Deadlines.{clock-tells, left-shown, last-shown, unit-shown, in-time-shown, work-shown, budget-shown}
-use Rattle.demands.specs.Sufficient.{enoughCards, runs-well}
+use Rattle.demands.specs.Sufficient.{runs-well}
 use Rattle.demands.specs.Uses.Figures.{tick, row, releases, threeSlices, fourSlices, example, rows, earlier, later, begun, fourRows}
 use Rattle.demands.specs.Uses.Figures.{oneSlice, running, longer, both, waiting, verdicts, ranks, answers}
 pub mod Figures

@@ -7,8 +7,7 @@ use native.Mathlib.Numerals.{one-add}
 use native.Mathlib.Omega.{arith}
 use lib.ListN.{length, getD}
 use Rattle.plan.specs.declared.Plan.{Plan}
-use Rattle.answer.specs.declared.Answer.{Answer}
-use Rattle.answer.specs.declared.Answer.the-variants.{Good, No}
+use Rattle.answer.specs.declared.Answer.the-variants.{Good}
 use Rattle.rack.specs.declared.State.{State}
 use Rattle.layout.specs.Layout.{held}
 use Rattle.rack.specs.Form.{Ready}
@@ -17,13 +16,14 @@ use Rattle.rack.specs.Rank.{viewOf}
 use Rattle.rack.specs.Rank.Properties.{view-held}
 use Rattle.rack.specs.Row.{rowByte, rowOf}
 use Rattle.rack.specs.Row.Properties.{row-size, row-shows, over-take}
-use Rattle.rack.specs.Release.{released, releaseAnswer, releaseOf}
+use Rattle.rack.specs.Release.{released, releaseAnswer}
 use Rattle.rack.specs.Advance.{advanced}
-use Rattle.rack.specs.Slice.{sliceAnswer, sliceOf, bufferAfter}
+use Rattle.rack.specs.Slice.{sliceAnswer, bufferAfter}
 use Rattle.rack.specs.Slice.Properties.{slice-says}
+use Rattle.demands.specs.Shown.Along.{along-shown}
 use Rattle.demands.specs.View.{cardsFrom}
 use Rattle.demands.specs.View.Properties.{cards-now, cards-later, cards-kept}
-use Rattle.demands.specs.Run.{Call, slice, release, runFrom, Accepted, accepted, rowWritten, acceptedIn, slicesOf}
+use Rattle.demands.specs.Run.{Call, runFrom, Accepted, accepted, rowWritten, slicesOf}
 
 -- ---- the calls that are accepted: refusals change nothing
 
@@ -42,23 +42,11 @@ WithRelease P = (s end : State) (i e : ℕ) (slices : List Accepted) → release
     P (released s i e) slices end → P s slices end
 
 module _ (P : Claim) (none : (s : State) → P s [] s) (with-slice : WithSlice P) (with-release : WithRelease P) where
-  abbrev Of : List Call → State → Type 0
-  Of calls s = P s (slicesOf s calls) (runFrom s calls)
-
-  -- then it holds of every run
-  pub along : (calls : List Call) (s : State) → Of calls s
-  unfolding slicesOf runFrom acceptedIn sliceOf releaseOf
-  along [] s = none s
-  along (slice bytes ∷ calls) s = go (sliceAnswer s (length bytes)) refl (along calls (advanced s)) (along calls s)
-    where
-      go : (a : Answer) → sliceAnswer s (length bytes) ≡ a → Of calls (advanced s) → Of calls s → Of (slice bytes ∷ calls) s
-      go Good e p q = rw e (with-slice s (runFrom (advanced s) calls) bytes (slicesOf (advanced s) calls) e p)
-      go (No r) e p q = rw e q
-  along (release i e ∷ calls) s = go (releaseAnswer s i e) refl (along calls (released s i e)) (along calls s)
-    where
-      go : (a : Answer) → releaseAnswer s i e ≡ a → Of calls (released s i e) → Of calls s → Of (release i e ∷ calls) s
-      go Good g p q = rw g (with-release s (runFrom (released s i e) calls) i e (slicesOf (released s i e) calls) g p)
-      go (No r) g p q = rw g q
+  -- then it holds of every run, whatever that shows
+  pub along : (calls : List Call) (s : State) → P s (slicesOf s calls) (runFrom s calls)
+  along =
+      along-shown (λ s events slices end. P s slices end) none
+      (λ s end bytes events slices. with-slice s end bytes slices) (λ s end i e events slices. with-release s end i e slices)
 
 -- ---- how far it gets
 

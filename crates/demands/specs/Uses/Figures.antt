@@ -50,11 +50,11 @@ use Rattle.rack.specs.Start.{startAnswer, startOf}
 use Rattle.rack.specs.Release.{releaseAnswer, released, releaseOf}
 use Rattle.rack.specs.Advance.{unitAfter, advanced, timeLeft}
 use Rattle.rack.specs.Slice.{roomFor, sliceAnswer, sliceOf, bufferAfter, Sliced}
-use Rattle.demands.specs.Run.{Call, slice, release, runFrom, after, Accepted, acceptedIn, slicesOf, noSlice, rowWritten}
+use Rattle.demands.specs.Run.{Call, slice, release, runFrom, after, Accepted, acceptedIn, slicesOf, noSlice}
 use Rattle.demands.specs.Since.{never, ago, sinceCall, sinceFrom}
 use Rattle.demands.specs.Named.{namesKind, bytesIn}
 use Rattle.demands.specs.Sufficient.{enoughCards}
-use Rattle.demands.specs.Shown.{shownBy, shown, upTo, none, lastFrom, leftOf, restarted, kindsLeft}
+use Rattle.demands.specs.Shown.{shownBy, shown, upTo, lastFrom, restarted, kindsLeft}
 
 -- ---- the player's example: "Plan A, then releases (0,6) (1,2) (2,2), four slices, releases (1,2) (2,1)"
 

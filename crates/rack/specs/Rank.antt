@@ -1,4 +1,5 @@
--- Document 01, "Running": who has work, who outranks whom, and who is served. Times are differences of clocks, but for the key that 01 names.
+-- Document 01, "Running": who has work, who outranks whom, and who is served. Times are differences of clocks, but for the key that
+-- 01 names.
 -- Assumes nothing.
 use Prim.Native.Nat.{ℕ, _+_, _-_, _%_}
 use mathlib.Core.Bool.{Bool, not, _&&_}

@@ -6,6 +6,7 @@ use lib.ListN.{set}
 use Rattle.answer.specs.declared.Answer.{Answer}
 use Rattle.answer.specs.declared.Refusal.the-variants.{Bare}
 use Rattle.answer.specs.Answer.{refuse, _andThen_}
+use Rattle.unit.specs.declared.Unit.{Unit}
 use Rattle.unit.specs.Start.{Startable, startable}
 use Rattle.rack.specs.declared.State.{State}
 use Rattle.rack.specs.declared.Next.{Next}
@@ -18,9 +19,13 @@ pub mod Properties
 unfoldable pub releaseAnswer : State → ℕ → ℕ → Answer
 releaseAnswer s i e = ready s andThen (refuse (not (used s i)) (Bare 12) andThen startable (kindAt s i) (unitOf s i) (gone s i) e)
 
+-- the unit that starts: "sets that clock and sets left to e"
+abbrev pub startedUnit : State → ℕ → Unit
+startedUnit s e = record { released = true; at = s .clock; left = e }
+
 -- "Release of a kind with a length e .. sets that clock and sets left to e"
 unfoldable pub released : State → ℕ → ℕ → State
-released s i e = record { plan = s .plan; clock = s .clock; unit = set (s .unit) i (record { released = true; at = s .clock; left = e }) }
+released s i e = record { plan = s .plan; clock = s .clock; unit = set (s .unit) i (startedUnit s e) }
 
 -- what a release answers and hands back
 unfoldable pub releaseOf : State → ℕ → ℕ → Next

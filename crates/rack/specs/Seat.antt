@@ -1,5 +1,6 @@
 -- How a slice finds its row: for each kind the card that it takes, plus 1, or 0 where it is not served. Row.antt says what the row is.
 -- Assumes nothing.
+use mathlib.Core.Path.{_≡_}
 use Prim.Native.Nat.{ℕ, zero, suc, _+_, _-_, _%_}
 use mathlib.Core.Bool.{cond}
 use mathlib.Core.List.{List}
@@ -45,6 +46,11 @@ lowestAt p clock j = cardsBelow (p .frame) (firstCell p j) (clock % p .frame)
 -- the card after its last
 unfoldable pub endAt : Plan → ℕ → ℕ → ℕ
 endAt p clock j = cardsBelow (p .frame) (firstCell p j + budgetOf p j) (clock % p .frame)
+
+-- each project's
+pub record ProjectCards (p : Plan) (clock : ℕ) (low end : List ℕ) : Type 0 where
+  pub lowest : low ≡ written (p .projects) (lowestAt p clock) (replicate 8 0)
+  pub past : end ≡ written (p .projects) (endAt p clock) (replicate 8 0)
 
 -- ---- the row from the seats
 

@@ -72,7 +72,7 @@ byteOn v card = firstTo (v .places) (λ number. takesCard v (pred number) card)
 pub record Same (v w : View) : Type 0 where
   pub places : v .places ≡ w .places
   pub active : (i : ℕ) → i < v .places → v .active i ≡ w .active i
-  pub above : (k i : ℕ) → v .active k ≡ true → v .active i ≡ true → v .above k i ≡ w .above k i
+  pub above : (k i : ℕ) → k < v .places → i < v .places → v .active k ≡ true → v .active i ≡ true → v .above k i ≡ w .above k i
   pub first : v .first ≡ w .first
   pub budget : v .budget ≡ w .budget
   pub frame : v .frame ≡ w .frame

@@ -8,14 +8,14 @@
 // ranks and 3n + p + m for the rest.
 ghost use mathlib.Core.Path.{_≡_};
 ghost use Prim.Native.Nat.{ℕ, _+_, _≤_, _<_};
-ghost use lib.ListN.{length, replicate};
+ghost use lib.ListN.{length};
 ghost use Rattle.laws.specs.Written.{written};
 ghost use Rattle.plan.specs.Order.{InOrder};
 ghost use Rattle.seats.specs.Seats.{at};
 ghost use Rattle.rack.specs.State.{lastClock};
 ghost use Rattle.rack.specs.Form.{Ready};
 ghost use Rattle.rack.specs.Row.{rowOver};
-ghost use Rattle.rack.specs.Seat.{idle, worksFor, lowestAt, endAt, seatsOf, seated};
+ghost use Rattle.rack.specs.Seat.{idle, worksFor, ProjectCards, seatsOf, seated};
 use crate::State;
 use layout::cards_below;
 use plan::Kind;
@@ -32,7 +32,7 @@ struct Cards {
 // One walk over the projects: each one's cells begin where the last one's end.
 fn project_cards(plan: Plan, clock: u32) -> Cards
     requires { ⌜ InOrder plan ⌝ }
-    ensures { λ r. ⌜ (r .low ≡ written (plan .projects) (lowestAt plan clock) (replicate 8 0)) × (r .end ≡ written (plan .projects) (endAt plan clock) (replicate 8 0)) ⌝ }
+    ensures { λ r. ⌜ ProjectCards plan clock (r .low) (r .end) ⌝ }
 {
     let slice = (clock % plan.frame as u32) as u8;
     let mut low = [0u8; 8];

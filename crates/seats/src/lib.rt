@@ -20,13 +20,7 @@ fn wide(x: u8) -> u16
 fn outranks(due: u32, k: usize, than: u32, i: usize) -> bool
     ensures { λ r. ⌜ r ≡ (ltb due than || (eqb due than && ltb k i)) ⌝ }
 {
-    if due < than {
-        return true;
-    }
-    if due != than {
-        return false;
-    }
-    k < i
+    due < than || (due == than && k < i)
 }
 
 // How many kinds of the same project outrank kind i.
@@ -78,8 +72,9 @@ fn seat(
     if 8 < number {
         return 0;
     }
-    let card = wide(low[number - 1]) + wide(rank(works, due, kinds, i));
-    seat_at(card, end[number - 1])
+    let project = number - 1;
+    let card = wide(low[project]) + wide(rank(works, due, kinds, i));
+    seat_at(card, end[project])
 }
 
 // Where every kind sits: the card that it takes, plus 1, or 0. A kind works for its project plus 1,

@@ -18,7 +18,9 @@ early separation v ago = v .released && ltb ago separation
 
 -- "13: e is 0 or above C", "14", "15: slices of an earlier unit are left"
 unfoldable pub startable : Kind → Unit → ℕ → ℕ → Answer
-startable k v ago e = refuse (not (within (k .length) e)) (Bare 13) andThen (refuse (early (k .separation) v ago) (Bare 14) andThen refuse (not (eqb (v .left) 0)) (Bare 15))
+startable k v ago e =
+    refuse (not (within (k .length) e)) (Bare 13) andThen (refuse (early (k .separation) v ago) (Bare 14) andThen
+    refuse (not (eqb (v .left) 0)) (Bare 15))
 
 -- ---- what a good answer says
 

@@ -10,10 +10,7 @@ impl Unit {
     fn is_early(self, separation: u16, ago: u32) -> bool
         ensures { λ r. ⌜ r ≡ early separation self ago ⌝ }
     {
-        if !self.released {
-            return false;
-        }
-        ago < separation as u32
+        self.released && ago < separation as u32
     }
 
     // Whether the kind may start one of that length, so many slices after this one's release.

@@ -24,7 +24,11 @@ use Rattle.rack.specs.Advance.{Advanceable, unitAfter, advanced}
 
 -- ---- a kind's unit after it
 
-pub after-served : (s : State) (i : ℕ) → served s i ≡ true → unitAfter s i ≡ record { released = unitOf s i .released; at = unitOf s i .at; left = unitOf s i .left - 1 }
+-- one slice less
+abbrev lowered : Unit → Unit
+lowered v = record { released = v .released; at = v .at; left = v .left - 1 }
+
+pub after-served : (s : State) (i : ℕ) → served s i ≡ true → unitAfter s i ≡ lowered (unitOf s i)
 unfolding unitAfter
 after-served s i e = rw e
 
@@ -37,7 +41,8 @@ after-unserved s i e = rw e (λ k. record { released = unitOf s i .released; at 
 
 -- ---- the steps of a loop that lowers what is left, by the seats
 
-module _ (s : State) (r : Ready s) (seat : List ℕ) (es : seat ≡ seatsOf s) (units : List Unit) (i : ℕ) (so-far : units ≡ written i (unitAfter s) (s .unit)) (n : ℕ) (en : n ≡ kindPlaces s) (l : i < n) where
+module _ (s : State) (r : Ready s) (seat : List ℕ) (es : seat ≡ seatsOf s) (units : List Unit) (i : ℕ)
+    (so-far : units ≡ written i (unitAfter s) (s .unit)) (n : ℕ) (en : n ≡ kindPlaces s) (l : i < n) where
   here : at seat i ≡ seatOf s i
   here = ap (λ (m : List ℕ). at m i) es ∙ seats-at s r i (omega arith)
 
@@ -64,18 +69,19 @@ module _ (s : State) (r : Ready s) (seat : List ℕ) (es : seat ≡ seatsOf s) (
   pub lowered-some : (at seat i ≡ 0 → ⊥) → 0 < getD units i noUnit .left
   lowered-some z = omega (arith, ap (λ (v : Unit). v .left) unit-here, working-left s i (served-working s i (is-seated z)))
 
-  pub lowered-one : (at seat i ≡ 0 → ⊥) → set units i (record { released = getD units i noUnit .released; at = getD units i noUnit .at; left = getD units i noUnit .left - 1 }) ≡ written (i + 1) (unitAfter s) (s .unit)
+  pub lowered-one : (at seat i ≡ 0 → ⊥) → set units i (lowered (getD units i noUnit)) ≡ written (i + 1) (unitAfter s) (s .unit)
   lowered-one z =
-      written-again i (unitAfter s) (s .unit) units (record { released = getD units i noUnit .released; at = getD units i noUnit .at; left = getD units i noUnit .left - 1 }) so-far (ap (λ (v : Unit). lower v) unit-here ∙ sym (after-served s i (is-seated z)))
-    where
-      lower : Unit → Unit
-      lower v = record { released = v .released; at = v .at; left = v .left - 1 }
+      let here = ap (λ (v : Unit). lowered v) unit-here ∙ sym (after-served s i (is-seated z)) in
+      written-again i (unitAfter s) (s .unit) units (lowered (getD units i noUnit)) so-far here
 
 -- and the clock: n of m places are done
-pub advanced-is : (s t : State) (n m : ℕ) → m ≡ kindPlaces s → t .plan ≡ s .plan → t .clock ≡ s .clock → t .unit ≡ written n (unitAfter s) (s .unit) → n ≤ m → m ≤ n →
+pub advanced-is : (s t : State) (n m : ℕ) → m ≡ kindPlaces s → t .plan ≡ s .plan → t .clock ≡ s .clock →
+    t .unit ≡ written n (unitAfter s) (s .unit) → n ≤ m → m ≤ n →
     record { plan = t .plan; clock = t .clock + 1; unit = t .unit } ≡ advanced s
 unfolding advanced
-advanced-is s t n m e p q u a b = λ k. record { plan = p k; clock = q k + 1; unit = written-stop n (kindPlaces s) (unitAfter s) (s .unit) (t .unit) u (omega arith) (omega arith) k }
+advanced-is s t n m e p q u a b =
+    let all = written-stop n (kindPlaces s) (unitAfter s) (s .unit) (t .unit) u (omega arith) (omega arith) in
+    λ k. record { plan = p k; clock = q k + 1; unit = all k }
 
 -- ---- it is in form
 
@@ -92,7 +98,8 @@ module _ (s : State) (may : Advanceable s) (places : length (s .unit) ≡ 16) wh
   unfolding advanced
   advance-places = written-length (kindPlaces s) (unitAfter s) (s .unit) ∙ places
 
-  in-form-after : (i : ℕ) → UnitInForm (s .clock) (kindAt s i .length) (unitOf s i) → UnitInForm (s .clock + 1) (kindAt s i .length) (unitAfter s i)
+  in-form-after : (i : ℕ) → UnitInForm (s .clock) (kindAt s i .length) (unitOf s i) →
+      UnitInForm (s .clock + 1) (kindAt s i .length) (unitAfter s i)
   unfolding unitAfter
   in-form-after i u = record {
     release-clock = omega (arith, u .release-clock);

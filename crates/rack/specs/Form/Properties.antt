@@ -41,7 +41,8 @@ pub used-says : (s : State) (i : ℕ) → used s i ≡ true → InUse s i
 used-says s i e = ltb-true i (kindPlaces s) e
 
 -- what the code found of a place: u is whether it is in use, and b whether its unit may stand there
-pub place-found : (s : State) (i : ℕ) (u b : Bool) → u ≡ used s i → b ≡ fitsPlace u (s .clock) (kindAt s i .length) (unitOf s i) → b ≡ placeInForm s i
+pub place-found : (s : State) (i : ℕ) (u b : Bool) → u ≡ used s i →
+    b ≡ fitsPlace u (s .clock) (kindAt s i .length) (unitOf s i) → b ≡ placeInForm s i
 place-found s i u b e q = q ∙ ap (λ (x : Bool). fitsPlace x (s .clock) (kindAt s i .length) (unitOf s i)) e
 
 -- ---- the whole state
@@ -60,7 +61,9 @@ form-says s e =
 -- and nothing more is asked
 pub form-of : (s : State) → InForm s → inForm s ≡ true
 unfolding inForm
-form-of s f = and-both (leb (s .clock) lastClock) (allTo 16 (placeInForm s)) (le-leb (s .clock) lastClock (f .clock-most)) (all-of 16 (placeInForm s) place)
+form-of s f =
+    let range = le-leb (s .clock) lastClock (f .clock-most) in
+    and-both (leb (s .clock) lastClock) (allTo 16 (placeInForm s)) range (all-of 16 (placeInForm s) place)
   where
     place : (i : ℕ) → i < 16 → placeInForm s i ≡ true
     place i l =

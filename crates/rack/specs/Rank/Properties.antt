@@ -18,8 +18,8 @@ use Rattle.layout.specs.Layout.Properties.{first-next, below-cards, held-from}
 use Rattle.rack.specs.declared.State.{State}
 use Rattle.rack.specs.State.{unitOf, kindAt, InUse, ProjectInUse}
 use Rattle.rack.specs.Form.{Ready}
-use Rattle.rack.specs.View.{cardsHeld, endCard, rankOf}
-use Rattle.rack.specs.View.Properties.{chosen-active, chosen-rank, not-chosen, rank-above}
+use Rattle.rack.specs.View.{cardsHeld, endCard, rankOf, chosen}
+use Rattle.rack.specs.View.Properties.{chosen-active, chosen-rank, not-chosen, chosen-first, rank-above}
 use Rattle.rack.specs.Rank.{due, working, active, outranks, viewOf, ownView, rank, served}
 
 -- the order sees only the two keys
@@ -112,15 +112,19 @@ module _ (s : State) where
   -- ---- earliest deadline first
 
   -- the lower rank of two kinds of a project outranks the other
-  pub outranks-of-rank : (i k : ℕ) → InUse s k → kindAt s i .project ≡ kindAt s k .project → working s k ≡ true → rank s i < rank s k → outranks s i k ≡ true
+  pub outranks-of-rank : (i k : ℕ) → InUse s k → kindAt s i .project ≡ kindAt s k .project → working s k ≡ true →
+      rank s i < rank s k → outranks s i k ≡ true
   unfolding rank viewOf
   outranks-of-rank i k l e w h =
-      rank-above (ownView s i) ranked i k l (active-of (kindAt s i .project) k (sym e) w) (omega (arith, h, ap (λ (j : ℕ). rankOf (viewOf s j) k) e))
+      let same = ap (λ (j : ℕ). rankOf (viewOf s j) k) e in
+      rank-above (ownView s i) ranked i k l (active-of (kindAt s i .project) k (sym e) w) (omega (arith, h, same))
 
   -- one that is served outranks every one of its project that has slices left and is not
-  pub served-first : (i k : ℕ) → InUse s k → kindAt s i .project ≡ kindAt s k .project → served s i ≡ true → working s k ≡ true → served s k ≡ false → outranks s i k ≡ true
+  pub served-first : (i k : ℕ) → InUse s k → kindAt s i .project ≡ kindAt s k .project → served s i ≡ true →
+      working s k ≡ true → served s k ≡ false → outranks s i k ≡ true
+  unfolding served viewOf
   served-first i k l e p w u =
-      outranks-of-rank i k l e w (omega (arith, served-rank i p, unserved-rank k w u, ap (λ (j : ℕ). cardsHeld (viewOf s j)) e))
+      chosen-first (ownView s i) ranked i k l p (active-of (kindAt s i .project) k (sym e) w) (ap (λ (j : ℕ). chosen (viewOf s j) k) e ∙ u)
 
 -- ---- of a state that is not refused
 
@@ -133,7 +137,9 @@ module _ (s : State) (r : Ready s) (j : ℕ) where
   -- "Let h(s) be the cards a project holds at slice s, taken modulo F"
   pub view-held : ProjectInUse s j → cardsHeld (viewOf s j) ≡ held (s .plan) j (s .clock)
   unfolding cardsHeld viewOf heldFrom
-  view-held l = ap (λ (x : ℕ). countTo (budgetOf (s .plan) j) (λ y. eqb ((firstCell (s .plan) j + y) % s .plan .frame) x)) (mod-mod (s .clock) (s .plan .frame)) ∙ sym (held-from (s .plan) (r .order) j l (s .clock))
+  view-held l =
+      let cells : ℕ → ℕ = λ x. countTo (budgetOf (s .plan) j) (λ y. eqb ((firstCell (s .plan) j + y) % s .plan .frame) x) in
+      ap cells (mod-mod (s .clock) (s .plan .frame)) ∙ sym (held-from (s .plan) (r .order) j l (s .clock))
 
   -- its cards are cards of the rack
   pub end-most : ProjectInUse s j → endCard (viewOf s j) ≤ s .plan .cards

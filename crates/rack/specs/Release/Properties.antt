@@ -25,7 +25,7 @@ use Rattle.rack.specs.Form.{ready, Ready}
 use Rattle.unit.specs.Form.{UnitInForm}
 use Rattle.rack.specs.Form.Properties.{ready-says, ready-of, used-of, used-says, place-most}
 use Rattle.rack.specs.Rank.{gone}
-use Rattle.rack.specs.Release.{Releasable, releaseAnswer, released, releaseOf}
+use Rattle.rack.specs.Release.{Releasable, releaseAnswer, startedUnit, released, releaseOf}
 
 -- ---- the whole answer
 
@@ -68,21 +68,22 @@ release-refused s i e w h = refused-keeps (releaseAnswer s i e) w (released s i 
 -- ---- the state that it leaves is in form
 
 module _ (s : State) (i e : ℕ) (r : Releasable s i e) (places : length (s .unit) ≡ 16) where
-  pub release-unit : unitOf (released s i e) i ≡ record { released = true; at = s .clock; left = e }
+  pub release-unit : unitOf (released s i e) i ≡ startedUnit s e
   unfolding released
-  release-unit = getD-set-same (s .unit) i (record { released = true; at = s .clock; left = e }) noUnit (omega (arith, places, place-most s i (r .ready) (r .its-kind)))
+  release-unit = getD-set-same (s .unit) i (startedUnit s e) noUnit (omega (arith, places, place-most s i (r .ready) (r .its-kind)))
 
   pub release-others : (k : ℕ) → k ≢ i → unitOf (released s i e) k ≡ unitOf s k
   unfolding released
-  release-others k z = getD-set-other (s .unit) i k (record { released = true; at = s .clock; left = e }) noUnit z
+  release-others k z = getD-set-other (s .unit) i k (startedUnit s e) noUnit z
 
   pub release-places : length (released s i e .unit) ≡ 16
   unfolding released
-  release-places = length-set (s .unit) i (record { released = true; at = s .clock; left = e }) ∙ places
+  release-places = length-set (s .unit) i (startedUnit s e) ∙ places
 
-  form-at : (k : ℕ) → UnitInForm (s .clock) (kindAt s k .length) (unitOf s k) → Dec (k ≡ i) → UnitInForm (s .clock) (kindAt s k .length) (unitOf (released s i e) k)
+  form-at : (k : ℕ) → UnitInForm (s .clock) (kindAt s k .length) (unitOf s k) → Dec (k ≡ i) →
+      UnitInForm (s .clock) (kindAt s k .length) (unitOf (released s i e) k)
   form-at k u (yes z) =
-      let v : unitOf (released s i e) k ≡ record { released = true; at = s .clock; left = e } = ap (λ (x : ℕ). unitOf (released s i e) x) z ∙ release-unit in
+      let v : unitOf (released s i e) k ≡ startedUnit s e = ap (λ (x : ℕ). unitOf (released s i e) x) z ∙ release-unit in
       let c : kindAt s k .length ≡ kindAt s i .length = ap (λ (x : ℕ). kindAt s x .length) z in
       rw v (record {
         release-clock = omega arith;

@@ -1,4 +1,5 @@
--- Laws of the row: every served kind has one card, every card one kind at most, of the project that holds it, the first by deadline on the lowest card.
+-- Laws of the row: every served kind has one card, every card one kind at most, of the project that holds it, the first by deadline on
+-- the lowest card.
 -- Assumes nothing.
 use mathlib.Core.Path.{_≡_, refl, sym, ap, _∙_}
 use mathlib.Core.Bool.{Bool, true, false, not, _&&_, true≢false, false≢true}
@@ -17,16 +18,17 @@ use Rattle.laws.specs.First.{firstTo}
 use Rattle.laws.specs.First.Properties.{first-le, first-holds, first-zero}
 use Rattle.laws.specs.Written.{written}
 use Rattle.laws.specs.Written.Properties.{written-at, written-kept, written-length, stored-at}
-use Rattle.plan.specs.Order.{projectOf}
 use Rattle.layout.specs.Layout.{cellAt, owns, slotOf, held}
-use Rattle.layout.specs.Layout.Properties.{slot-owned, held-ceiling}
+use Rattle.layout.specs.Layout.Properties.{slot-owned}
 use Rattle.rack.specs.declared.State.{State}
 use Rattle.rack.specs.State.{kindAt, kindPlaces, InUse, ProjectInUse}
 use Rattle.rack.specs.Form.{Ready}
 use Rattle.rack.specs.View.{hasCard, cardsHeld, lowestCard, endCard, activeIn, takesCard, byteOn}
-use Rattle.rack.specs.View.Properties.{takes-active, takes-has, byte-takes, byte-below, byte-is, has-of, has-from, has-to, lowest-held, takes-card, card-takes, takes-chosen, used-first, first-used}
+use Rattle.rack.specs.View.Properties.{takes-active, takes-has, takes-card, card-takes, takes-chosen, byte-takes, byte-below, byte-is}
+use Rattle.rack.specs.View.Properties.{has-of, has-from, has-to, lowest-held, used-first, first-used}
 use Rattle.rack.specs.Rank.{working, activeKinds, outranks, viewOf, ownView, rank, served}
-use Rattle.rack.specs.Rank.Properties.{active-project, active-working, ranked, served-first, outranks-of-rank, in-frame, view-held, end-most}
+use Rattle.rack.specs.Rank.Properties.{active-project, active-working, ranked, served-first, outranks-of-rank}
+use Rattle.rack.specs.Rank.Properties.{in-frame, view-held, end-most}
 use Rattle.rack.specs.Row.{holds, takes, byteBy, rowByte, rowOf, rowOver, ofProject, cardsTaken}
 
 -- ---- who takes a card
@@ -107,12 +109,18 @@ module _ (s : State) where
     -- its bytes stored card by card
     pub over-written : s .plan .cards ≤ length bytes → written (s .plan .cards) (rowByte s) bytes ≡ rowOver s bytes
     unfolding rowOver
-    over-written l = ext-getD 0 (written (s .plan .cards) (rowByte s) bytes) (rowOver s bytes) same-length at
+    over-written l = ext-getD 0 stored (rowOver s bytes) same-length at
       where
-        same-length : length (written (s .plan .cards) (rowByte s) bytes) ≡ length (rowOver s bytes)
-        same-length = omega (arith, written-length (s .plan .cards) (rowByte s) bytes, length-append (rowOf s) (drop (s .plan .cards) bytes), row-size, length-drop (s .plan .cards) bytes)
+        stored : List ℕ
+        stored = written (s .plan .cards) (rowByte s) bytes
 
-        at : (i : ℕ) → i < length (written (s .plan .cards) (rowByte s) bytes) → getD (written (s .plan .cards) (rowByte s) bytes) i 0 ≡ getD (rowOver s bytes) i 0
+        same-length : length stored ≡ length (rowOver s bytes)
+        same-length =
+            let all = written-length (s .plan .cards) (rowByte s) bytes in
+            let rest = length-drop (s .plan .cards) bytes in
+            omega (arith, all, length-append (rowOf s) (drop (s .plan .cards) bytes), row-size, rest)
+
+        at : (i : ℕ) → i < length stored → getD stored i 0 ≡ getD (rowOver s bytes) i 0
         at i q =
             elim (decLt i (s .plan .cards)) [
               | yes t ↦ written-at (s .plan .cards) (rowByte s) bytes 0 i t l ∙ sym (over-at i t)
@@ -155,7 +163,9 @@ module _ (s : State) (r : Ready s) where
 
       nobody : firstTo (kindPlaces s) f ≡ 0 → (n : ℕ) → rowByte s card ≡ n → rowByte s card ≡ 0
       nobody e zero q = q
-      nobody e (suc i) q = absurd (true≢false (sym (row-takes s card i q) ∙ first-zero (kindPlaces s) f (sym e) (suc i) (omega arith) (row-below s card i q)))
+      nobody e (suc i) q =
+          let none = first-zero (kindPlaces s) f (sym e) (suc i) (omega arith) (row-below s card i q) in
+          absurd (true≢false (sym (row-takes s card i q) ∙ none))
 
       go : (n : ℕ) → firstTo (kindPlaces s) f ≡ n → rowByte s card ≡ n
       go zero e = nobody e (rowByte s card) refl
@@ -181,7 +191,8 @@ module _ (s : State) (r : Ready s) where
   -- and the card is one of the rack's
   pub takes-below : (i card : ℕ) → InUse s i → takes s i card ≡ true → card < s .plan .cards
   takes-below i card l e =
-      omega (arith, has-to (ownView s i) (in-frame s r (of i)) card (takes-has (ownView s i) i card e), end-most s r (of i) (its-project i l))
+      let below = has-to (ownView s i) (in-frame s r (of i)) card (takes-has (ownView s i) i card e) in
+      omega (arith, below, end-most s r (of i) (its-project i l))
 
   -- a served kind stands in the row
   pub served-stands : (i : ℕ) → InUse s i → served s i ≡ true → (card : ℕ) × (card < s .plan .cards) × (rowByte s card ≡ suc i)
@@ -204,7 +215,8 @@ module _ (s : State) (r : Ready s) where
   -- ---- earliest deadline first
 
   -- who stands in the row outranks every kind of the project that has slices left and does not
-  pub stands-first : (card i k : ℕ) → rowByte s card ≡ suc i → InUse s k → of i ≡ of k → working s k ≡ true → ((d : ℕ) → d < s .plan .cards → rowByte s d ≡ suc k → ⊥) → outranks s i k ≡ true
+  pub stands-first : (card i k : ℕ) → rowByte s card ≡ suc i → InUse s k → of i ≡ of k → working s k ≡ true →
+      ((d : ℕ) → d < s .plan .cards → rowByte s d ≡ suc k → ⊥) → outranks s i k ≡ true
   stands-first card i k e l q w no-card = go (served s k) refl
     where
       go : (b : Bool) → served s k ≡ b → outranks s i k ≡ true
@@ -214,7 +226,10 @@ module _ (s : State) (r : Ready s) where
   -- "in ascending card order"
   pub stands-ascending : (c d i k : ℕ) → rowByte s c ≡ suc i → rowByte s d ≡ suc k → of i ≡ of k → c < d → outranks s i k ≡ true
   stands-ascending c d i k p q e l =
-      outranks-of-rank s i k (row-below s d k q) e (takes-working s k d (row-takes s d k q)) (omega (arith, row-card i c (row-takes s c i p), row-card k d (row-takes s d k q), ap (λ (j : ℕ). lowestCard (viewOf s j)) e))
+      let lower = row-card i c (row-takes s c i p) in
+      let higher = row-card k d (row-takes s d k q) in
+      let same = ap (λ (j : ℕ). lowestCard (viewOf s j)) e in
+      outranks-of-rank s i k (row-below s d k q) e (takes-working s k d (row-takes s d k q)) (omega (arith, lower, higher, same))
 
   -- ---- how many cards a project has
 
@@ -255,7 +270,8 @@ module _ (s : State) (r : Ready s) where
     own-used : (card i : ℕ) → rowByte s card ≡ suc i → of i ≡ j → (low ≤ card) × (card < low + most)
     unfolding viewOf
     own-used card i q e =
-        let h : hasCard (viewOf s j) card ≡ true = ap (λ (x : ℕ). hasCard (viewOf s x) card) (sym e) ∙ takes-has (ownView s i) i card (row-takes s card i q) in
+        let has = takes-has (ownView s i) i card (row-takes s card i q) in
+        let h : hasCard (viewOf s j) card ≡ true = ap (λ (x : ℕ). hasCard (viewOf s x) card) (sym e) ∙ has in
         used-first (viewOf s j) (in-frame s r j) (ranked s) card (omega (arith, row-own s j card l h))
 
     taken-between : (card : ℕ) → ofProject s j (rowByte s card) ≡ (leb low card && ltb card (low + most))
@@ -267,7 +283,8 @@ module _ (s : State) (r : Ready s) where
 
         inside : low ≤ card → card < low + most → ofProject s j (rowByte s card) ≡ true
         inside a b =
-            used-own card (rowByte s card) (has-of (viewOf s j) (in-frame s r j) card a (omega (arith, lowest-held (viewOf s j) (in-frame s r j)))) refl (used-here card a b)
+            let has = has-of (viewOf s j) (in-frame s r j) card a (omega (arith, lowest-held (viewOf s j) (in-frame s r j))) in
+            used-own card (rowByte s card) has refl (used-here card a b)
 
         go : (b : Bool) → ofProject s j (rowByte s card) ≡ b → ofProject s j (rowByte s card) ≡ (leb low card && ltb card (low + most))
         go true e = e ∙ sym (named (rowByte s card) refl (project-says (rowByte s card) e))
@@ -281,18 +298,21 @@ module _ (s : State) (r : Ready s) where
             ]
 
   -- every card of a project with enough work is used
-  pub cards-used : (j card : ℕ) → ProjectInUse s j → holds (s .plan) j (s .clock) card ≡ true → held (s .plan) j (s .clock) ≤ activeKinds s j → 0 < rowByte s card
+  pub cards-used : (j card : ℕ) → ProjectInUse s j → holds (s .plan) j (s .clock) card ≡ true →
+      held (s .plan) j (s .clock) ≤ activeKinds s j → 0 < rowByte s card
   cards-used j card l h q =
       let v = viewOf s j in
       let has : hasCard v card ≡ true = sym (holds-has s j card) ∙ h in
-      used-here j l card (has-from v (in-frame s r j) card has) (omega (arith, has-to v (in-frame s r j) card has, lowest-held v (in-frame s r j), most-is j l, view-held s r j l))
+      let below = has-to v (in-frame s r j) card has in
+      let all = lowest-held v (in-frame s r j) in
+      used-here j l card (has-from v (in-frame s r j) card has) (omega (arith, below, all, most-is j l, view-held s r j l))
 
   -- a project has as many cards of the row as it holds, or as it has kinds with slices left
   pub taken-cards : (j : ℕ) → ProjectInUse s j → cardsTaken s j ≡ min (held (s .plan) j (s .clock)) (activeKinds s j)
   unfolding cardsTaken
   taken-cards j l =
-      omega (arith, count-cong (s .plan .cards) (λ card. ofProject s j (rowByte s card)) (λ card. leb (low j l) card && ltb card (low j l + most j l)) (λ card q. taken-between j l card), count-between (s .plan .cards) (low j l) (low j l + most j l) (omega arith), lowest-held (viewOf s j) (in-frame s r j), end-most s r j l, most-is j l)
-
-  -- "never more than q"
-  pub taken-ceiling : (j : ℕ) → ProjectInUse s j → cardsTaken s j ≤ projectOf (s .plan) j .ceiling
-  taken-ceiling j l = omega (arith, taken-cards j l, held-ceiling (s .plan) (r .order) j l (s .clock))
+      let mine : ℕ → Bool = λ card. ofProject s j (rowByte s card) in
+      let first : ℕ → Bool = λ card. leb (low j l) card && ltb card (low j l + most j l) in
+      let same = count-cong (s .plan .cards) mine first (λ card q. taken-between j l card) in
+      let count = count-between (s .plan .cards) (low j l) (low j l + most j l) (omega arith) in
+      omega (arith, same, count, lowest-held (viewOf s j) (in-frame s r j), end-most s r j l, most-is j l)

@@ -30,15 +30,19 @@ unfolding sliceAnswer roomFor timeLeft
 slice-says s room h =
     let r = ready-says s (andThen-left (ready s) (roomFor s room andThen timeLeft s) h) in
     let t = andThen-right (ready s) (roomFor s room andThen timeLeft s) h in
-    let z = eqb-false (s .clock) lastClock (refuse-good (eqb (s .clock) lastClock) (Bare 11) (andThen-right (roomFor s room) (timeLeft s) t)) in
+    let nine = refuse-good (ltb room (s .plan .cards)) (Bare 9) (andThen-left (roomFor s room) (timeLeft s) t) in
+    let eleven = refuse-good (eqb (s .clock) lastClock) (Bare 11) (andThen-right (roomFor s room) (timeLeft s) t) in
+    let z = eqb-false (s .clock) lastClock eleven in
     record {
       advance = record { ready = r; time = omega (arith, r .form .clock-most) };
-      enough = ltb-false room (s .plan .cards) (refuse-good (ltb room (s .plan .cards)) (Bare 9) (andThen-left (roomFor s room) (timeLeft s) t));
+      enough = ltb-false room (s .plan .cards) nine;
     }
 
 pub slice-of : (s : State) (room : ℕ) → Sliceable s room → sliceAnswer s room ≡ Good
 unfolding sliceAnswer roomFor timeLeft
-slice-of s room r = rw (ready-of s (r .advance .ready), le-ltb room (s .plan .cards) (r .enough), ne-eqb (s .clock) lastClock (λ e. omega (arith, r .advance .time)))
+slice-of s room r =
+    let earlier = ne-eqb (s .clock) lastClock (λ e. omega (arith, r .advance .time)) in
+    rw (ready-of s (r .advance .ready), le-ltb room (s .plan .cards) (r .enough), earlier)
 
 -- ---- what the tests answered, opened
 
@@ -57,18 +61,22 @@ module _ (s : State) (room : ℕ) (r : Answer) (good : r ≡ Good) (is : r ≡ s
 
 -- ---- the lent row
 
-pub buffer-kept : (s : State) (bytes : List ℕ) (r : Answer) (w : Refusal) → r ≡ No w → r ≡ sliceAnswer s (length bytes) → bytes ≡ bufferAfter s bytes
+pub buffer-kept : (s : State) (bytes : List ℕ) (r : Answer) (w : Refusal) → r ≡ No w → r ≡ sliceAnswer s (length bytes) →
+    bytes ≡ bufferAfter s bytes
 unfolding bufferAfter
 buffer-kept s bytes r w e q = rw (← q, e)
 
-pub buffer-row : (s : State) (bytes after : List ℕ) (r : Answer) → r ≡ Good → r ≡ sliceAnswer s (length bytes) → after ≡ rowOver s bytes → after ≡ bufferAfter s bytes
+pub buffer-row : (s : State) (bytes after : List ℕ) (r : Answer) → r ≡ Good → r ≡ sliceAnswer s (length bytes) →
+    after ≡ rowOver s bytes → after ≡ bufferAfter s bytes
 unfolding bufferAfter
 buffer-row s bytes after r e q h = rw (← q, e) h
 
 -- ---- a refusal changes nothing
 
-pub slice-refused : (s : State) (bytes after : List ℕ) (next : Next) (w : Refusal) → Sliced s bytes next after → next .answer ≡ No w → (next .state ≡ s) × (after ≡ bytes)
+pub slice-refused : (s : State) (bytes after : List ℕ) (next : Next) (w : Refusal) → Sliced s bytes next after → next .answer ≡ No w →
+    (next .state ≡ s) × (after ≡ bytes)
 unfolding sliceOf
 slice-refused s bytes after next w r e =
     let a : sliceAnswer s (length bytes) ≡ No w = sym (ap (λ (n : Next). n .answer) (r .result)) ∙ e in
-    (ap (λ (n : Next). n .state) (r .result) ∙ refused-keeps (sliceAnswer s (length bytes)) w (advanced s) s a, r .buffer ∙ sym (buffer-kept s bytes (No w) w refl (sym a)))
+    let kept = refused-keeps (sliceAnswer s (length bytes)) w (advanced s) s a in
+    (ap (λ (n : Next). n .state) (r .result) ∙ kept, r .buffer ∙ sym (buffer-kept s bytes (No w) w refl (sym a)))

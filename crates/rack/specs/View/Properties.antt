@@ -1,4 +1,5 @@
--- Laws of a project's view: one kind to a card and one card to a kind, the first by rank on the lowest; and that views which say the same decide the same.
+-- Laws of a project's view: one kind to a card and one card to a kind, the first by rank on the lowest; and that views which say the
+-- same decide the same.
 -- Assumes nothing.
 use mathlib.Core.Path.{_≡_, refl, sym, ap, _∙_}
 use mathlib.Core.Bool.{Bool, true, false, not, _&&_, false≢true}
@@ -11,9 +12,10 @@ use borrow.Author.Tests.{eq-eqb, ne-eqb, eqb-true}
 use Rattle.laws.specs.Tests.{and-left, and-right}
 use Rattle.laws.specs.Count.{countTo}
 use Rattle.laws.specs.Count.Properties.{count-cong, between-yes, between-low, between-high, count-between}
-use Rattle.laws.specs.First.Properties.{first-le, first-holds, first-zero, first-some, first-cong}
+use Rattle.laws.specs.First.Properties.{first-le, first-holds, first-some, first-cong}
 use Rattle.laws.specs.Ranking.{Order, firstIn}
-use Rattle.laws.specs.Ranking.Properties.{rank-cong, first-of, first-member, first-rank, not-first, rank-distinct, rank-at, rank-lt-members, above-of-rank, first-count, first-above}
+use Rattle.laws.specs.Ranking.Properties.{first-of, first-member, first-rank, not-first, first-count, first-above}
+use Rattle.laws.specs.Ranking.Properties.{rank-cong, rank-distinct, rank-at, rank-lt-members, above-of-rank}
 use Rattle.layout.specs.Layout.{cellAt}
 use Rattle.layout.specs.Cards.Properties.{run-card, run-closed, below-grows}
 use Rattle.rack.specs.View.{View, Same, hasCard, cardsHeld, lowestCard, endCard, activeIn, rankOf, chosen, takesCard, byteOn}
@@ -42,20 +44,23 @@ module _ (v : View) where
   abbrev lower : ℕ → ℕ
   lower card = countTo card (hasCard v)
 
+  -- the card is the project's, and the kind's by its rank
+  abbrev by-rank : ℕ → ℕ → Bool
+  by-rank i card = hasCard v card && eqb (rankOf v i) (lower card)
+
   pub takes-active : (i card : ℕ) → takesCard v i card ≡ true → v .active i ≡ true
   unfolding takesCard
-  takes-active i card e = and-left (v .active i) (hasCard v card && eqb (rankOf v i) (lower card)) e
+  takes-active i card e = and-left (v .active i) (by-rank i card) e
 
   pub takes-has : (i card : ℕ) → takesCard v i card ≡ true → hasCard v card ≡ true
   unfolding takesCard
-  takes-has i card e =
-      and-left (hasCard v card) (eqb (rankOf v i) (lower card)) (and-right (v .active i) (hasCard v card && eqb (rankOf v i) (lower card)) e)
+  takes-has i card e = and-left (hasCard v card) (eqb (rankOf v i) (lower card)) (and-right (v .active i) (by-rank i card) e)
 
   takes-rank : (i card : ℕ) → takesCard v i card ≡ true → rankOf v i ≡ lower card
   unfolding takesCard
   takes-rank i card e =
-      eqb-true (rankOf v i) (lower card)
-      (and-right (hasCard v card) (eqb (rankOf v i) (lower card)) (and-right (v .active i) (hasCard v card && eqb (rankOf v i) (lower card)) e))
+      let same = and-right (hasCard v card) (eqb (rankOf v i) (lower card)) (and-right (v .active i) (by-rank i card) e) in
+      eqb-true (rankOf v i) (lower card) same
 
   takes-of : (i card : ℕ) → v .active i ≡ true → hasCard v card ≡ true → rankOf v i ≡ lower card → takesCard v i card ≡ true
   unfolding takesCard
@@ -73,10 +78,6 @@ module _ (v : View) where
   unfolding byteOn
   byte-below card i e = omega (arith, first-le (v .places) (λ number. takesCard v (pred number) card))
 
-  pub byte-nobody : (card i : ℕ) → byteOn v card ≡ 0 → i < v .places → takesCard v i card ≡ false
-  unfolding byteOn
-  byte-nobody card i e l = first-zero (v .places) (λ number. takesCard v (pred number) card) (sym e) (suc i) (omega arith) l
-
   byte-some : (card i : ℕ) → i < v .places → takesCard v i card ≡ true → 0 < byteOn v card
   unfolding byteOn
   byte-some card i l e = first-some (v .places) (λ number. takesCard v (pred number) card) (suc i) (omega arith) l e
@@ -85,7 +86,8 @@ module _ (v : View) where
 
   module _ (order : Order (v .above)) where
     -- no two kinds share a rank
-    pub ranks-distinct : (i k : ℕ) → i < v .places → k < v .places → v .active i ≡ true → v .active k ≡ true → rankOf v i ≡ rankOf v k → i ≡ k
+    pub ranks-distinct : (i k : ℕ) → i < v .places → k < v .places → v .active i ≡ true → v .active k ≡ true →
+        rankOf v i ≡ rankOf v k → i ≡ k
     unfolding rankOf
     ranks-distinct i k l m a b e = rank-distinct (v .places) (v .active) (v .above) order i k l m a b e
 
@@ -113,7 +115,8 @@ module _ (v : View) where
     chosen-count = first-count (v .places) (v .active) (v .above) order (cardsHeld v)
 
     -- one that is not has them all before it
-    pub chosen-above : (i : ℕ) → i < v .places → v .active i ≡ true → cardsHeld v ≤ rankOf v i → countTo (v .places) (λ k. chosen v k && v .above k i) ≡ cardsHeld v
+    pub chosen-above : (i : ℕ) → i < v .places → v .active i ≡ true → cardsHeld v ≤ rankOf v i →
+        countTo (v .places) (λ k. chosen v k && v .above k i) ≡ cardsHeld v
     unfolding chosen rankOf
     chosen-above i l a h = first-above (v .places) (v .active) (v .above) order (cardsHeld v) i l a h
 
@@ -147,17 +150,26 @@ module _ (v : View) where
     has-of card a b = has-between card ∙ between-yes (lowestCard v) (endCard v) card a b
 
     pub has-from : (card : ℕ) → hasCard v card ≡ true → lowestCard v ≤ card
-    has-from card e = elim (decLt card (lowestCard v)) [ yes q ↦ absurd (false≢true (sym (between-low (lowestCard v) (endCard v) card q) ∙ sym (has-between card) ∙ e)) | no q ↦ omega arith ]
+    has-from card e =
+        elim (decLt card (lowestCard v)) [
+          | yes q ↦ absurd (false≢true (sym (between-low (lowestCard v) (endCard v) card q) ∙ sym (has-between card) ∙ e))
+          | no q ↦ omega arith
+        ]
 
     pub has-to : (card : ℕ) → hasCard v card ≡ true → card < endCard v
-    has-to card e = elim (decLt card (endCard v)) [ yes q ↦ q | no q ↦ absurd (false≢true (sym (between-high (lowestCard v) (endCard v) card (omega arith)) ∙ sym (has-between card) ∙ e)) ]
+    has-to card e =
+        elim (decLt card (endCard v)) [
+          | yes q ↦ q
+          | no q ↦ absurd (false≢true (sym (between-high (lowestCard v) (endCard v) card (omega arith)) ∙ sym (has-between card) ∙ e))
+        ]
 
     -- the lower ones of a card that it holds are those from its lowest on
     pub cards-before : (card : ℕ) → hasCard v card ≡ true → lowestCard v + countTo card (hasCard v) ≡ card
     cards-before card e =
         let from = has-from card e in
         let to = has-to card e in
-        omega (arith, count-cong card (hasCard v) (λ c. leb (lowestCard v) c && ltb c (endCard v)) (λ c l. has-between c), count-between card (lowestCard v) (endCard v) (omega arith))
+        let same = count-cong card (hasCard v) (λ c. leb (lowestCard v) c && ltb c (endCard v)) (λ c l. has-between c) in
+        omega (arith, same, count-between card (lowestCard v) (endCard v) (omega arith))
 
     -- they are `cardsHeld` in number
     pub lowest-held : lowestCard v + cardsHeld v ≡ endCard v
@@ -210,17 +222,18 @@ module _ (v w : View) (same : Same v w) where
   unfolding cardsHeld
   same-held = rw (same .first, same .budget, same .frame, same .slice)
 
-  pub same-rank : (i : ℕ) → v .active i ≡ true → rankOf v i ≡ rankOf w i
+  pub same-rank : (i : ℕ) → i < v .places → v .active i ≡ true → rankOf v i ≡ rankOf w i
   unfolding rankOf
-  same-rank i a =
-      rank-cong (v .places) (v .active) (w .active) (v .above) (w .above) i (same .active) (λ k l b. same .above k i b a) ∙ rw (same .places)
+  same-rank i l a =
+      rank-cong (v .places) (v .active) (w .active) (v .above) (w .above) i (same .active) (λ k m b. same .above k i m l b a)
+      ∙ rw (same .places)
 
   pub same-takes : (i card : ℕ) → i < v .places → takesCard v i card ≡ takesCard w i card
   unfolding takesCard
   same-takes i card l = go (v .active i) refl
     where
-      go : (b : Bool) → v .active i ≡ b → (v .active i && (hasCard v card && eqb (rankOf v i) (countTo card (hasCard v)))) ≡ (w .active i && (hasCard w card && eqb (rankOf w i) (countTo card (hasCard w))))
-      go true e = rw (same .active i l, same-has card, same-rank i e, count-cong card (hasCard v) (hasCard w) (λ c q. same-has c))
+      go : (b : Bool) → v .active i ≡ b → (v .active i && by-rank v i card) ≡ (w .active i && by-rank w i card)
+      go true e = rw (same .active i l, same-has card, same-rank i l e, count-cong card (hasCard v) (hasCard w) (λ c q. same-has c))
       go false e = rw (← same .active i l, e)
 
   pub same-byte : (card : ℕ) → byteOn v card ≡ byteOn w card
@@ -237,5 +250,5 @@ module _ (v w : View) (same : Same v w) where
   same-chosen i l = go (v .active i) refl
     where
       go : (b : Bool) → v .active i ≡ b → (v .active i && ltb (rankOf v i) (cardsHeld v)) ≡ (w .active i && ltb (rankOf w i) (cardsHeld w))
-      go true e = rw (same .active i l, same-rank i e, same-held)
+      go true e = rw (same .active i l, same-rank i l e, same-held)
       go false e = rw (← same .active i l, e)

@@ -20,8 +20,8 @@ returns c = search no-seat
 returns-2 : tie.Need-returns-2
 returns-2 c = search no-project
 
-sub-wide : tie.Need-sub-wide
-sub-wide c = search needs
+sub-project : tie.Need-sub-project
+sub-project c = search needs
 
 element-copy-out-wide-2 : tie.Need-element-copy-out-wide-2
 element-copy-out-wide-2 c = search needs
@@ -37,9 +37,6 @@ wide-requires-3 c κs = search needs
 
 add-card : tie.Need-add-card
 add-card c = search needs
-
-sub-seat-at : tie.Need-sub-seat-at
-sub-seat-at c = search needs
 
 element-copy-out-seat-at : tie.Need-element-copy-out-seat-at
 element-copy-out-seat-at c = search needs
@@ -59,13 +56,12 @@ seat-spec =
     cast-number
     returns
     returns-2
-    sub-wide
+    sub-project
     element-copy-out-wide-2
     wide-requires-2
     rank-requires
     wide-requires-3
     add-card
-    sub-seat-at
     element-copy-out-seat-at
     seat-at-requires
     returns-3)

@@ -38,17 +38,20 @@ start-says k v ago e h =
     let thirteen = refuse (not (within (k .length) e)) (Bare 13) in
     let fourteen = refuse (early (k .separation) v ago) (Bare 14) in
     let fifteen = refuse (not (eqb (v .left) 0)) (Bare 15) in
-    let t = not-false (within (k .length) e) (refuse-good (not (within (k .length) e)) (Bare 13) (andThen-left thirteen (fourteen andThen fifteen) h)) in
+    let first = refuse-good (not (within (k .length) e)) (Bare 13) (andThen-left thirteen (fourteen andThen fifteen) h) in
+    let t = not-false (within (k .length) e) first in
     let r = andThen-right thirteen (fourteen andThen fifteen) h in
+    let last = refuse-good (not (eqb (v .left) 0)) (Bare 15) (andThen-right fourteen fifteen r) in
     record {
       some = within-low (k .length) e t;
       length-most = within-high (k .length) e t;
       separated = early-says (k .separation) v ago (refuse-good (early (k .separation) v ago) (Bare 14) (andThen-left fourteen fifteen r));
-      nothing-left = eqb-true (v .left) 0 (not-false (eqb (v .left) 0) (refuse-good (not (eqb (v .left) 0)) (Bare 15) (andThen-right fourteen fifteen r)));
+      nothing-left = eqb-true (v .left) 0 (not-false (eqb (v .left) 0) last);
     }
 
 -- and nothing more is asked
 pub start-of : (k : Kind) (v : Unit) (ago e : ℕ) → Startable k v ago e → startable k v ago e ≡ Good
 unfolding startable
 start-of k v ago e h =
-    rw (within-of (k .length) e (h .some) (h .length-most), early-of (k .separation) v ago (h .separated), eq-eqb (v .left) 0 (h .nothing-left))
+    let some = within-of (k .length) e (h .some) (h .length-most) in
+    rw (some, early-of (k .separation) v ago (h .separated), eq-eqb (v .left) 0 (h .nothing-left))

@@ -13,7 +13,9 @@ use Rattle.rack.proofs.State.advanced.Statement.{statement}
 use Rattle.rack.proofs.State.advanced.Tie as tie
 
 abbrev Inv-loop : tie.InvT-loop
-Inv-loop seat self₀ kinds i₀ self i = (i ≤ kinds) × (kinds ≤ 16) × (self .plan ≡ self₀ .plan) × (self .clock ≡ self₀ .clock) × (self .unit ≡ written i (unitAfter self₀) (self₀ .unit))
+Inv-loop seat self₀ kinds i₀ self i =
+    (i ≤ kinds) × (kinds ≤ 16) × (self .plan ≡ self₀ .plan) × (self .clock ≡ self₀ .clock)
+    × (self .unit ≡ written i (unitAfter self₀) (self₀ .unit))
 
 abbrev μ-loop : tie.MeasureT-loop
 μ-loop seat self₀ kinds i₀ self i = kinds - i

@@ -16,7 +16,8 @@ use Rattle.rack.proofs.row.project_cards.Tie as tie
 
 abbrev Inv-loop : tie.InvT-loop
 Inv-loop clock plan slice low₀ end₀ cell₀ card₀ j₀ j-end low end cell card j =
-    (j ≤ j-end) × (j-end ≡ plan .projects) × (cell ≡ firstCell plan j) × (card ≡ lowestAt plan clock j) × (low ≡ written j (lowestAt plan clock) (replicate 8 0)) × (end ≡ written j (endAt plan clock) (replicate 8 0))
+    (j ≤ j-end) × (j-end ≡ plan .projects) × (cell ≡ firstCell plan j) × (card ≡ lowestAt plan clock j)
+    × (low ≡ written j (lowestAt plan clock) (replicate 8 0)) × (end ≡ written j (endAt plan clock) (replicate 8 0))
 
 abbrev μ-loop : tie.MeasureT-loop
 μ-loop clock plan slice low₀ end₀ cell₀ card₀ j₀ j-end low end cell card j = j-end - j
@@ -67,7 +68,7 @@ loop-again : tie.Need-loop-again Inv-loop μ-loop
 loop-again c = (omega arith, search, search cell-next, search card-next, search written-again, search (written-again, card-ends))
 
 returns : tie.Need-returns Inv-loop μ-loop
-returns c = (search written-stop, search written-stop)
+returns c = record { lowest = search written-stop; past = search written-stop }
 
 pub project-cards-spec : {M : Type 1} → statement M
 project-cards-spec =

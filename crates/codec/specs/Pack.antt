@@ -5,7 +5,7 @@ use mathlib.Core.List.{List, [], _∷_}
 pub mod Properties
 
 -- the bits that fields of these widths take
-unfoldable pub bits : List ℕ → ℕ
+abbrev pub bits : List ℕ → ℕ
 bits [] = 0
 bits (w ∷ ws) = w + bits ws
 

@@ -21,7 +21,7 @@ use Rattle.rack.specs.Release.{releaseAnswer, released}
 use Rattle.rack.specs.Advance.{advanced}
 use Rattle.rack.specs.Slice.{sliceAnswer}
 use Rattle.rack.specs.Row.{rowOver}
-use Rattle.images.specs.Image.{planFrom, planImage, stateFrom, stateImage, releasedTold}
+use Rattle.images.specs.Image.{planSize, stateSize, planFrom, planImage, stateFrom, stateImage, releasedTold}
 use Rattle.images.specs.Lent.{room}
 use Rattle.exports.specs.Outcome.{told, Outcome}
 pub mod Properties
@@ -30,19 +30,19 @@ pub mod Properties
 
 -- `parchbeetle_check`: 9 for the image, then the record order
 unfoldable pub checkAnswer : List ℕ → Answer
-checkAnswer plan = room plan 140 andThen checked (planFrom plan)
+checkAnswer plan = room plan planSize andThen checked (planFrom plan)
 
 -- `parchbeetle_read`: the order of reading, then 9 for the lent image
 unfoldable pub readsAnswer : List ℕ → List ℕ → Answer
-readsAnswer bytes plan = readOf bytes .answer andThen room plan 140
+readsAnswer bytes plan = readOf bytes .answer andThen room plan planSize
 
 -- the plan that was read as an image, and "how many bytes it took"
 abbrev pub Reads : List ℕ → List ℕ → ℕ → List ℕ → Type 0
-Reads bytes plan r after = Outcome (readsAnswer bytes plan) (readOf bytes .taken) (planImage (readOf bytes .plan) ++ drop 140 plan) plan r after
+Reads bytes plan r after = Outcome (readsAnswer bytes plan) (readOf bytes .taken) (planImage (readOf bytes .plan) ++ drop planSize plan) plan r after
 
 -- `parchbeetle_write`: 9 for the image, then as writing a plan answers
 unfoldable pub writesAnswer : List ℕ → List ℕ → Answer
-writesAnswer plan out = room plan 140 andThen writeAnswer (planFrom plan) out
+writesAnswer plan out = room plan planSize andThen writeAnswer (planFrom plan) out
 
 -- the plan's bytes, and their count
 abbrev pub WritesBytes : List ℕ → List ℕ → ℕ → List ℕ → Type 0
@@ -50,7 +50,7 @@ WritesBytes plan out r after = Outcome (writesAnswer plan out) (size (planFrom p
 
 -- `parchbeetle_slot_table`: 9 for the image, then as writing a slot table answers
 unfoldable pub slotsAnswer : List ℕ → List ℕ → Answer
-slotsAnswer plan out = room plan 140 andThen tableAnswer (planFrom plan) (length out)
+slotsAnswer plan out = room plan planSize andThen tableAnswer (planFrom plan) (length out)
 
 -- the slot table, and the count of its bytes
 abbrev pub WritesSlots : List ℕ → List ℕ → ℕ → List ℕ → Type 0
@@ -58,7 +58,7 @@ WritesSlots plan out r after = Outcome (slotsAnswer plan out) (tableLength (plan
 
 -- `parchbeetle_verdict`: 9 for the image, the record order, 8, then 9 for the lent k
 unfoldable pub verdictAnswer : List ℕ → List ℕ → Answer
-verdictAnswer plan k = room plan 140 andThen (judged (planFrom plan) .answer andThen room k 16)
+verdictAnswer plan k = room plan planSize andThen (judged (planFrom plan) .answer andThen room k 16)
 
 -- a verdict's k for kind i
 abbrev pub widthAt : List ℕ → ℕ → ℕ
@@ -72,15 +72,15 @@ Judges plan k r after = Outcome (verdictAnswer plan k) 0 (written 16 (widthAt (j
 
 -- `parchbeetle_fresh`: 9 for the plan's image, the record order, 8, then 9 for the lent image
 unfoldable pub freshAnswer : List ℕ → List ℕ → Answer
-freshAnswer plan state = room plan 140 andThen (startAnswer (planFrom plan) andThen room state 256)
+freshAnswer plan state = room plan planSize andThen (startAnswer (planFrom plan) andThen room state stateSize)
 
 -- the fresh state of the plan
 abbrev pub Starts : List ℕ → List ℕ → ℕ → List ℕ → Type 0
-Starts plan state r after = Outcome (freshAnswer plan state) 0 (stateImage (freshOf (planFrom plan)) ++ drop 256 state) state r after
+Starts plan state r after = Outcome (freshAnswer plan state) 0 (stateImage (freshOf (planFrom plan)) ++ drop stateSize state) state r after
 
 -- whether an image is a state's: 9, the record order, and 10 where a released byte is neither 0 nor 1
 unfoldable pub stateAnswer : List ℕ → Answer
-stateAnswer state = room state 256 andThen (checked (planFrom state) andThen refuse (not (releasedTold state)) (Bare 10))
+stateAnswer state = room state stateSize andThen (checked (planFrom state) andThen refuse (not (releasedTold state)) (Bare 10))
 
 -- `parchbeetle_release`: the image, then as a release answers
 unfoldable pub releasesAnswer : List ℕ → ℕ → ℕ → Answer
@@ -88,7 +88,7 @@ releasesAnswer state kind e = stateAnswer state andThen releaseAnswer (stateFrom
 
 -- the state after the release
 abbrev pub Releases : List ℕ → ℕ → ℕ → ℕ → List ℕ → Type 0
-Releases state kind e r after = Outcome (releasesAnswer state kind e) 0 (stateImage (released (stateFrom state) kind e) ++ drop 256 state) state r after
+Releases state kind e r after = Outcome (releasesAnswer state kind e) 0 (stateImage (released (stateFrom state) kind e) ++ drop stateSize state) state r after
 
 -- `parchbeetle_slice`: the image, then as a slice answers
 unfoldable pub slicesAnswer : List ℕ → List ℕ → Answer
@@ -97,5 +97,5 @@ slicesAnswer state row = stateAnswer state andThen sliceAnswer (stateFrom state)
 -- the state after the slice, and its row
 pub record Slices (state row : List ℕ) (r : ℕ) (after cards : List ℕ) : Type 0 where
   pub result : r ≡ told (slicesAnswer state row) 0
-  pub image : after ≡ ifGood (slicesAnswer state row) (stateImage (advanced (stateFrom state)) ++ drop 256 state) state
+  pub image : after ≡ ifGood (slicesAnswer state row) (stateImage (advanced (stateFrom state)) ++ drop stateSize state) state
   pub row-bytes : cards ≡ ifGood (slicesAnswer state row) (rowOver (stateFrom state) row) row

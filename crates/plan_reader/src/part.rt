@@ -1,6 +1,6 @@
 // The parts of a plan's bytes, each read from the front of what is given.
 ghost use mathlib.Core.Path.{_≡_};
-ghost use Prim.Native.Nat.{_+_, _^_, _≤_, _<_};
+ghost use Prim.Native.Nat.{_≤_};
 ghost use lib.ListN.{length};
 ghost use Rattle.codec.specs.Bytes.{numberTo};
 ghost use Rattle.plan_bytes.specs.Parts.{headed, projectFrom, kindFrom};
@@ -24,22 +24,12 @@ pub struct KindPart {
     pub spare: u8,
 }
 
-fn wide(x: u8) -> u64
-    ensures { λ r. ⌜ (r ≡ x) × (r < 256) ⌝ }
-{
-    x as u64
-}
-
-// The first bytes as one number, at most seven of them.
+// The number that so many bytes say.
 fn number(s: &[u8], count: usize) -> u64
-    requires { ⌜ (count ≤ length (now s)) × (count ≤ 7) ⌝ }
-    ensures { λ r. ⌜ (r ≡ numberTo count (now (s .entry))) × (r < 256 ^ count) ⌝ }
+    requires { ⌜ (count ≤ length (now s)) × (count ≤ 8) ⌝ }
+    ensures { λ r. ⌜ r ≡ numberTo count (now (s .entry)) ⌝ }
 {
-    let mut sum: u64 = 0;
-    for i in 0..count {
-        sum = sum * 256 + wide(s[i]);
-    }
-    sum
+    codec::number(s, count)
 }
 
 // The counts at the front of s, with the spare bits after them.

@@ -13,7 +13,7 @@ use Rattle.laws.specs.Ranking.{rankIn, firstIn, sooner}
 use Rattle.answer.specs.Answer.{eachTo}
 use Rattle.plan.specs.Order.{within, sized, emptyProject, emptyKind, tidyProjects, tidyKinds, inRange, timed, budgets, sizes, unused}
 use Rattle.plan.specs.Order.{projectsInRange, kindInRange, kindsInRange, budgetsFit, ranges, checked}
-use Rattle.codec.specs.Pack.{bits, unpack}
+use Rattle.codec.specs.Pack.{unpack}
 use Rattle.codec.specs.Bytes.{numberTo}
 use Rattle.codec.specs.Places.{partsTo}
 use Rattle.plan_bytes.specs.Parts.{size, headerFields, projectFields, kindFields, projectFrom, kindFrom, projectsFrom, kindsFrom, headed}
@@ -55,7 +55,7 @@ output = ascii "plan ok\nr 0 6 ok\nr 1 2 ok\nr 2 2 ok\nt 0: 1 2\nt 1: 1 2\nt 2: 
 
 pub example : played input ≡ output
 unfolding sumTo leastTo firstTo countTo allTo written rankIn firstIn sooner eachTo within sized emptyProject emptyKind tidyProjects
-    tidyKinds inRange timed budgets sizes unused projectsInRange kindInRange kindsInRange budgetsFit ranges checked bits unpack numberTo size
+    tidyKinds inRange timed budgets sizes unused projectsInRange kindInRange kindsInRange budgetsFit ranges checked unpack numberTo size
     partsTo headerFields projectFields kindFields projectFrom kindFrom projectsFrom kindsFrom headed decoded headerSpare projectSpare
     kindSpare projectsSpare kindsSpare placesSpare spareZero bodyAnswer readAnswer readOf cellAt heldFrom firstCell owns slotOf held window
     supply workloadPart fitsAt leastWidth excessAt leastExcess besides partOf workload widthOf excessOf fitted admitted untouched underway

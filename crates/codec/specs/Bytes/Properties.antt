@@ -1,14 +1,14 @@
 -- A number and its bytes are inverse, over any count of bytes.
 -- Assumes nothing.
-use mathlib.Core.Path.{_≡_, refl, ap, ap₂, _∙_}
+use mathlib.Core.Path.{_≡_, refl, sym, ap, ap₂, _∙_}
 use mathlib.Core.List.{List, [], _∷_, _++_}
-use Prim.Native.Nat.{ℕ, zero, suc, _+_, _*_, _/_, _%_, _^_, _≤_, _<_}
-use native.Mathlib.Nat.{pow-suc, div-lt-iff-lt-mul, lt-of-lt-of-le, pow-le-pow-right}
+use Prim.Native.Nat.{ℕ, zero, suc, _+_, _*_, _-_, _/_, _%_, _^_, _≤_, _<_, min}
+use native.Mathlib.Nat.{pow-suc, pow-succ', div-one, div-div-eq-div-mul, div-lt-iff-lt-mul, lt-of-lt-of-le, pow-le-pow-right}
 use native.Mathlib.Numerals.{add-one}
 use native.Mathlib.Omega.{arith}
 use lib.Arith.{digits-lt, digits-div, digits-mod}
-use lib.ListN.{length, getD, take, length-append, List·getD-append}
-use lib.Seq.{take-suc, getD-at, getD-take}
+use lib.ListN.{length, getD, take, drop, set, length-append, length-set, List·getD-append}
+use lib.Seq.{take-suc, getD-at, getD-take, getD-drop, length-take-le, set-split, drop-at, drop-length}
 use Rattle.codec.specs.Bytes.{numberTo, bytesOf, AreBytes}
 
 -- ---- the steps of a loop that reads a number
@@ -75,8 +75,46 @@ bytes-number (suc n) s b l =
 pub number-more : (x i v : ℕ) → x < 256 ^ i → v < 256 → x * 256 + v < 256 ^ (i + 1)
 number-more x i v p q = rw (add-one i, pow-suc) (digits-lt p q)
 
-pub number-room : (x i : ℕ) → x < 256 ^ i → i ≤ 6 → x < 256 ^ 6
-number-room x i p q = lt-of-lt-of-le p (pow-le-pow-right {n = 256} (omega arith) q)
+pub number-room : (x i n : ℕ) → x < 256 ^ i → i ≤ n → x < 256 ^ n
+number-room x i n p q = lt-of-lt-of-le p (pow-le-pow-right {n = 256} (omega arith) q)
 
-pub number-end : (x i n : ℕ) → x < 256 ^ i → i ≤ n → n ≤ i → x < 256 ^ n
-number-end x i n p a b = let e : i ≡ n = omega arith in rw (← e) p
+-- of a loop that goes no further than there are bytes
+pub number-seen : (x i count limited seen : ℕ) (s : List ℕ) → x ≡ numberTo i s → limited ≡ min count 8 → seen ≡ min limited (length s) → i ≤ seen → seen ≤ i
+    → x ≡ numberTo (min (min count 8) (length s)) s
+number-seen x i count limited seen s p a b h l = let e : i ≡ min (min count 8) (length s) = omega arith in p ∙ ap (λ (k : ℕ). numberTo k s) e
+
+-- a number of so many bytes, where so many are there
+pub number-whole : (n : ℕ) (s : List ℕ) (x : ℕ) → x ≡ numberTo (min (min n 8) (length s)) s → n ≤ 8 → n ≤ length s → x ≡ numberTo n s
+number-whole n s x e a b = let m : min (min n 8) (length s) ≡ n = omega arith in e ∙ ap (λ (k : ℕ). numberTo k s) m
+
+-- ---- the steps of a loop that stores a number, the last byte first
+
+bytes-more : (n x : ℕ) → bytesOf (suc n) x ≡ x / 256 ^ n % 256 ∷ bytesOf n x
+unfolding bytesOf
+bytes-more zero x = rw (div-one x)
+bytes-more (suc n) x =
+    ap (λ (l : List ℕ). l ++ (x % 256 ∷ [])) (bytes-more n (x / 256))
+    ∙ ap (λ (k : ℕ). k % 256 ∷ (bytesOf n (x / 256) ++ (x % 256 ∷ []))) (div-div-eq-div-mul x 256 (256 ^ n) ∙ ap (λ (k : ℕ). x / k) (sym (pow-succ' 256 n)))
+
+drop-set : (l : List ℕ) (k v : ℕ) → k < length l → drop k (set l k v) ≡ v ∷ drop (suc k) l
+drop-set l k v h = ap (drop k) (set-split l k v h) ∙ drop-at (take k l) (v ∷ drop (suc k) l) k (length-take-le k l (omega arith))
+
+pub stored-none : (x : ℕ) (l : List ℕ) → (x ≡ x / 256 ^ 0) × (drop (length l - 0) l ≡ bytesOf 0 x)
+unfolding bytesOf
+stored-none x l = let z : length l - 0 ≡ length l = omega arith in (sym (div-one x), rw z (drop-length l))
+
+pub stored-again : (x rest i n : ℕ) (l : List ℕ) → length l ≡ n → i < n → rest ≡ x / 256 ^ i → drop (n - i) l ≡ bytesOf i x
+    → drop (n - (i + 1)) (set l (n - 1 - i) (rest % 256)) ≡ bytesOf (i + 1) x
+stored-again x rest i n l m q e h =
+    let k : n - (i + 1) ≡ n - 1 - i = omega arith in
+    let j : suc (n - 1 - i) ≡ n - i = omega arith in
+    rw (k, add-one i, bytes-more i x) (drop-set l (n - 1 - i) (rest % 256) (omega arith) ∙ ap₂ (λ (a : ℕ) (b : List ℕ). a % 256 ∷ b) e (ap (λ (y : ℕ). drop y l) j ∙ h))
+
+pub stored-rest : (x rest i : ℕ) → rest ≡ x / 256 ^ i → rest / 256 ≡ x / 256 ^ (i + 1)
+stored-rest x rest i e = rw (add-one i, pow-suc, e) (div-div-eq-div-mul x (256 ^ i) 256)
+
+pub stored-end : (x i n : ℕ) (l : List ℕ) → drop (n - i) l ≡ bytesOf i x → i ≤ n → n ≤ i → l ≡ bytesOf n x
+stored-end x i n l h a b =
+    let z : 0 ≡ n - i = omega arith in
+    let e : i ≡ n = omega arith in
+    ap (λ (k : ℕ). drop k l) z ∙ h ∙ ap (λ (k : ℕ). bytesOf k x) e

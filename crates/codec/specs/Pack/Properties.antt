@@ -11,7 +11,7 @@ use Rattle.codec.specs.Pack.{bits, pack, unpack, Fitting}
 
 -- the packed number takes no more bits than the widths say
 pub pack-bound : (ws vs : List ℕ) → Fitting ws vs → pack ws vs < 2 ^ bits ws
-unfolding bits pack
+unfolding pack
 pack-bound [] [] f = omega arith
 pack-bound [] (v ∷ vs) f = absurd f
 pack-bound (w ∷ ws) [] f = absurd f
@@ -19,7 +19,7 @@ pack-bound (w ∷ ws) (v ∷ vs) f = rw pow-add (digits-lt (f .0) (pack-bound ws
 
 -- the fields lie in the number's low bits
 pub unpack-low : (ws : List ℕ) (n : ℕ) → unpack ws (n % 2 ^ bits ws) ≡ unpack ws n
-unfolding bits unpack
+unfolding unpack
 unpack-low [] n = refl
 unpack-low (w ∷ ws) n =
     ap₂ _∷_
@@ -40,7 +40,7 @@ unpack-pack (w ∷ ws) (v ∷ vs) f =
 
 -- packing what was unpacked gives the number's low bits
 pub pack-unpack : (ws : List ℕ) (n : ℕ) → pack ws (unpack ws n) ≡ n % 2 ^ bits ws
-unfolding bits pack unpack
+unfolding pack unpack
 pack-unpack [] n = sym (mod-one n)
 pack-unpack (w ∷ ws) n = ap (λ (x : ℕ). (n / 2 ^ bits ws % 2 ^ w) * 2 ^ bits ws + x) (pack-unpack ws n) ∙ sym (mod-pow-add n w (bits ws))
 

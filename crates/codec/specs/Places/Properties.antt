@@ -2,13 +2,15 @@
 -- Assumes nothing.
 use mathlib.Core.Path.{_≡_, refl, sym, ap, ap₂, _∙_}
 use mathlib.Core.List.{List, [], _++_, append-assoc, append-nil}
-use Prim.Native.Nat.{ℕ, zero, suc, _+_, _*_, _-_, _≤_, _<_}
+use Prim.Native.Nat.{ℕ, zero, suc, _+_, _*_, _-_, _≤_, _<_, min}
 use native.Mathlib.Nat.{mul-suc, mul-zero}
 use native.Mathlib.Numerals.{add-one}
 use native.Mathlib.Decide.{decLt}
 use native.Mathlib.Omega.{arith}
 use lib.ListN.{length, take, drop, length-append, length-drop}
-use lib.Seq.{sets, sets-eq, length-sets, take-at, take-all, take-add, drop-at, drop-append-add, drop-drop}
+use lib.Seq.{sets, sets-eq, length-sets, length-take-le, take-at, take-all, take-add, drop-at, drop-append-add, drop-drop}
+use Rattle.codec.specs.Bytes.{numberTo, bytesOf}
+use Rattle.codec.specs.Bytes.Properties.{bytes-length, number-whole}
 use Rattle.codec.specs.Places.{partsTo, putTo}
 
 -- ---- a part that is handed on
@@ -16,6 +18,23 @@ use Rattle.codec.specs.Places.{partsTo, putTo}
 -- what `&s[a..]` hands on is what starts at a
 pub handed-on : (s : List ℕ) (a : ℕ) → take (length s - a) (drop a s) ≡ drop a s
 handed-on s a = take-all (length s - a) (drop a s) (omega (arith, length-drop a s))
+
+-- the number of so many bytes there
+pub number-handed : (n at : ℕ) (s : List ℕ) (x : ℕ) → x ≡ numberTo (min (min n 8) (length (take (length s - at) (drop at s)))) (take (length s - at) (drop at s))
+    → at + n ≤ length s → n ≤ 8 → x ≡ numberTo n (drop at s)
+number-handed n at s x e a b = number-whole n (drop at s) x (rw (handed-on s at) at e) b (omega (arith, length-drop at s))
+
+-- a number stored in the part from there on, of so many bytes, that was lent and is back
+pub number-lent : (n at x : ℕ) (l ys : List ℕ) → at + n ≤ length l → ys ≡ bytesOf (length (take (at + n - at) (drop at l))) x
+    → take at l ++ (ys ++ drop (at + n - at) (drop at l)) ≡ sets l at (bytesOf n x)
+number-lent n at x l ys h e =
+    let vs = bytesOf n x in
+    let m : at + n - at ≡ n = omega arith in
+    let k : length (take n (drop at l)) ≡ n = length-take-le n (drop at l) (omega (arith, length-drop at l)) in
+    let w = bytes-length n x in
+    let y : ys ≡ vs = e ∙ ap (λ (z : ℕ). bytesOf (length (take z (drop at l))) x) m ∙ ap (λ (z : ℕ). bytesOf z x) k in
+    let d : drop (at + n - at) (drop at l) ≡ drop (at + length vs) l = ap (λ (z : ℕ). drop z (drop at l)) (m ∙ sym w) ∙ drop-drop (length vs) at l in
+    ap₂ (λ (a b : List ℕ). take at l ++ (a ++ b)) y d ∙ sym (append-assoc (take at l) vs (drop (at + length vs) l)) ∙ sym (sets-eq vs l at (omega arith))
 
 -- ---- the steps of a loop
 

@@ -7,7 +7,7 @@ use native.Mathlib.Nat.{div-one}
 use native.Mathlib.Omega.{arith}
 use lib.ListN.{length, getD}
 use borrow.Author.Tests.{lt-ltb, le-ltb}
-use Rattle.codec.specs.Pack.{bits, unpack}
+use Rattle.codec.specs.Pack.{unpack}
 use Rattle.codec.specs.Bytes.{numberTo}
 use Rattle.commands.specs.declared.command.Command.{Command}
 use Rattle.commands.specs.declared.command.Command.the-variants.{Bad}
@@ -23,7 +23,7 @@ pub command-fields : (s : List ℕ) (x y z : ℕ) (r : Command) → 3 ≤ length
     → r ≡ fieldsSay ((x * 65536 + y * 256 + z) / 8388608) ((x * 65536 + y * 256 + z) / 524288 % 16) ((x * 65536 + y * 256 + z) / 128 % 4096)
     ((x * 65536 + y * 256 + z) % 128)
     → r ≡ commandOf s
-unfolding commandOf commandFields unpack bits numberTo
+unfolding commandOf commandFields unpack numberTo
 command-fields s x y z r l e f g p q t h =
     let n : x * 65536 + y * 256 + z ≡ ((0 * 256 + getD s 0 0) * 256 + getD s 1 0) * 256 + getD s 2 0 = omega arith in
     let w : (x * 65536 + y * 256 + z) / 8388608 ≡ (x * 65536 + y * 256 + z) / 8388608 % 2 = omega arith in

@@ -19,7 +19,7 @@ use Rattle.plan.specs.declared.Plan.{Plan}
 use Rattle.plan.specs.Example.{kind, likeA, planA, planB, bytesA}
 use Rattle.plan.specs.Order.{within, sized, emptyProject, emptyKind, tidyProjects, tidyKinds, inRange, timed, budgets}
 use Rattle.plan.specs.Order.{sizes, unused, projectsInRange, kindInRange, kindsInRange, budgetsFit, ranges, checked}
-use Rattle.codec.specs.Pack.{bits, pack, unpack}
+use Rattle.codec.specs.Pack.{pack, unpack}
 use Rattle.codec.specs.Bytes.{numberTo, bytesOf}
 use Rattle.codec.specs.Places.{partsTo}
 use Rattle.plan_bytes.specs.Parts.{size, headerBytes, projectBytes, kindBytes, encoded, headerFields, projectFields}
@@ -242,7 +242,7 @@ pub verdicts : Judged
 unfolding sumTo leastTo firstTo countTo allTo written eachTo within sized emptyProject emptyKind tidyProjects tidyKinds inRange timed
     budgets sizes unused projectsInRange kindInRange kindsInRange budgetsFit ranges checked cellAt heldFrom firstCell owns slotOf held
     window supply workloadPart fitsAt leastWidth excessAt leastExcess besides partOf workload widthOf excessOf fitted admitted judged
-    bits pack unpack numberTo bytesOf size headerBytes projectBytes kindBytes partsTo encoded headerFields projectFields kindFields
+    pack unpack numberTo bytesOf size headerBytes projectBytes kindBytes partsTo encoded headerFields projectFields kindFields
     projectFrom kindFrom projectsFrom kindsFrom headed decoded headerSpare projectSpare kindSpare projectsSpare kindsSpare placesSpare
     spareZero bodyAnswer readAnswer readOf
 verdicts = record {
@@ -307,7 +307,7 @@ pub answers : Answered
 unfolding sumTo leastTo firstTo countTo allTo written eachTo within sized emptyProject emptyKind tidyProjects tidyKinds inRange timed
     budgets sizes unused projectsInRange kindInRange kindsInRange budgetsFit ranges checked cellAt heldFrom firstCell owns slotOf held
     window supply workloadPart fitsAt leastWidth excessAt leastExcess besides partOf workload widthOf excessOf fitted admitted judged
-    bits pack unpack numberTo bytesOf size headerBytes projectBytes kindBytes partsTo encoded headerFields projectFields kindFields
+    pack unpack numberTo bytesOf size headerBytes projectBytes kindBytes partsTo encoded headerFields projectFields kindFields
     projectFrom kindFrom projectsFrom kindsFrom headed decoded headerSpare projectSpare kindSpare projectsSpare kindsSpare placesSpare
     spareZero bodyAnswer readAnswer readOf writeAnswer tableLength tableOver tableAnswer startAnswer startOf
 answers = record {

@@ -43,7 +43,7 @@ use Rattle.rack.specs.Slice.{sliceAnswer, sliceOf, bufferAfter, Sliced}
 use Rattle.rack.specs.Row.{rowOver}
 use Rattle.images.specs.declared.PlanFound.{PlanFound}
 use Rattle.images.specs.declared.StateFound.{StateFound}
-use Rattle.images.specs.Image.{planFrom, planImage, stateFrom, stateImage, releasedTold}
+use Rattle.images.specs.Image.{planSize, stateSize, planFrom, planImage, stateFrom, stateImage, releasedTold}
 use Rattle.images.specs.Lent.{room, planFound, foundAnswer, stateFound, StoresPlan, StoresState}
 use Rattle.images.specs.Lent.Properties.{short-room, long-room, plan-room, plan-is, plan-no, plan-on, state-room, state-is, state-no, state-on}
 use Rattle.exports.specs.Outcome.{told}
@@ -77,18 +77,18 @@ read-count bytes v e g =
     let m = size-most (readOf bytes .plan) (read-checked bytes h) in
     omega arith
 
-read-stage : (bytes plan : List ℕ) (v : Reading) (x : Answer) → v ≡ readOf bytes → v .answer ≡ Good → x ≡ room plan 140 → x ≡ readsAnswer bytes plan
+read-stage : (bytes plan : List ℕ) (v : Reading) (x : Answer) → v ≡ readOf bytes → v .answer ≡ Good → x ≡ room plan planSize → x ≡ readsAnswer bytes plan
 unfolding readsAnswer
-read-stage bytes plan v x e g h = opened-on (v .answer) (readOf bytes .answer) (room plan 140) x g (ap (λ (y : Reading). y .answer) e) h
+read-stage bytes plan v x e g h = opened-on (v .answer) (readOf bytes .answer) (room plan planSize) x g (ap (λ (y : Reading). y .answer) e) h
 
 pub read-refused : (bytes plan : List ℕ) (v : Reading) (w : Refusal) (r : ℕ) → v ≡ readOf bytes → v .answer ≡ No w → r ≡ told (v .answer) 0 → Reads bytes plan r plan
 unfolding readsAnswer
 read-refused bytes plan v w r e g h =
-    refused-outcome (readsAnswer bytes plan) (v .answer) w _ _ plan r g h (opened-no (v .answer) (readOf bytes .answer) (room plan 140) w g (ap (λ (x : Reading). x .answer) e))
+    refused-outcome (readsAnswer bytes plan) (v .answer) w _ _ plan r g h (opened-no (v .answer) (readOf bytes .answer) (room plan planSize) w g (ap (λ (x : Reading). x .answer) e))
 
 read-stored : (bytes plan after : List ℕ) (v : Reading) (b : Answer) (r : ℕ) → v ≡ readOf bytes → v .answer ≡ Good → StoresPlan (v .plan) plan b after → r ≡ told b (ifGood b (v .taken) 0) → Reads bytes plan r after
 read-stored bytes plan after v b r e g t h =
-    rw (← e) (stored-outcome (readsAnswer bytes plan) b (v .taken) 140 (planImage (v .plan)) plan after r t (read-stage bytes plan v b e g (t .result)) h)
+    rw (← e) (stored-outcome (readsAnswer bytes plan) b (v .taken) planSize (planImage (v .plan)) plan after r t (read-stage bytes plan v b e g (t .result)) h)
 
 pub read-short : (bytes plan after : List ℕ) (v : Reading) (b : Answer) (w : Refusal) (r : ℕ) → v ≡ readOf bytes → v .answer ≡ Good → StoresPlan (v .plan) plan b after → b ≡ No w → r ≡ told b 0 → Reads bytes plan r after
 read-short bytes plan after v b w r e g t n h = read-stored bytes plan after v b r e g t (h ∙ rw n)
@@ -176,21 +176,21 @@ start-state : (p : Plan) (v : Next) → v ≡ startOf p → v .answer ≡ Good �
 unfolding startOf
 start-state p v e g = ap (λ (x : Next). x .state) e ∙ ap (λ (x : Answer). ifGood x (freshOf p) noState) (sym (start-answer p v e) ∙ g)
 
-start-stage : (plan state : List ℕ) (f : PlanFound) (x : Answer) → f ≡ planFound plan → f .answer ≡ Good → x ≡ (startAnswer (planFrom plan) andThen room state 256) → x ≡ freshAnswer plan state
+start-stage : (plan state : List ℕ) (f : PlanFound) (x : Answer) → f ≡ planFound plan → f .answer ≡ Good → x ≡ (startAnswer (planFrom plan) andThen room state stateSize) → x ≡ freshAnswer plan state
 unfolding freshAnswer
-start-stage plan state f x e g h = plan-on plan f (startAnswer (planFrom plan) andThen room state 256) x e g h
+start-stage plan state f x e g h = plan-on plan f (startAnswer (planFrom plan) andThen room state stateSize) x e g h
 
 pub fresh-refused : (plan state : List ℕ) (f : PlanFound) (v : Next) (w : Refusal) (r : ℕ) → f ≡ planFound plan → f .answer ≡ Good → v ≡ startOf (f .plan) → v .answer ≡ No w → r ≡ told (v .answer) 0 → Starts plan state r state
 fresh-refused plan state f v w r e g h n t =
     refused-outcome (freshAnswer plan state) (v .answer) w _ _ state r n t
-    (start-stage plan state f (v .answer) e g (opened-no (v .answer) (startAnswer (planFrom plan)) (room state 256) w n (start-answer (planFrom plan) v (start-is plan f v e g h))))
+    (start-stage plan state f (v .answer) e g (opened-no (v .answer) (startAnswer (planFrom plan)) (room state stateSize) w n (start-answer (planFrom plan) v (start-is plan f v e g h))))
 
 pub fresh-stored : (plan state after : List ℕ) (f : PlanFound) (v : Next) (b : Answer) (r : ℕ) → f ≡ planFound plan → f .answer ≡ Good → v ≡ startOf (f .plan) → v .answer ≡ Good → StoresState (v .state) state b after → r ≡ told b 0 → Starts plan state r after
 fresh-stored plan state after f v b r e g h n t u =
     let i = start-is plan f v e g h in
     rw (← start-state (planFrom plan) v i n)
-    (stored-outcome (freshAnswer plan state) b 0 256 (stateImage (v .state)) state after r t
-    (start-stage plan state f b e g (opened-on (v .answer) (startAnswer (planFrom plan)) (room state 256) b n (start-answer (planFrom plan) v i) (t .result))) (uncounted b r u))
+    (stored-outcome (freshAnswer plan state) b 0 stateSize (stateImage (v .state)) state after r t
+    (start-stage plan state f b e g (opened-on (v .answer) (startAnswer (planFrom plan)) (room state stateSize) b n (start-answer (planFrom plan) v i) (t .result))) (uncounted b r u))
 
 -- ---- the record order, with which releases and slices begin, need not be asked before them
 
@@ -210,7 +210,7 @@ once-of Good (No w) x false e = refl
 -- so an operation x that begins with the record order answers as if the image's plan had been checked before
 once : (s : List ℕ) (x : Answer) → (checked (planFrom s) andThen x) ≡ x → (stateAnswer s andThen x) ≡ (foundAnswer s andThen x)
 unfolding stateAnswer foundAnswer
-once s x e = once-of (room s 256) (checked (planFrom s)) x (releasedTold s) e
+once s x e = once-of (room s stateSize) (checked (planFrom s)) x (releasedTold s) e
 
 -- ---- `parchbeetle_release`
 
@@ -290,7 +290,7 @@ release-stored state after kind e k x f v b r h g p q t n u z =
     let i = release-is state kind e k x f v h g p q t in
     let a : b ≡ v .answer = u .result ∙ state-room state f h g ∙ sym n in
     rw (← release-state (stateFrom state) kind e v i n)
-    (stored-outcome (releasesAnswer state kind e) b 0 256 (stateImage (v .state)) state after r u (release-stage state kind e f b h g (a ∙ release-answer (stateFrom state) kind e v i)) (uncounted b r z))
+    (stored-outcome (releasesAnswer state kind e) b 0 stateSize (stateImage (v .state)) state after r u (release-stage state kind e f b h g (a ∙ release-answer (stateFrom state) kind e v i)) (uncounted b r z))
 
 -- ---- `parchbeetle_slice`
 
@@ -332,6 +332,6 @@ slice-stored state row after cards f v b r h g t n u y =
     let d : v .state ≡ advanced (stateFrom state) = slice-state (f .state) row cards v t n ∙ ap advanced s in
     record {
       result = y ∙ ap (λ (x : Answer). told x 0) (u .result ∙ a ∙ sym z);
-      image = rw z (u .buffer ∙ ap (λ (x : Answer). ifGood x (stateImage (v .state) ++ drop 256 state) state) a ∙ ap (λ (x : State). stateImage x ++ drop 256 state) d);
+      image = rw z (u .buffer ∙ ap (λ (x : Answer). ifGood x (stateImage (v .state) ++ drop stateSize state) state) a ∙ ap (λ (x : State). stateImage x ++ drop stateSize state) d);
       row-bytes = rw z (slice-row (f .state) row cards v Good t n ∙ ap (λ (x : State). rowOver x row) s);
     }

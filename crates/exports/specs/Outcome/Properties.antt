@@ -9,6 +9,7 @@ use Rattle.answer.specs.declared.Answer.the-variants.{Good, No}
 use Rattle.answer.specs.declared.Refusal.{Refusal}
 use Rattle.answer.specs.Answer.{number, place, excess, _andThen_, ifGood}
 use Rattle.images.specs.declared.PlanFound.{PlanFound}
+use Rattle.images.specs.Image.{planSize}
 use Rattle.images.specs.Lent.{room, planFound, Stores}
 use Rattle.images.specs.Lent.Properties.{plan-no}
 use Rattle.exports.specs.Outcome.{told, Outcome}
@@ -25,8 +26,8 @@ refused-outcome a x w n new old r e f g =
     record { result = f ∙ ap (λ (v : Answer). told v 0) e ∙ rw z; buffer = rw z }
 
 -- refused because no plan was found, whatever the answer would be after that
-pub unfound-outcome : (plan : List ℕ) (f : PlanFound) (w : Refusal) (b : Answer) (n : ℕ) (new old : List ℕ) (r : ℕ) → f ≡ planFound plan → f .answer ≡ No w → r ≡ told (f .answer) 0 → Outcome (room plan 140 andThen b) n new old r old
-unfound-outcome plan f w b n new old r e g h = refused-outcome (room plan 140 andThen b) (f .answer) w n new old r g h (plan-no plan f b w e g)
+pub unfound-outcome : (plan : List ℕ) (f : PlanFound) (w : Refusal) (b : Answer) (n : ℕ) (new old : List ℕ) (r : ℕ) → f ≡ planFound plan → f .answer ≡ No w → r ≡ told (f .answer) 0 → Outcome (room plan planSize andThen b) n new old r old
+unfound-outcome plan f w b n new old r e g h = refused-outcome (room plan planSize andThen b) (f .answer) w n new old r g h (plan-no plan f b w e g)
 
 -- good
 pub good-outcome : (a : Answer) (n : ℕ) (new old : List ℕ) (r : ℕ) (after : List ℕ) → Good ≡ a → r ≡ told Good n → after ≡ new → Outcome a n new old r after

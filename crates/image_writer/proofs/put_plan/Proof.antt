@@ -1,13 +1,14 @@
 -- `image_writer::put_plan` meets its contract.
 -- Assumes nothing.
 use native.Mathlib.Omega.{arith}
+use Rattle.images.specs.Image.{planSize, planImage}
 use Rattle.images.specs.Lent.Properties.{stores-short, stores-good}
 use borrow.Author.Needs.{needs}
 use Rattle.image_writer.proofs.put_plan.Statement.{statement}
 use Rattle.image_writer.proofs.put_plan.Tie as tie
 
 returns : tie.Need-returns
-returns c = stores-short _ _ _ (omega arith)
+returns c = stores-short (planImage (c .before .before .args .plan)) planSize _ (omega arith)
 
 store-plan-requires : tie.Need-store-plan-requires
 store-plan-requires c κs = search needs

@@ -1,13 +1,14 @@
 -- `image_writer::put_state` meets its contract.
 -- Assumes nothing.
 use native.Mathlib.Omega.{arith}
+use Rattle.images.specs.Image.{stateSize, stateImage}
 use Rattle.images.specs.Lent.Properties.{stores-short, stores-good}
 use borrow.Author.Needs.{needs}
 use Rattle.image_writer.proofs.put_state.Statement.{statement}
 use Rattle.image_writer.proofs.put_state.Tie as tie
 
 returns : tie.Need-returns
-returns c = stores-short _ _ _ (omega arith)
+returns c = stores-short (stateImage (c .before .before .args .state)) stateSize _ (omega arith)
 
 store-state-requires : tie.Need-store-state-requires
 store-state-requires c κs = search needs

@@ -14,7 +14,7 @@ use Rattle.plan.specs.declared.Project.{Project}
 use Rattle.plan.specs.declared.Kind.{Kind}
 use Rattle.plan.specs.declared.Plan.{Plan}
 use Rattle.plan.specs.Order.{projectOf, kindOf, Sized}
-use Rattle.codec.specs.Pack.{bits, pack, unpack}
+use Rattle.codec.specs.Pack.{pack, unpack}
 use Rattle.codec.specs.Bytes.{numberTo, bytesOf}
 use Rattle.codec.specs.Bytes.Properties.{bytes-length}
 use Rattle.codec.specs.Places.{partsTo, putTo}
@@ -30,15 +30,15 @@ size-most p counts = omega (arith, counts .projects-most, counts .kinds-most)
 -- ---- fields off a number
 
 pub project-fields : (s : List ℕ) (n : ℕ) → n ≡ numberTo 2 s → (n / 4096 % 16) ∷ (n / 4 % 1024) ∷ (n % 4) ∷ [] ≡ projectFields s
-unfolding projectFields unpack bits
+unfolding projectFields unpack
 project-fields s n e = rw (← e, div-one n)
 
 pub kind-fields : (s : List ℕ) (n : ℕ) → n ≡ numberTo 5 s → (n / 137438953472 % 8) ∷ (n / 33554432 % 4096) ∷ (n / 8192 % 4096) ∷ (n / 2 % 4096) ∷ (n % 2) ∷ [] ≡ kindFields s
-unfolding kindFields unpack bits
+unfolding kindFields unpack
 kind-fields s n e = rw (← e, div-one n)
 
 pub header-fields : (s : List ℕ) (n : ℕ) → n ≡ numberTo 3 s → (n / 1048576 % 16) ∷ (n / 65536 % 16) ∷ (n / 2048 % 32) ∷ (n / 16 % 128) ∷ (n % 16) ∷ [] ≡ headerFields s
-unfolding headerFields unpack bits
+unfolding headerFields unpack
 header-fields s n e = rw (← e, div-one n)
 
 -- ---- the steps of the loops that read the projects and the unit kinds
@@ -75,7 +75,7 @@ kinds-stop i n s l p a b = written-stop i n (λ k. kindFrom (kindAt s k)) (repli
 
 pub put-project : (v : Project) (q b at : ℕ) (l : List ℕ) → q ≡ v .ceiling → b ≡ v .budget
     → set (set l at ((q * 4096 + b * 4) / 256 % 256)) (at + 1) ((q * 4096 + b * 4) % 256) ≡ sets l at (projectBytes v)
-unfolding projectBytes bytesOf pack bits
+unfolding projectBytes bytesOf pack
 put-project v q b at l e f =
     let n : q * 4096 + b * 4 ≡ v .ceiling * 4096 + (v .budget * 4 + (0 * 1 + 0)) = omega arith in
     rw (add-one at, n)
@@ -83,7 +83,7 @@ put-project v q b at l e f =
 pub put-kind : (v : Kind) (j t d c at : ℕ) (l : List ℕ) → j ≡ v .project → t ≡ v .separation → d ≡ v .deadline → c ≡ v .length
     → set (set (set (set (set l at ((j * 137438953472 + t * 33554432 + d * 8192 + c * 2) / 4294967296 % 256)) (at + 1) ((j * 137438953472 + t * 33554432 + d * 8192 + c * 2) / 16777216 % 256)) (at + 2) ((j * 137438953472 + t * 33554432 + d * 8192 + c * 2) / 65536 % 256)) (at + 3) ((j * 137438953472 + t * 33554432 + d * 8192 + c * 2) / 256 % 256)) (at + 4) ((j * 137438953472 + t * 33554432 + d * 8192 + c * 2) % 256)
     ≡ sets l at (kindBytes v)
-unfolding kindBytes bytesOf pack bits
+unfolding kindBytes bytesOf pack
 put-kind v j t d c at l e f g h = go (j * 137438953472 + t * 33554432 + d * 8192 + c * 2) (omega arith)
   where
     go : (n : ℕ) → n ≡ v .project * 137438953472 + (v .separation * 33554432 + (v .deadline * 8192 + (v .length * 2 + (0 * 1 + 0))))
@@ -97,7 +97,7 @@ put-kind v j t d c at l e f g h = go (j * 137438953472 + t * 33554432 + d * 8192
 pub put-header : (p : Plan) (m k n f : ℕ) (l : List ℕ) → m ≡ p .cards → k ≡ p .projects → n ≡ p .kinds → f ≡ p .frame
     → set (set (set l 0 ((m * 1048576 + k * 65536 + n * 2048 + f * 16) / 65536 % 256)) 1 ((m * 1048576 + k * 65536 + n * 2048 + f * 16) / 256 % 256)) 2 ((m * 1048576 + k * 65536 + n * 2048 + f * 16) % 256)
     ≡ sets l 0 (headerBytes p)
-unfolding headerBytes bytesOf pack bits
+unfolding headerBytes bytesOf pack
 put-header p m k n f l e g h i = go (m * 1048576 + k * 65536 + n * 2048 + f * 16) (omega arith)
   where
     go : (x : ℕ) → x ≡ p .cards * 1048576 + (p .projects * 65536 + (p .kinds * 2048 + (p .frame * 16 + (0 * 1 + 0))))

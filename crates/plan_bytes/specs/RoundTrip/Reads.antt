@@ -45,14 +45,14 @@ unpacked ws vs n rest f e =
     ap (unpack ws) (number-append n (bytesOf n x) rest (omega arith) ∙ number-bytes n x l) ∙ unpack-pack ws vs f
 
 project-fields : (p : Plan) (v : Project) (rest : List ℕ) → p .cards ≤ 8 → p .frame ≤ 64 → ProjectInRange p v → projectFields (projectBytes v ++ rest) ≡ v .ceiling ∷ v .budget ∷ 0 ∷ []
-unfolding projectFields projectBytes bits
+unfolding projectFields projectBytes
 project-fields p v rest m f r =
     let q : v .ceiling ≤ 8 = omega (arith, r .ceiling-most) in
     let b : v .budget ≤ 8 * 64 = omega (arith, r .budget-most, mul-le-mul q f) in
     unpacked projectWidths (v .ceiling ∷ v .budget ∷ 0 ∷ []) 2 rest (omega arith, (omega arith, (omega arith, tt))) refl
 
 kind-fields : (p : Plan) (v : Kind) (rest : List ℕ) → p .projects ≤ 8 → KindInRange p v → kindFields (kindBytes v ++ rest) ≡ v .project ∷ v .separation ∷ v .deadline ∷ v .length ∷ 0 ∷ []
-unfolding kindFields kindBytes bits
+unfolding kindFields kindBytes
 kind-fields p v rest m r =
     let a = r .its-project in
     let t = r .separation-most in
@@ -62,14 +62,14 @@ kind-fields p v rest m r =
 
 -- ---- a place that holds zeros is the empty one
 
-empty-project : (v : Project) → emptyProject v ≡ true → v ≡ noProject
+pub empty-project : (v : Project) → emptyProject v ≡ true → v ≡ noProject
 unfolding emptyProject
 empty-project v e =
     let a = eqb-true (v .ceiling) 0 (and-left (eqb (v .ceiling) 0) (eqb (v .budget) 0) e) in
     let b = eqb-true (v .budget) 0 (and-right (eqb (v .ceiling) 0) (eqb (v .budget) 0) e) in
     λ i. record { ceiling = a i; budget = b i }
 
-empty-kind : (v : Kind) → emptyKind v ≡ true → v ≡ noKind
+pub empty-kind : (v : Kind) → emptyKind v ≡ true → v ≡ noKind
 unfolding emptyKind
 empty-kind v e =
     let one = eqb (v .project) 0 in
@@ -90,7 +90,7 @@ unfolding sizes sized
 sizes-same p q a b c d = rw (a, b, c, d)
 
 -- beyond the used places
-unused-place : (j n : ℕ) (e : Bool) → n ≤ j → (ltb j n || e) ≡ true → e ≡ true
+pub unused-place : (j n : ℕ) (e : Bool) → n ≤ j → (ltb j n || e) ≡ true → e ≡ true
 unused-place j n e l t = rw (le-ltb j n l) at t
 
 -- ---- a plan in order, its bytes and what follows them
@@ -122,7 +122,7 @@ module _ (p : Plan) (shaped : Shaped p) (good : checked p ≡ Good) (rest : List
 
   -- the header
   header-all : headerFields all ≡ p .cards ∷ p .projects ∷ p .kinds ∷ p .frame ∷ 0 ∷ []
-  unfolding headerFields headerBytes bits
+  unfolding headerFields headerBytes
   header-all =
       let c = order .counts in
       let a = c .cards-most in

@@ -97,15 +97,15 @@ repacked ws n s b l e =
     ap (bytesOf n) (pack-unpack ws (numberTo n s) ∙ ap (λ (k : ℕ). numberTo n s % k) e ∙ mod-eq-of-lt (number-bound n s b)) ∙ bytes-number n s b l
 
 header-same : (s : List ℕ) → AreBytes s → 3 ≤ length s → headerSpare s ≡ 0 → headerBytes (headed s) ≡ take 3 s
-unfolding headerBytes headed headerSpare headerFields unpack bits
+unfolding headerBytes headed headerSpare headerFields unpack
 header-same s b l e = ap (λ (z : ℕ). bytesOf 3 (pack headerWidths (getD (headerFields s) 0 0 ∷ getD (headerFields s) 1 0 ∷ getD (headerFields s) 2 0 ∷ getD (headerFields s) 3 0 ∷ z ∷ []))) (sym e) ∙ repacked headerWidths 3 s b l refl
 
 project-same : (s : List ℕ) → AreBytes s → 2 ≤ length s → projectSpare s ≡ 0 → projectBytes (projectFrom s) ≡ take 2 s
-unfolding projectBytes projectFrom projectSpare projectFields unpack bits
+unfolding projectBytes projectFrom projectSpare projectFields unpack
 project-same s b l e = ap (λ (z : ℕ). bytesOf 2 (pack projectWidths (getD (projectFields s) 0 0 ∷ getD (projectFields s) 1 0 ∷ z ∷ []))) (sym e) ∙ repacked projectWidths 2 s b l refl
 
 kind-same : (s : List ℕ) → AreBytes s → 5 ≤ length s → kindSpare s ≡ 0 → kindBytes (kindFrom s) ≡ take 5 s
-unfolding kindBytes kindFrom kindSpare kindFields unpack bits
+unfolding kindBytes kindFrom kindSpare kindFields unpack
 kind-same s b l e = ap (λ (z : ℕ). bytesOf 5 (pack kindWidths (getD (kindFields s) 0 0 ∷ getD (kindFields s) 1 0 ∷ getD (kindFields s) 2 0 ∷ getD (kindFields s) 3 0 ∷ z ∷ []))) (sym e) ∙ repacked kindWidths 5 s b l refl
 
 -- ---- the whole

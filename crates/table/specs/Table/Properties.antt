@@ -15,7 +15,7 @@ use Rattle.layout.specs.Table.{tableLength, tableOver, tableAnswer}
 use Rattle.supply.specs.Supply.{window, supply}
 use Rattle.supply.specs.Workload.{workloadPart}
 use Rattle.supply.specs.Fit.{fitsAt, leastWidth, excessAt, leastExcess}
-use Rattle.codec.specs.Pack.{bits, pack, unpack}
+use Rattle.codec.specs.Pack.{pack, unpack}
 use Rattle.codec.specs.Bytes.{numberTo, bytesOf}
 use Rattle.codec.specs.Places.{partsTo}
 use Rattle.plan_bytes.specs.Parts.{size, headerBytes, projectBytes, kindBytes, encoded, headerFields, projectFields, kindFields}
@@ -30,7 +30,7 @@ pub table : Table
 unfolding sumTo leastTo firstTo countTo allTo written eachTo within sized emptyProject emptyKind tidyProjects tidyKinds inRange timed
     budgets sizes unused projectsInRange kindInRange kindsInRange budgetsFit ranges checked cellAt firstCell owns slotOf held
     tableLength tableOver tableAnswer window supply workloadPart fitsAt leastWidth excessAt leastExcess besides partOf workload widthOf
-    excessOf fitted admitted judged bits pack unpack numberTo bytesOf size headerBytes projectBytes kindBytes partsTo encoded
+    excessOf fitted admitted judged pack unpack numberTo bytesOf size headerBytes projectBytes kindBytes partsTo encoded
     headerFields projectFields kindFields projectFrom kindFrom projectsFrom kindsFrom headed decoded headerSpare projectSpare kindSpare
     projectsSpare kindsSpare placesSpare spareZero bodyAnswer readAnswer readOf
 table = record {

@@ -1,5 +1,5 @@
-//! The header, the bindings and the exported functions say the same: names, parameters, fields, sizes
-//! and numbers. What they do is held to the library here and in `include/test.c`.
+//! The header, the bindings and the proved code say the same: functions, parameters, fields, images,
+//! sizes and numbers. What they do is held to the library here and in `include/test.c`.
 
 use bindings::*;
 use std::collections::BTreeSet;
@@ -20,6 +20,8 @@ struct Texts {
     exported: String,
     /// All code of the proved crates.
     code: String,
+    /// The images as the proofs have them.
+    images: String,
     /// The version of the packages.
     version: String,
 }
@@ -49,6 +51,7 @@ fn texts() -> Texts {
         bridged: text("bindings/src/bridged.rs"),
         exported,
         code,
+        images: text("crates/images/specs/Image.antt"),
         version: env!("CARGO_PKG_VERSION").to_string(),
     }
 }
@@ -232,6 +235,62 @@ fn listed(header: &str, record: &str) -> Vec<(String, String)> {
     before
 }
 
+/// An image as rows of places: how many, and the bits of the fields of each.
+type Rows = Vec<(u64, Vec<u64>)>;
+
+/// The rows of a record's image, by the header's lists.
+fn rows(header: &str, record: &str) -> Rows {
+    let mut found = Rows::new();
+    let mut alone = Vec::new();
+    for (_, kind) in listed(header, record) {
+        if let Some(bits) = kind.strip_prefix('u') {
+            alone.extend(leading(bits));
+            continue;
+        }
+        if !alone.is_empty() {
+            found.push((1, std::mem::take(&mut alone)));
+        }
+        match kind.trim_matches(['[', ']']).split_once("; ") {
+            Some((kind, places)) => {
+                let fields = rows(header, kind).into_iter().flat_map(|(_, bits)| bits);
+                found.push((places.parse().unwrap_or(0), fields.collect()));
+            }
+            None => found.extend(rows(header, &kind)),
+        }
+    }
+    if !alone.is_empty() {
+        found.push((1, alone));
+    }
+    found
+}
+
+/// The rows that the proofs speak of, in the line of this name and those that it names.
+fn proved_rows(images: &str, name: &str) -> Rows {
+    let line = |name: &str| {
+        let found = images.split_once(&format!("\n{name} = "));
+        found.map_or("", |(_, rest)| rest.lines().next().unwrap_or(""))
+    };
+    let mut found = Rows::new();
+    for part in line(name).split(['∷', '+']) {
+        match part
+            .trim()
+            .trim_start_matches('(')
+            .split(' ')
+            .collect::<Vec<_>>()[..]
+        {
+            ["row", places, widths] => {
+                let widths = line(widths)
+                    .split('∷')
+                    .filter_map(|bits| leading(bits.trim()));
+                found.push((places.parse().unwrap_or(0), widths.collect()));
+            }
+            [other] if other.ends_with("Rows") => found.extend(proved_rows(images, other)),
+            _ => {}
+        }
+    }
+    found
+}
+
 /// The number that follows, as far as it goes.
 fn leading(text: &str) -> Option<u64> {
     let digits = text.bytes().take_while(u8::is_ascii_digit).count();
@@ -305,6 +364,7 @@ fn differences(texts: &Texts) -> Vec<String> {
         bridged,
         exported,
         code,
+        images,
         version,
     } = texts;
     let mut found = Vec::new();
@@ -393,6 +453,16 @@ fn differences(texts: &Texts) -> Vec<String> {
         );
     }
 
+    for (image, name) in [("Plan", "planRows"), ("State", "stateRows")] {
+        same(
+            name,
+            &[
+                ("header", format!("{:?}", rows(header, image))),
+                ("proved", format!("{:?}", proved_rows(images, name))),
+            ],
+        );
+    }
+
     for size in SIZES {
         let own = bindings.split_once(&format!("pub const {size}: usize = "));
         let other = header.split_once(&format!("#define PARCHBEETLE_{size} "));
@@ -474,6 +544,7 @@ fn one_thing_changed_on_one_side_is_found() {
     let bridged: fn(&mut Texts) -> &mut String = |texts| &mut texts.bridged;
     let exported: fn(&mut Texts) -> &mut String = |texts| &mut texts.exported;
     let code: fn(&mut Texts) -> &mut String = |texts| &mut texts.code;
+    let images: fn(&mut Texts) -> &mut String = |texts| &mut texts.images;
     let version: fn(&mut Texts) -> &mut String = |texts| &mut texts.version;
     for (side, from, to) in [
         // A name.
@@ -507,6 +578,8 @@ fn one_thing_changed_on_one_side_is_found() {
         (code, "pub deadline: u16", "pub due: u16"),
         (code, "pub clock: u32,\n", ""),
         (code, "pub left: u16", "pub left: u32"),
+        (images, "unitWidths = 8 ∷ 32", "unitWidths = 32 ∷ 8"),
+        (images, "row 8 projectWidths", "row 9 projectWidths"),
         // A size.
         (header, "PLAN_IMAGE 140u", "PLAN_IMAGE 141u"),
         (bindings, "MOST_ROW_BYTES: usize = 8", "MOST_ROW_BYTES: usize = 16"),

@@ -130,37 +130,50 @@ def contract(function):
     return words
 
 
+def plain(function, bound, words):
+    """A theorem's text about the outcome `bound`, in the words of `contract`."""
+    for field, name in zip(["result", "buffer", "second"], ["r", *(f"{name}'" for name in function.lent)]):
+        words = words.replace(f"({bound} .{field})", name).replace(f"{bound} .{field}", name)
+    return words
+
+
 def theorem(function, source):
-    """Why the theorem of one outcome in a file is not about the function's contract, or None. It has to be
-    `(PARAMETERS) → One (λ r. CONTRACT)`, or with lent buffers `.. → One (λ (o : Lent RESULT). CONTRACT)`, the contract letter by
-    letter, where `o .result` stands for r and `o .buffer`, `o .second` for the buffers as they are left."""
+    """Why the theorem of one outcome in a file is not about the function's contract, or None. It has the contract letter by letter,
+    over the function's own parameters:
+
+        (PARAMETERS) → One (λ r. CONTRACT)
+        (PARAMETERS) → One (λ (o : Lent RESULT). CONTRACT)                with a lent buffer, and with two of them `LentTwo`
+        (PARAMETERS) (o p : Lent RESULT) → CONTRACT → CONTRACT → o ≡ p     one at most
+
+    where `o .result` stands for r and `o .buffer`, `o .second` for the buffers as they are left."""
     stated = re.search(rf"^-- `{re.escape(function.name)}`[^\n]*\n(?:pub )?([\w'-]*one-outcome) :(.*?)\n(?=\S)", source, re.M | re.S)
     if not stated:
         return "has no one-outcome theorem"
-    said = flat(stated.group(2))
-    given = "".join(f"({name} : {type_of(kind, function.own_type)}) " for name, kind in function.parameters)
-    groups = re.match(r"((?:\([^()]* : (?:[^()]|\([^()]*\))*\) ?)*)(?:→ )?One \((.*)\)$", said)
-    if not groups:
-        return f"has a one-outcome theorem that is not of the form `(..) → One (λ ..)`: {said}"
-    telescope = "".join(
-        f"({name} : {flat(kind)}) " for names, kind in re.findall(r"\(([^():]*) : ((?:[^()]|\([^()]*\))*)\)", groups.group(1)) for name in names.split()
-    )
-    if telescope != given:
-        return f"has a one-outcome theorem for `{telescope}`, not for its own `{given}`"
+    said, wanted = flat(stated.group(2)), contract(function)
     result = type_of(function.result, function.own_type)
-    binder, _, words = groups.group(2).partition(". ")
-    if function.lent:
-        record = {1: "Lent", 2: "LentTwo"}.get(len(function.lent))
-        result = f"({result})" if " " in result else result
-        if binder != f"λ (o : {record} {result})":
-            return f"has a one-outcome theorem over `{binder}`, not over `λ (o : {record} {result})`"
-        for field, plain in zip(["result", "buffer", "second"], ["r", *(f"{name}'" for name in function.lent)]):
-            words = words.replace(f"(o .{field})", plain).replace(f"o .{field}", plain)
-    elif binder not in ("λ r", f"λ (r : {result})"):
-        return f"has a one-outcome theorem over `{binder}`, not over `λ r`"
-    if words != contract(function):
-        return f"has a one-outcome theorem about `{words}`, and its `ensures` says `{contract(function)}`"
-    return other_name(function, words, source)
+    lent = f"{'LentTwo' if len(function.lent) == 2 else 'Lent'} {f'({result})' if ' ' in result else result}"
+    given = [(name, type_of(kind, function.own_type)) for name, kind in function.parameters]
+    parts = re.match(r"((?:\([^():]* : (?:[^()]|\([^()]*\))*\) ?)*)(?:→ )?(.*)$", said)
+    groups = re.findall(r"\(([^():]*) : ((?:[^()]|\([^()]*\))*)\)", parts.group(1))
+    telescope = [(name, flat(kind)) for names, kind in groups for name in names.split()]
+    over = re.fullmatch(r"One \(λ (.*?)\. (.*)\)", parts.group(2))
+    if over:
+        bound = f"(o : {lent})" if function.lent else "r"
+        if over.group(1) not in (bound, f"(r : {result})"):
+            return f"has a one-outcome theorem over `{over.group(1)}`, not over `{bound}`"
+        about = [plain(function, "o", over.group(2)) if function.lent else over.group(2)]
+    elif parts.group(2).endswith(" → o ≡ p") and telescope[-2:] == [("o", lent), ("p", lent)]:
+        telescope = telescope[:-2]
+        first, arrow, second = parts.group(2).removesuffix(" → o ≡ p").partition(" → ")
+        about = [plain(function, "o", first), plain(function, "p", second)]
+    else:
+        return f"has a one-outcome theorem that is not of the form `(..) → One (λ ..)`: {said}"
+    if telescope != given:
+        return f"has a one-outcome theorem for {telescope}, not for its own {given}"
+    for words in about:
+        if words != wanted:
+            return f"has a one-outcome theorem about `{words}`, and its `ensures` says `{wanted}`"
+    return other_name(function, wanted, source)
 
 
 def other_name(function, words, source):

@@ -5,7 +5,8 @@ ghost use Prim.Native.Nat.{ℕ, _+_, _*_, _≤_, min};
 ghost use mathlib.Core.List.{_++_};
 ghost use lib.ListN.{length, getD};
 ghost use Rattle.lines.specs.Text.{decimal, Puts};
-ghost use Rattle.lines.specs.Line.{planLine, outcome, releaseLine, rowText, sliceLine, badLine, endLine, lineRoom, endRoom, Prints};
+ghost use Rattle.lines.specs.Line.{planLine, outcome, releaseLine, rowText, cardByte, sliceLine, badLine, endLine, lineRoom, endRoom};
+ghost use Rattle.lines.specs.Line.{Prints};
 use crate::text::put;
 use crate::text::put_number;
 use answer::Answer;
@@ -22,12 +23,15 @@ pub enum Line {
     Bad(u32),
     // The last line, at this clock.
     End(u32),
+    // No line.
+    Nothing,
 }
 
 // A word, and then a number.
 fn put_both(out: &mut [u8], at: usize, word: &[u8], n: u32) -> usize
     requires { ⌜ at + length (now word) + 10 ≤ length (now out) ⌝ }
-    ensures { λ r. ⌜ (Puts (now (out .entry)) at (now (word .entry) ++ decimal n) r (now (out .exit))) × (r ≤ at + length (now (word .entry)) + 10) ⌝ }
+    ensures { λ r. ⌜ (Puts (now (out .entry)) at (now (word .entry) ++ decimal n) r (now (out .exit)))
+        × (r ≤ at + length (now (word .entry)) + 10) ⌝ }
 {
     let at = put(out, at, word);
     put_number(out, at, n)
@@ -71,7 +75,8 @@ fn put_release(out: &mut [u8], at: usize, kind: u8, e: u16, answer: Answer) -> u
 // The bytes of a row, a space before each.
 fn put_row(out: &mut [u8], at: usize, row: [u8; 8], cards: u8) -> usize
     requires { ⌜ (cards ≤ 8) × (at + 11 * cards ≤ length (now out)) ⌝ }
-    ensures { λ r. ⌜ (Puts (now (out .entry)) at (rowText cards (λ (card : ℕ). getD row card 0)) r (now (out .exit))) × (r ≤ at + 11 * cards) ⌝ }
+    ensures { λ r. ⌜ (Puts (now (out .entry)) at (rowText cards (cardByte row)) r (now (out .exit)))
+        × (r ≤ at + 11 * cards) ⌝ }
 {
     let mut next = at;
     for card in 0..cards as usize {
@@ -83,7 +88,8 @@ fn put_row(out: &mut [u8], at: usize, row: [u8; 8], cards: u8) -> usize
 // `t CLOCK:` and the row's bytes.
 fn put_served(out: &mut [u8], at: usize, clock: u32, row: &[u8; 8], cards: u8) -> usize
     requires { ⌜ (cards ≤ 8) × (at + lineRoom ≤ length (now out)) ⌝ }
-    ensures { λ r. ⌜ (Puts (now (out .entry)) at (sliceLine Answer.Good clock cards (λ (card : ℕ). getD (now (row .entry)) card 0)) r (now (out .exit))) × (r ≤ at + lineRoom) ⌝ }
+    ensures { λ r. ⌜ (Puts (now (out .entry)) at (sliceLine Answer.Good clock cards (cardByte (now (row .entry)))) r (now (out .exit)))
+        × (r ≤ at + lineRoom) ⌝ }
 {
     let at = put_both(out, at, b"t ", clock);
     let at = put(out, at, b":");
@@ -111,7 +117,8 @@ fn put_slice(
     cards: u8,
 ) -> usize
     requires { ⌜ at + lineRoom ≤ length (now out) ⌝ }
-    ensures { λ r. ⌜ (Puts (now (out .entry)) at (sliceLine answer clock (min cards 8) (λ (card : ℕ). getD (now (row .entry)) card 0)) r (now (out .exit))) × (r ≤ at + lineRoom) ⌝ }
+    ensures { λ r. ⌜ (Puts (now (out .entry)) at (sliceLine answer clock (min cards 8) (cardByte (now (row .entry)))) r (now (out .exit)))
+        × (r ≤ at + lineRoom) ⌝ }
 {
     let Answer::No(_) = answer else {
         return put_served(out, at, clock, row, row_cards(cards));
@@ -159,6 +166,7 @@ impl Line {
             Line::Slice(answer, clock, cards) => put_slice(out, at, answer, clock, row, cards),
             Line::Bad(clock) => put_bad(out, at, clock),
             Line::End(clock) => put_end(out, at, clock),
+            Line::Nothing => at,
         }
     }
 }

@@ -5,7 +5,7 @@ use mathlib.Core.List.{List, _++_}
 use Prim.Native.Nat.{ℕ, _+_, _-_, _≤_, _<_, min}
 use native.Mathlib.Numerals.{add-one}
 use native.Mathlib.Omega.{arith}
-use lib.ListN.{length, getD}
+use lib.ListN.{length}
 use borrow.Author.Tests.{le-leb, lt-leb}
 use Rattle.answer.specs.declared.Answer.{Answer}
 use Rattle.answer.specs.declared.Answer.the-variants.{Good, No}
@@ -13,11 +13,12 @@ use Rattle.answer.specs.declared.Refusal.{Refusal}
 use Rattle.answer.specs.Answer.{number, place}
 use Rattle.codec.specs.Places.{partsTo}
 use Rattle.lines.specs.declared.line.Line.{Line}
-use Rattle.lines.specs.declared.line.Line.the-variants.{Plan, Release, Slice, Bad, End}
+use Rattle.lines.specs.declared.line.Line.the-variants.{Plan, Release, Slice, Bad, End, Nothing}
 use Rattle.lines.specs.Ascii.{ascii}
 use Rattle.lines.specs.Text.{decimal, Puts}
 use Rattle.lines.specs.Text.Properties.{puts-none, puts-then, puts-three}
-use Rattle.lines.specs.Line.{planLine, outcome, releaseLine, rowText, sliceLine, badLine, endLine, lineText, lineRoom, endRoom}
+use Rattle.lines.specs.Line.{planLine, outcome, releaseLine, rowText, cardByte, sliceLine, badLine, endLine, lineText, lineRoom}
+use Rattle.lines.specs.Line.{endRoom}
 use Rattle.lines.specs.Line.{printed, Prints}
 
 -- ---- a line by its answer
@@ -91,6 +92,10 @@ module _ (line : Line) (row out : List ℕ) (at : ℕ) where
   unfolding printed
   printed-is l = rw (le-leb (at + lineRoom) (length out) l)
 
+  pub prints-nothing : line ≡ Nothing → lineRoom ≤ length out → at ≤ length out - lineRoom → Prints line row out at at out
+  unfolding lineText
+  prints-nothing e k l = record { text = rw (printed-is (omega arith), e) (puts-none out at); room = omega arith }
+
   module _ (next : ℕ) (after : List ℕ) where
     prints : (text : List ℕ) → lineText line row ≡ text → lineRoom ≤ length out → at ≤ length out - lineRoom → Puts out at text next after
         → next ≤ at + lineRoom → Prints line row out at next after
@@ -107,10 +112,10 @@ module _ (line : Line) (row out : List ℕ) (at : ℕ) where
     prints-release kind n a e = prints (releaseLine kind n a) (rw e)
 
     pub prints-slice : (a : Answer) (clock cards : ℕ) → line ≡ Slice a clock cards → lineRoom ≤ length out → at ≤ length out - lineRoom
-        → Puts out at (sliceLine a clock (min cards 8) (λ (card : ℕ). getD row card 0)) next after → next ≤ at + lineRoom
+        → Puts out at (sliceLine a clock (min cards 8) (cardByte row)) next after → next ≤ at + lineRoom
         → Prints line row out at next after
     unfolding lineText
-    prints-slice a clock cards e = prints (sliceLine a clock (min cards 8) (λ (card : ℕ). getD row card 0)) (rw e)
+    prints-slice a clock cards e = prints (sliceLine a clock (min cards 8) (cardByte row)) (rw e)
 
     pub prints-bad : (clock : ℕ) → line ≡ Bad clock → lineRoom ≤ length out → at ≤ length out - lineRoom
         → Puts out at (badLine ++ endLine clock) next after → next ≤ at + lineRoom → Prints line row out at next after

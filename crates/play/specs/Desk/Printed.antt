@@ -8,7 +8,6 @@ use Prim.Native.Nat.{ℕ, _+_, _-_, _≤_}
 use native.Mathlib.Omega.{arith}
 use lib.ListN.{length, take, drop, length-drop, take-append-drop, drop-of-length-le}
 use lib.Seq.{take-take, take-add, drop-at, drop-drop, length-take-le}
-use Rattle.lines.specs.Line.{lineRoom}
 use Rattle.player.specs.declared.session.Session.{Session}
 use Rattle.player.specs.declared.session.Stage.{Stage}
 use Rattle.player.specs.declared.session.Stage.the-variants as stage
@@ -20,10 +19,10 @@ use Rattle.player.specs.Stream as stream
 use Rattle.player.specs.Stream.Properties.{reached-whole, reached-end}
 use Rattle.play.specs.declared.Arrival.{Arrival}
 use Rattle.play.specs.declared.Arrival.the-variants.{Came, Failed}
-use Rattle.play.specs.declared.Course.the-variants.{On, Over, Unread, Unwritten}
+use Rattle.play.specs.declared.Course.the-variants.{Over, Unread}
 use Rattle.play.specs.declared.Desk.{Desk}
-use Rattle.play.specs.Desk.{opened, holds, Fits, linesNow, countOf, courseOf, toldOf, endedOf, heardOf, Hears, Round, tells, ends}
-use Rattle.play.specs.Desk.{hears, came, Ran, starts, goes, Playing, Ends}
+use Rattle.play.specs.Desk.{holds, Fits, linesNow, courseOf, toldOf, endedOf, heardOf, Round, tells, ends}
+use Rattle.play.specs.Desk.{hears, came, Ran, starts, goes, Ends}
 use Rattle.play.specs.Desk.Properties.{holds-length, ran-fits}
 
 -- what came and what was printed, whatever comes still: nothing does, where the input has ended

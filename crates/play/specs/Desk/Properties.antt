@@ -2,7 +2,7 @@
 -- Assumes nothing.
 use mathlib.Core.Path.{_≡_, refl, sym, ap, _∙_}
 use mathlib.Core.Bool.{Bool, true, false, true≢false}
-use mathlib.Core.List.{List, [], _∷_, _++_}
+use mathlib.Core.List.{List, [], _∷_}
 use Prim.Native.Nat.{ℕ, _+_, _-_, _^_, _≤_, _<_}
 use native.Mathlib.Numerals.{add-one}
 use native.Mathlib.Omega.{arith}
@@ -29,7 +29,7 @@ use Rattle.play.specs.declared.Arrival.the-variants.{Came, Failed}
 use Rattle.play.specs.declared.Course.{Course}
 use Rattle.play.specs.declared.Course.the-variants.{On, Unread}
 use Rattle.play.specs.declared.Desk.{Desk}
-use Rattle.play.specs.Desk.{isClosed, opened, holds, Fits, linesNow, arrivalOf, countOf, Arrives, courseOf, toldOf, endedOf, heardOf}
+use Rattle.play.specs.Desk.{isClosed, holds, Fits, linesNow, arrivalOf, countOf, Arrives, courseOf, toldOf, endedOf, heardOf}
 use Rattle.play.specs.Desk.{Hears, Round, tells, ends, hears, Ran, starts, goes, Playing, mostRounds, Ends}
 
 -- ---- the bytes that are held

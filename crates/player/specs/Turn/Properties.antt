@@ -4,7 +4,7 @@ use mathlib.Core.Path.{_≡_, refl, sym, ap, ap₂, _∙_}
 use mathlib.Core.List.{List, _++_}
 use Prim.Native.Nat.{ℕ, zero, suc, _+_, _≤_, _<_, min}
 use native.Mathlib.Omega.{arith}
-use lib.ListN.{length, getD, replicate}
+use lib.ListN.{getD, replicate}
 use Rattle.answer.specs.declared.Answer.{Answer}
 use Rattle.answer.specs.declared.Answer.the-variants.{Good, No}
 use Rattle.codec.specs.Places.{partsTo}
@@ -18,8 +18,7 @@ use Rattle.rack.specs.Row.Properties.{over-at}
 use Rattle.lines.specs.declared.line.Line.the-variants as line
 use Rattle.lines.specs.Ascii.{ascii}
 use Rattle.lines.specs.Text.{decimal}
-use Rattle.lines.specs.Line.{rowText, sliceLine, lineText, lineRoom, Prints}
-use Rattle.lines.specs.Line.Properties.{prints-all}
+use Rattle.lines.specs.Line.{rowText, sliceLine, lineText}
 use Rattle.commands.specs.declared.command.Command.the-variants.{Slice, Release}
 use Rattle.player.specs.Turn.{rowRoom, lineOf, after, Turns}
 
@@ -60,26 +59,11 @@ module _ (s : State) (row : List ℕ) (next : Next) (sliced : Sliced s (replicat
       rw (fit, ← row-same (s .plan .cards) (λ (card : ℕ). getD row card 0) (rowByte s) (row-is e))
   told (No w) e = refl
 
-  pub slice-told : (out held : List ℕ) (at next-at : ℕ) → at + lineRoom ≤ length out
-      → Prints (line.Slice (next .answer) (s .clock) (s .plan .cards)) row out at next-at held
-      → Turns s Slice out at (record { state = next .state; next = next-at }) held
+  pub slice-told : Turns s Slice (record { state = next .state; line = line.Slice (next .answer) (s .clock) (s .plan .cards); row = row })
   unfolding lineOf lineText
-  slice-told out held at next-at l p =
-      record {
-        state = state-is;
-        line =
-            rw (← answer-is, ← told (next .answer) refl)
-            (prints-all (line.Slice (next .answer) (s .clock) (s .plan .cards)) row out at next-at held l p);
-        room = p .room;
-      }
+  slice-told = record { state = state-is; line = rw (← answer-is) (told (next .answer) refl) }
 
-pub release-told : (s : State) (kind e : ℕ) (next : Next) (row out held : List ℕ) (at next-at : ℕ) → next ≡ releaseOf s kind e
-    → at + lineRoom ≤ length out → Prints (line.Release kind e (next .answer)) row out at next-at held
-    → Turns s (Release kind e) out at (record { state = next .state; next = next-at }) held
+pub release-told : (s : State) (kind e : ℕ) (next : Next) (row : List ℕ) → next ≡ releaseOf s kind e
+    → Turns s (Release kind e) (record { state = next .state; line = line.Release kind e (next .answer); row = row })
 unfolding lineOf lineText after
-release-told s kind e next row out held at next-at q l p =
-    record {
-      state = ap (λ (n : Next). n .state) q;
-      line = rw (← q) (prints-all (line.Release kind e (next .answer)) row out at next-at held l p);
-      room = p .room;
-    }
+release-told s kind e next row q = record { state = ap (λ (n : Next). n .state) q; line = rw (← q) }

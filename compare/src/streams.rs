@@ -149,6 +149,10 @@ pub struct Program {
     pub arguments: Vec<String>,
 }
 
+/// No player prints more than so many bytes and so many again for each byte of its input; one that does is ended.
+const MOST_BEFORE: usize = 100;
+const MOST_A_COMMAND: usize = 50;
+
 /// Said of a program that takes its whole input though its output fails.
 const WENT_ON: &[u8] = b"(went on)\n";
 
@@ -179,7 +183,13 @@ impl Program {
             let mut lines = Vec::new();
             match output {
                 Some(_) if stream.end == End::OutputClosed => drop(output),
-                Some(mut pipe) => drop(pipe.read_to_end(&mut lines)?),
+                Some(pipe) => {
+                    let most = MOST_BEFORE + MOST_A_COMMAND * stream.input.len();
+                    pipe.take(most as u64).read_to_end(&mut lines)?;
+                    if lines.len() == most {
+                        child.kill()?;
+                    }
+                }
                 None => {}
             }
             let sent = writer.join().ok().flatten();

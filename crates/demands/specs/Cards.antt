@@ -11,6 +11,7 @@ use borrow.Author.Tests.{eq-eqb, eqb-true}
 use Rattle.laws.specs.Count.Properties.{count-extra, count-never}
 use Rattle.answer.specs.declared.Answer.the-variants.{Good}
 use Rattle.rack.specs.declared.State.{State}
+use Rattle.rack.specs.State.{InUse}
 use Rattle.rack.specs.Row.{rowByte, takes}
 use Rattle.rack.specs.Row.Properties.{row-takes, row-below, row-is}
 use Rattle.rack.specs.Slice.{sliceAnswer}
@@ -23,13 +24,13 @@ module _ (s : State) (bytes : List ℕ) (good : sliceAnswer s (length bytes) ≡
   abbrev byte : ℕ → ℕ
   byte card = getD (rowWritten s bytes) card 0
 
-  pub named-takes : (card i : ℕ) → card < s .plan .cards → namesKind i (byte card) ≡ true → (i < s .plan .kinds) × (takes s i card ≡ true)
+  pub named-takes : (card i : ℕ) → card < s .plan .cards → namesKind i (byte card) ≡ true → (InUse s i) × (takes s i card ≡ true)
   unfolding namesKind
   named-takes card i l e =
       let b : rowByte s card ≡ suc i = omega (arith, row-at s bytes good card l, eqb-true (byte card) (i + 1) e) in
       (row-below s card i b, row-takes s card i b)
 
-  pub takes-named : (card i : ℕ) → card < s .plan .cards → (i < s .plan .kinds) × (takes s i card ≡ true) → namesKind i (byte card) ≡ true
+  pub takes-named : (card i : ℕ) → card < s .plan .cards → (InUse s i) × (takes s i card ≡ true) → namesKind i (byte card) ≡ true
   unfolding namesKind
   takes-named card i l t =
       let ready = slice-says s (length bytes) good .advance .ready in

@@ -17,7 +17,7 @@ use Rattle.layout.specs.Table.{tableAnswer, tableLength}
 use Rattle.verdict.specs.Verdict.{widthOf, excessOf, fitted, admitted, judged}
 use Rattle.unit.specs.Start.{early, startable}
 use Rattle.rack.specs.declared.State.{State}
-use Rattle.rack.specs.State.{lastClock, unitOf, kindAt}
+use Rattle.rack.specs.State.{lastClock, unitOf, kindAt, used}
 use Rattle.rack.specs.Form.{inForm, ready}
 use Rattle.rack.specs.Rank.{gone}
 use Rattle.rack.specs.Start.{startAnswer}
@@ -92,7 +92,7 @@ ready-excess s = andThen-kept _ _ (check-excess (s .plan)) (refuse-kept (not (in
 pub release-excess : (s : State) (i e : ℕ) → ExcessKept (releaseAnswer s i e)
 unfolding releaseAnswer startable
 release-excess s i e =
-    andThen-kept _ _ (ready-excess s) (andThen-kept _ _ (refuse-kept (not (ltb i (s .plan .kinds))) _ (bare-kept 12)) (andThen-kept _ _ (refuse-kept (not (within (kindAt s i .length) e)) _ (bare-kept 13)) (andThen-kept _ _ (refuse-kept (early (kindAt s i .separation) (unitOf s i) (gone s i)) _ (bare-kept 14)) (refuse-kept (not (eqb (unitOf s i .left) 0)) _ (bare-kept 15)))))
+    andThen-kept _ _ (ready-excess s) (andThen-kept _ _ (refuse-kept (not (used s i)) _ (bare-kept 12)) (andThen-kept _ _ (refuse-kept (not (within (kindAt s i .length) e)) _ (bare-kept 13)) (andThen-kept _ _ (refuse-kept (early (kindAt s i .separation) (unitOf s i) (gone s i)) _ (bare-kept 14)) (refuse-kept (not (eqb (unitOf s i .left) 0)) _ (bare-kept 15)))))
 
 -- `State::slice`
 pub slice-excess : (s : State) (room : ℕ) → ExcessKept (sliceAnswer s room)

@@ -14,7 +14,7 @@ use Rattle.answer.specs.declared.Answer.the-variants.{Good}
 use Rattle.plan.specs.Order.{kindOf}
 use Rattle.unit.specs.declared.Unit.{Unit}
 use Rattle.rack.specs.declared.State.{State}
-use Rattle.rack.specs.State.{unitOf, kindAt}
+use Rattle.rack.specs.State.{unitOf, kindAt, InUse}
 use Rattle.rack.specs.Rank.{due, until}
 use Rattle.rack.specs.Release.{released, releaseAnswer, Releasable}
 use Rattle.rack.specs.Release.Properties.{release-says, release-unit, release-others}
@@ -62,7 +62,7 @@ one-more i left next (suc t) w slices l e n =
 -- kind i has been released
 pub record Under (i : ℕ) (s : State) : Type 0 where
   pub safe : Safe s
-  pub its-kind : i < s .plan .kinds
+  pub its-kind : InUse s i
   pub released : unitOf s i .released ≡ true
 
 module _ (i : ℕ) where

@@ -6,15 +6,15 @@ use mathlib.Core.Bool.{Bool, true, false, not}
 use Prim.Native.Nat.{ℕ, _<_}
 use native.Mathlib.Omega.{arith}
 use lib.Dec.{ltb, eqb}
-use borrow.Author.Tests.{lt-ltb, ltb-true, not-true, not-false, eqb-false}
+use borrow.Author.Tests.{not-true, not-false, eqb-false}
 use Rattle.answer.specs.declared.Answer.the-variants.{Good}
 use Rattle.answer.specs.declared.Refusal.the-variants.{Bare}
 use Rattle.answer.specs.Answer.{number, refuse, _andThen_}
 use Rattle.plan.specs.Order.{within}
 use Rattle.rack.specs.declared.State.{State}
-use Rattle.rack.specs.State.{lastClock, unitOf, kindAt}
+use Rattle.rack.specs.State.{lastClock, unitOf, kindAt, InUse, used}
 use Rattle.rack.specs.Form.{ready}
-use Rattle.rack.specs.Form.Properties.{ready-of}
+use Rattle.rack.specs.Form.Properties.{ready-of, used-of, used-says}
 use Rattle.rack.specs.Rank.{gone}
 use Rattle.unit.specs.Start.{early, startable}
 use Rattle.rack.specs.Release.{releaseAnswer}
@@ -57,7 +57,7 @@ module _ (s : State) (safe : Safe s) where
 
   module _ (i e : ℕ) where
     abbrev absent : Bool
-    absent = not (ltb i (s .plan .kinds))
+    absent = not (used s i)
 
     abbrev misfit : Bool
     misfit = not (within (kindAt s i .length) e)
@@ -72,8 +72,8 @@ module _ (s : State) (safe : Safe s) where
     unfolding releaseAnswer startable
     release-told = rw is-ready
 
-    its-kind : absent ≡ false → i < s .plan .kinds
-    its-kind e = ltb-true i (s .plan .kinds) (not-false (ltb i (s .plan .kinds)) e)
+    its-kind : absent ≡ false → InUse s i
+    its-kind e = used-says s i (not-false (used s i) e)
 
     -- "15: slices of an earlier unit are left": where 14 is not told, none are
     nothing-over : absent ≡ false → soon ≡ false → over ≡ true → ⊥
@@ -89,13 +89,13 @@ module _ (s : State) (safe : Safe s) where
     release-not-fifteen h = let t = fifteen absent misfit soon over (sym release-told ∙ h) in nothing-over (t .0) (t .1) (t .2)
 
     -- "14: released before, and fewer than T slices ago"
-    pub fourteen-early : number (releaseAnswer s i e) ≡ 14 → (i < s .plan .kinds) × (within (kindAt s i .length) e ≡ true) × (soon ≡ true)
+    pub fourteen-early : number (releaseAnswer s i e) ≡ 14 → (InUse s i) × (within (kindAt s i .length) e ≡ true) × (soon ≡ true)
     fourteen-early h =
         let t = fourteen absent misfit soon over (sym release-told ∙ h) in
         (its-kind (t .0), not-false (within (kindAt s i .length) e) (t .1), t .2)
 
-    pub early-fourteen : i < s .plan .kinds → within (kindAt s i .length) e ≡ true → soon ≡ true → number (releaseAnswer s i e) ≡ 14
-    early-fourteen l w c = release-told ∙ rw (lt-ltb i (s .plan .kinds) l, w, c)
+    pub early-fourteen : InUse s i → within (kindAt s i .length) e ≡ true → soon ≡ true → number (releaseAnswer s i e) ≡ 14
+    early-fourteen l w c = release-told ∙ rw (used-of s i l, w, c)
 
   -- ---- a slice
 

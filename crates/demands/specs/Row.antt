@@ -11,6 +11,7 @@ use Rattle.laws.specs.Count.{countTo}
 use Rattle.laws.specs.Count.Properties.{count-never, count-one, count-some}
 use Rattle.layout.specs.Layout.{held}
 use Rattle.rack.specs.declared.State.{State}
+use Rattle.rack.specs.State.{InUse}
 use Rattle.rack.specs.Form.{Ready}
 use Rattle.rack.specs.Rank.{activeKinds, served}
 use Rattle.rack.specs.Row.{rowByte, ofProject, cardsTaken}
@@ -34,7 +35,7 @@ module _ (s : State) (ready : Ready s) where
   pub kind-once : (i : ℕ) → cardsOf i ≤ 1
   kind-once i = count-one (s .plan .cards) (names i) (λ c d l m p q. stands-once s ready c d i (names-says i c p) (names-says i d q))
 
-  kind-stands : (i : ℕ) → i < s .plan .kinds → served s i ≡ true → 0 < cardsOf i
+  kind-stands : (i : ℕ) → InUse s i → served s i ≡ true → 0 < cardsOf i
   unfolding namesKind
   kind-stands i l e =
       let t = served-stands s ready i l e in
@@ -49,7 +50,7 @@ module _ (s : State) (ready : Ready s) where
       off card false t = refl
 
   -- "Each chosen kind": one that is served stands in the row once, any other nowhere
-  pub kind-cards : (i : ℕ) → i < s .plan .kinds → cardsOf i ≡ cond (served s i) 1 0
+  pub kind-cards : (i : ℕ) → InUse s i → cardsOf i ≡ cond (served s i) 1 0
   kind-cards i l = go (served s i) refl
     where
       go : (b : Bool) → served s i ≡ b → cardsOf i ≡ cond b 1 0

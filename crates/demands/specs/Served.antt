@@ -8,7 +8,7 @@ use native.Mathlib.Omega.{arith}
 use lib.ListN.{length}
 use Rattle.answer.specs.declared.Answer.the-variants.{Good}
 use Rattle.rack.specs.declared.State.{State}
-use Rattle.rack.specs.State.{unitOf}
+use Rattle.rack.specs.State.{unitOf, InUse}
 use Rattle.rack.specs.Rank.{served}
 use Rattle.rack.specs.Rank.Properties.{served-working, working-left}
 use Rattle.rack.specs.Advance.{advanced}
@@ -22,7 +22,7 @@ use Rattle.demands.specs.Safe.{Safe}
 use Rattle.demands.specs.View.{cardsFrom}
 use Rattle.demands.specs.View.Steps.{sliced-left}
 
-module _ (s : State) (safe : Safe s) (bytes : List ℕ) (good : sliceAnswer s (length bytes) ≡ Good) (i : ℕ) (l : i < s .plan .kinds) where
+module _ (s : State) (safe : Safe s) (bytes : List ℕ) (good : sliceAnswer s (length bytes) ≡ Good) (i : ℕ) (l : InUse s i) where
   falls : unitOf (advanced s) i .left ≡ unitOf s i .left - cond (served s i) 1 0
   falls = sliced-left s (slice-says s (length bytes) good .advance) (safe .places) i l
 

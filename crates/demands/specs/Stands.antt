@@ -11,7 +11,7 @@ use Rattle.laws.specs.Count.{countTo}
 use Rattle.laws.specs.Count.Properties.{count-cong}
 use Rattle.layout.specs.Layout.{held}
 use Rattle.rack.specs.declared.State.{State}
-use Rattle.rack.specs.State.{unitOf, kindAt}
+use Rattle.rack.specs.State.{unitOf, kindAt, InUse}
 use Rattle.rack.specs.Form.{Ready}
 use Rattle.rack.specs.View.{View, hasCard, activeIn, rankOf, takesCard}
 use Rattle.rack.specs.View.Properties.{chosen-of, rank-most}
@@ -40,7 +40,7 @@ module _ (s : State) (i : ℕ) where
     place-is = count-cong card (hasCard view) (holds (s .plan) j (s .clock)) (λ c l. sym (holds-has s j c))
 
     abbrev Stands : Type 0
-    Stands = (i < s .plan .kinds) × (0 < unitOf s i .left) × (holds (s .plan) j (s .clock) card ≡ true) × (rank s i ≡ place)
+    Stands = (InUse s i) × (0 < unitOf s i .left) × (holds (s .plan) j (s .clock) card ≡ true) × (rank s i ≡ place)
 
     takes-rank : takes s i card ≡ true → rank s i ≡ place
     unfolding takesCard rank
@@ -66,7 +66,7 @@ module _ (s : State) (i : ℕ) where
     stands-of ready t = row-is s ready card i (t .0) (takes-of (t .1) (t .2) (t .3))
 
   -- all of a project's kinds with slices left are among the first h, where they are no more than h
-  pub enough-served : Ready s → i < s .plan .kinds → 0 < unitOf s i .left → activeKinds s j ≤ held (s .plan) j (s .clock) →
+  pub enough-served : Ready s → InUse s i → 0 < unitOf s i .left → activeKinds s j ≤ held (s .plan) j (s .clock) →
       served s i ≡ true
   unfolding viewOf served activeKinds activeIn
   enough-served ready l w enough =
@@ -74,6 +74,6 @@ module _ (s : State) (i : ℕ) where
       let cards = view-held s ready j (ready .order .kind-at i l .its-project) in
       chosen-of view i (is-active w) (omega (arith, below, cards))
 
-  pub enough-stand : Ready s → i < s .plan .kinds → 0 < unitOf s i .left → activeKinds s j ≤ held (s .plan) j (s .clock) →
+  pub enough-stand : Ready s → InUse s i → 0 < unitOf s i .left → activeKinds s j ≤ held (s .plan) j (s .clock) →
       (card : ℕ) × (card < s .plan .cards) × (rowByte s card ≡ suc i)
   enough-stand ready l w enough = served-stands s ready i l (enough-served ready l w enough)

@@ -31,7 +31,7 @@ use Rattle.verdict.specs.Workload.{besides, partOf, workload}
 use Rattle.verdict.specs.Verdict.{widthOf, excessOf, fitted, admitted, judged}
 use Rattle.unit.specs.declared.Unit.{Unit}
 use Rattle.rack.specs.declared.State.{State}
-use Rattle.rack.specs.State.{freshOf, unitOf, kindAt}
+use Rattle.rack.specs.State.{freshOf, unitOf, kindAt, InUse}
 use Rattle.rack.specs.Form.{Ready}
 use Rattle.rack.specs.Rank.{gone, active, activeKinds, served}
 use Rattle.rack.specs.Start.Properties.{fresh-form, fresh-places}
@@ -110,7 +110,7 @@ fresh-running = record { plan = refl; ready = fresh-form enoughCards order; plac
 
 -- ---- every kind with slices left is served
 
-all-served : (s : State) (i : ℕ) → Running s → i < s .plan .kinds → 0 < unitOf s i .left → served s i ≡ true
+all-served : (s : State) (i : ℕ) → Running s → InUse s i → 0 < unitOf s i .left → served s i ≡ true
 unfolding activeKinds
 all-served s i r l w =
     let j = kindAt s i .project in
@@ -125,7 +125,7 @@ all-served s i r l w =
 
 pub record Waits (i : ℕ) (s : State) : Type 0 where
   pub running : Running s
-  pub its-kind : i < s .plan .kinds
+  pub its-kind : InUse s i
   pub released : unitOf s i .released ≡ true
   pub now : unitOf s i .at ≡ s .clock
   pub left : unitOf s i .left ≡ 1

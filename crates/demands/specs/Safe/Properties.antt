@@ -15,7 +15,7 @@ use Rattle.verdict.specs.Admission.Properties.{judged-in-order}
 use Rattle.unit.specs.declared.Unit.{Unit}
 use Rattle.rack.specs.declared.State.{State}
 use Rattle.unit.specs.Unit.{noUnit}
-use Rattle.rack.specs.State.{unitOf, kindAt, freshOf}
+use Rattle.rack.specs.State.{unitOf, kindAt, freshOf, InUse}
 use Rattle.unit.specs.Form.{UnitInForm}
 use Rattle.rack.specs.Rank.{gone, until, served}
 use Rattle.rack.specs.Start.{startAnswer, startOf}
@@ -38,7 +38,7 @@ use Rattle.demands.specs.Safe.{Safe}
 
 -- ---- what it says of a kind
 
-module _ (s : State) (safe : Safe s) (i : ℕ) (l : i < s .plan .kinds) where
+module _ (s : State) (safe : Safe s) (i : ℕ) (l : InUse s i) where
   abbrev j : ℕ
   j = kindAt s i .project
 

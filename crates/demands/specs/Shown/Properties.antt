@@ -11,7 +11,7 @@ use borrow.Author.Tests.{eq-eqb, ne-eqb}
 use Rattle.answer.specs.declared.Answer.the-variants.{Good}
 use Rattle.unit.specs.declared.Unit.{Unit}
 use Rattle.rack.specs.declared.State.{State}
-use Rattle.rack.specs.State.{unitOf}
+use Rattle.rack.specs.State.{unitOf, InUse}
 use Rattle.rack.specs.Rank.{gone}
 use Rattle.rack.specs.Release.{Releasable, released, releaseAnswer}
 use Rattle.rack.specs.Release.Properties.{release-says, release-unit, release-others}
@@ -47,7 +47,7 @@ clock-before = along-shown Rises (λ s x l. absurd (omega arith)) with-slice (λ
 -- kind i of the plan, in a safe state
 pub record Its (i : ℕ) (s : State) : Type 0 where
   pub safe : Safe s
-  pub its-kind : i < s .plan .kinds
+  pub its-kind : InUse s i
 
 -- a release clock: later where the kind is released again, and else the same
 abbrev pub Moved : Bool → ℕ → ℕ → Type 0

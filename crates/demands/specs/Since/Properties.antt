@@ -15,7 +15,7 @@ use Rattle.answer.specs.declared.Answer.the-variants.{Good, No}
 use Rattle.answer.specs.Answer.{ifGood}
 use Rattle.unit.specs.declared.Unit.{Unit}
 use Rattle.rack.specs.declared.State.{State}
-use Rattle.rack.specs.State.{unitOf, kindAt}
+use Rattle.rack.specs.State.{unitOf, kindAt, InUse}
 use Rattle.rack.specs.Rank.{gone}
 use Rattle.unit.specs.Start.{early}
 use Rattle.rack.specs.Release.{releaseAnswer, released, releaseOf, Releasable}
@@ -60,7 +60,7 @@ chosen P (No r) new old more since g h = h
 -- a safe state, of which a run tells so much of kind i
 pub record Told (i : ℕ) (s : State) (since : Since) : Type 0 where
   pub safe : Safe s
-  pub its-kind : i < s .plan .kinds
+  pub its-kind : InUse s i
   pub tells : Tells s i since
 
 module _ (i : ℕ) where

@@ -8,7 +8,7 @@ use native.Mathlib.Omega.{arith}
 use lib.ListN.{length}
 use Rattle.unit.specs.declared.Unit.{Unit}
 use Rattle.rack.specs.declared.State.{State}
-use Rattle.rack.specs.State.{unitOf, kindAt}
+use Rattle.rack.specs.State.{unitOf, kindAt, InUse}
 use Rattle.rack.specs.Rank.{gone, due, until, served}
 use Rattle.rack.specs.Release.{released, Releasable}
 use Rattle.rack.specs.Release.Properties.{release-unit, release-others}
@@ -23,7 +23,7 @@ use Rattle.demands.specs.View.Ranks.{view-serves}
 -- ---- a slice
 
 module _ (s : State) (may : Advanceable s) (places : length (s .unit) ≡ 16) where
-  module _ (i : ℕ) (l : i < s .plan .kinds) where
+  module _ (i : ℕ) (l : InUse s i) where
     pub sliced-released : unitOf (advanced s) i .released ≡ unitOf s i .released
     unfolding unitAfter
     sliced-released = ap (λ (v : Unit). v .released) (unit-after s may places i l)

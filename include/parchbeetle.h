@@ -66,7 +66,7 @@ extern "C" {
     field(clock, 4)       /* slices run, 0..1000000000 */
 
 #define PARCHBEETLE_UNIT_FIELDS(field)                                                  \
-    field(released, 1)    /* 1 if the kind was ever released, else 0 */                 \
+    field(released, 1)    /* 1 if the kind was ever released, else 0; any other is 10 */ \
     field(at, 4)          /* the clock at its last accepted release */                  \
     field(left, 2)        /* slices left */
 
@@ -95,7 +95,7 @@ extern "C" {
  * and so on. The image must be whole. A state image begins with its plan image, so
  * the functions of plan, project and kind take either. A place that is not there
  * reads as 0 and is not written. A value too wide for its field is stored as the
- * widest that fits, which is out of range for every field.
+ * widest that fits, which every call refuses.
  */
 
 /* ---- Answers */

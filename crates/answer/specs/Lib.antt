@@ -2,5 +2,6 @@
 -- Assumes nothing.
 pub mod Answer
 pub mod Word
+pub mod Numbers
 pub mod Outcome
 pub mod OneOutcome

@@ -2,15 +2,13 @@
 -- Assumes nothing.
 use mathlib.Core.Path.{_≡_, refl, ap}
 use mathlib.Core.Logic.{_≢_, _↔_}
-use mathlib.Core.Bool.{Bool, true, false, not}
+use mathlib.Core.Bool.{Bool, true, false, not, _&&_}
 use Prim.Native.Nat.{ℕ, zero, suc, _*_, _<_}
 use native.Mathlib.Omega.{arith}
 use lib.Dec.{leb, ltb, eqb}
 use Rattle.answer.specs.declared.Answer.{Answer}
 use Rattle.answer.specs.declared.Answer.the-variants.{Good, No}
-use Rattle.answer.specs.declared.Refusal.{Refusal}
-use Rattle.answer.specs.declared.Refusal.the-variants.{Bare, ByKind}
-use Rattle.answer.specs.Answer.{number, place, excess, refuse, _andThen_, eachTo}
+use Rattle.answer.specs.Answer.{notAdmitted, number, place, excess, refuse, _andThen_, eachTo}
 use Rattle.plan.specs.declared.Plan.{Plan}
 use Rattle.plan.specs.Order.{InOrder, kindOf, projectOf, sized, tidyProjects, tidyKinds, inRange, timed, budgets}
 use Rattle.plan.specs.Order.{sizes, unused, projectInRange, projectsInRange, kindInRange, kindInRangeAt, kindsInRange, budgetsFit}
@@ -23,9 +21,9 @@ use Rattle.verdict.specs.Admission.Properties.{order-first, order-next, refused
 -- ---- what holds of a good answer and of each refusal in an order holds of the whole
 
 module _ (P : Answer → Type 0) (good : P Good) where
-  of-refuse : (t : Bool) (r : Refusal) → P (No r) → P (refuse t r)
-  of-refuse true r h = h
-  of-refuse false r h = good
+  of-refuse : (t : Bool) (a : Answer) → P a → P (refuse t a)
+  of-refuse true a h = h
+  of-refuse false a h = good
 
   of-andThen : (a b : Answer) → P a → P b → P (a andThen b)
   of-andThen Good b p q = q
@@ -44,12 +42,12 @@ record Early (a : Answer) : Type 0 where
 
 check-early : (p : Plan) → Early (checked p)
 unfolding checked sizes unused ranges projectsInRange kindsInRange kindInRange budgetsFit
-check-early p = both _ _ counts (both _ _ (both _ _ projects-tidy kinds-tidy) (both _ _ projects (both _ _ kinds cells)))
+check-early p = both _ _ counts (both _ _ places (both _ _ projects (both _ _ kinds cells)))
   where
     none : Early Good
     none = record { below = omega arith }
 
-    test : (t : Bool) (r : Refusal) → Early (No r) → Early (refuse t r)
+    test : (t : Bool) (a : Answer) → Early a → Early (refuse t a)
     test = of-refuse Early none
 
     both : (a b : Answer) → Early a → Early b → Early (a andThen b)
@@ -61,11 +59,8 @@ check-early p = both _ _ counts (both _ _ (both _ _ projects-tidy kinds-tidy) (b
     counts : Early (sizes p)
     counts = test (not (sized p)) _ (record { below = omega arith })
 
-    projects-tidy : Early (refuse (not (tidyProjects p)) (Bare 3))
-    projects-tidy = test (not (tidyProjects p)) _ (record { below = omega arith })
-
-    kinds-tidy : Early (refuse (not (tidyKinds p)) (Bare 3))
-    kinds-tidy = test (not (tidyKinds p)) _ (record { below = omega arith })
+    places : Early (unused p)
+    places = test (not (tidyProjects p && tidyKinds p)) _ (record { below = omega arith })
 
     project : (j : ℕ) → Early (projectInRange p j)
     project j = test (not (inRange (p .cards) (p .frame) (projectOf p j))) _ (record { below = omega arith })
@@ -87,7 +82,7 @@ check-early p = both _ _ counts (both _ _ (both _ _ projects-tidy kinds-tidy) (b
 -- ---- the verdict
 
 abbrev Eight : Answer → Type 0
-Eight a = number a ≢ 0 → a ≡ No (ByKind 8 (place a) (excess a))
+Eight a = number a ≢ 0 → a ≡ notAdmitted (place a) (excess a)
 
 admitted-eight : (p : Plan) → Eight (admitted p)
 unfolding admitted fitted
@@ -97,7 +92,7 @@ admitted-eight p = of-each Eight none (p .kinds) (fitted p) each
     none h = absurd (h refl)
 
     each : (i : ℕ) → Eight (fitted p i)
-    each i = of-refuse Eight none (eqb (widthOf p i) 0) (ByKind 8 i (excessOf p i)) (λ h. refl)
+    each i = of-refuse Eight none (eqb (widthOf p i) 0) (notAdmitted i (excessOf p i)) (λ h. refl)
 
 eight-says : (p : Plan) (i x : ℕ) →
     let a = judged p .answer in

@@ -8,7 +8,7 @@ pub mod Since
 pub mod Named
 pub mod Shown
 pub mod Outcomes
-pub mod Excess
+pub mod Numbers
 pub mod Verdicts
 pub mod Deadlines
 pub mod Sufficient

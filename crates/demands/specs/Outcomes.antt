@@ -3,24 +3,26 @@
 -- Assumes nothing.
 use mathlib.Core.Path.{_≡_, refl, sym, ap, _∙_}
 use mathlib.Core.Logic.{_≢_}
-use mathlib.Core.List.{List, _++_}
+use mathlib.Core.List.{List}
 use Prim.Native.Nat.{ℕ}
-use lib.ListN.{length, drop, replicate}
+use lib.ListN.{length, replicate}
 use Rattle.plan.specs.declared.Plan.{Plan}
 use Rattle.answer.specs.declared.Answer.{Answer}
 use Rattle.answer.specs.declared.Answer.the-variants.{Good, No}
 use Rattle.answer.specs.declared.Refusal.{Refusal}
-use Rattle.answer.specs.Answer.{number, ifGood}
+use Rattle.answer.specs.Answer.{number}
+use Rattle.answer.specs.Outcome.{One, Lent}
 use Rattle.plan.specs.Record.{noPlan}
 use Rattle.plan_bytes.specs.declared.Written.{Written}
-use Rattle.plan_bytes.specs.Parts.{encoded, size}
 use Rattle.plan_bytes.specs.Reading.{readAnswer, readOf}
-use Rattle.plan_bytes.specs.Writing.{writeAnswer, counted, Writes}
+use Rattle.plan_bytes.specs.Writing.{writeAnswer, Writes}
+use Rattle.plan_reader.specs.OneOutcome.{read-one-outcome}
 use Rattle.plan_writer.specs.OneOutcome.{write-one-outcome}
 use Rattle.layout.specs.declared.table.TableWritten.{TableWritten}
-use Rattle.layout.specs.Table.{tableAnswer, tableLength, tableOver, Tabled}
+use Rattle.layout.specs.Table.{tableAnswer, Tabled}
 use Rattle.layout.specs.OneOutcome.{slot-table-one-outcome}
 use Rattle.verdict.specs.Verdict.{judged}
+use Rattle.verdict.specs.OneOutcome.{judge-one-outcome}
 use Rattle.verdict.specs.Admission.Properties.{none-refused}
 use Rattle.rack.specs.declared.State.{State}
 use Rattle.rack.specs.declared.Next.{Next}
@@ -29,27 +31,9 @@ use Rattle.rack.specs.Start.{startOf}
 use Rattle.rack.specs.Start.Properties.{start-refused}
 use Rattle.rack.specs.Release.{releaseOf}
 use Rattle.rack.specs.Release.Properties.{release-refused}
-use Rattle.rack.specs.Slice.{sliceOf, bufferAfter, Sliced}
+use Rattle.rack.specs.Slice.{Sliced}
 use Rattle.rack.specs.Slice.Properties.{slice-refused}
-use Rattle.rack.specs.OneOutcome.{slice-one-outcome}
-
--- one outcome meets a contract, and no other does
-pub record One {A : Type 0} (contract : A → Type 0) : Type 0 where
-  pub outcome : A
-  pub meets : contract outcome
-  pub only : (a : A) → contract a → a ≡ outcome
-
--- the contract of an operation that hands back a value
-one : {A : Type 0} (a : A) → One (λ r. r ≡ a)
-one a = record { outcome = a; meets = refl; only = λ r e. e }
-
--- what an operation with a lent buffer hands back, and the buffer as it leaves it
-pub record Lent (A : Type 0) : Type 0 where
-  pub result : A
-  pub buffer : List ℕ
-
-lent : {A : Type 0} (a b : Lent A) → (a .result ≡ b .result) × (a .buffer ≡ b .buffer) → a ≡ b
-lent a b e = λ i. record { result = e .0 i; buffer = e .1 i }
+use Rattle.rack.specs.OneOutcome.{start-one-outcome, release-one-outcome, slice-one-outcome}
 
 -- an answer that is not good, by its number
 refusal : (a : Answer) → number a ≢ 0 → (w : Refusal) × (a ≡ No w)
@@ -59,7 +43,7 @@ refusal (No w) h = (w, refl)
 -- ---- reading a plan
 
 pub reading : (bytes : List ℕ) → One (λ r. r ≡ readOf bytes)
-reading bytes = one (readOf bytes)
+reading = read-one-outcome
 
 -- "A refused read gives an all-zero plan and 0 bytes taken"
 pub reading-refused : (bytes : List ℕ) → number (readOf bytes .answer) ≢ 0 → (readOf bytes .plan ≡ noPlan) × (readOf bytes .taken ≡ 0)
@@ -69,10 +53,7 @@ reading-refused bytes h = let t = refusal (readAnswer bytes) h in (rw (t .1), rw
 -- ---- writing a plan
 
 pub writing : (p : Plan) (out : List ℕ) → One (λ (o : Lent Written). Writes p out (o .result) (o .buffer))
-writing p out = record { outcome = made; meets = record { result = refl; buffer = refl }; only = λ o c. lent o made (write-one-outcome p out (o .result) (made .result) (o .buffer) (made .buffer) c (record { result = refl; buffer = refl })) }
-  where
-    made : Lent Written
-    made = record { result = counted (writeAnswer p out) (size p); buffer = ifGood (writeAnswer p out) (encoded p ++ drop (size p) out) out }
+writing = write-one-outcome
 
 -- "0 on a refusal. Lent buffers keep every byte on a refusal"
 pub writing-refused : (p : Plan) (out after : List ℕ) (r : Written) → Writes p out r after → number (r .answer) ≢ 0 → (r .count ≡ 0) × (after ≡ out)
@@ -83,23 +64,20 @@ writing-refused p out after r c h =
 
 -- ---- writing the slot table
 
-pub tabling : (p : Plan) (out : List ℕ) → One (λ (o : Lent TableWritten). Tabled p out (o .buffer) (o .result))
-tabling p out = record { outcome = made; meets = record { answer = refl; count = refl; bytes = refl }; only = λ o c. lent o made (slot-table-one-outcome p out (o .buffer) (made .buffer) (o .result) (made .result) c (record { answer = refl; count = refl; bytes = refl })) }
-  where
-    made : Lent TableWritten
-    made = record { result = record { answer = tableAnswer p (length out); count = ifGood (tableAnswer p (length out)) (tableLength p) 0 }; buffer = ifGood (tableAnswer p (length out)) (tableOver p out) out }
+pub tabling : (p : Plan) (out : List ℕ) → One (λ (o : Lent TableWritten). Tabled p out (o .result) (o .buffer))
+tabling = slot-table-one-outcome
 
 -- "Lent buffers keep every byte on a refusal"
-pub tabling-refused : (p : Plan) (out after : List ℕ) (r : TableWritten) → Tabled p out after r → number (r .answer) ≢ 0 → (r .count ≡ 0) × (after ≡ out)
+pub tabling-refused : (p : Plan) (out after : List ℕ) (r : TableWritten) → Tabled p out r after → number (r .answer) ≢ 0 → (r .count ≡ 0) × (after ≡ out)
 tabling-refused p out after r c h =
     let t = refusal (r .answer) h in
-    let a : tableAnswer p (length out) ≡ No (t .0) = sym (c .answer) ∙ t .1 in
-    (c .count ∙ (rw a), c .bytes ∙ (rw a))
+    let a : tableAnswer p (length out) ≡ No (t .0) = ap (λ (x : TableWritten). x .answer) (sym (c .result)) ∙ t .1 in
+    (ap (λ (x : TableWritten). x .count) (c .result) ∙ (rw a), c .buffer ∙ (rw a))
 
 -- ---- the verdict
 
 pub judging : (p : Plan) → One (λ v. v ≡ judged p)
-judging p = one (judged p)
+judging = judge-one-outcome
 
 -- "A refused verdict gives k 0 for every kind"
 pub judging-refused : (p : Plan) → number (judged p .answer) ≢ 0 → judged p .width ≡ replicate 16 0
@@ -108,7 +86,7 @@ judging-refused p h = let t = refusal (judged p .answer) h in none-refused p (t 
 -- ---- a fresh start
 
 pub starting : (p : Plan) → One (λ n. n ≡ startOf p)
-starting p = one (startOf p)
+starting = start-one-outcome
 
 -- "a refused fresh start gives an all-zero state"
 pub starting-refused : (p : Plan) → number (startOf p .answer) ≢ 0 → startOf p .state ≡ noState
@@ -117,7 +95,7 @@ starting-refused p h = let t = refusal (startOf p .answer) h in start-refused p 
 -- ---- a release
 
 pub releasing : (s : State) (i e : ℕ) → One (λ n. n ≡ releaseOf s i e)
-releasing s i e = one (releaseOf s i e)
+releasing = release-one-outcome
 
 -- "a refused slice or release gives back the state handed in"
 pub releasing-refused : (s : State) (i e : ℕ) → number (releaseOf s i e .answer) ≢ 0 → releaseOf s i e .state ≡ s
@@ -126,10 +104,7 @@ releasing-refused s i e h = let t = refusal (releaseOf s i e .answer) h in relea
 -- ---- a slice
 
 pub slicing : (s : State) (bytes : List ℕ) → One (λ (o : Lent Next). Sliced s bytes (o .result) (o .buffer))
-slicing s bytes = record { outcome = made; meets = record { result = refl; buffer = refl }; only = λ o c. lent o made (slice-one-outcome s bytes (o .buffer) (made .buffer) (o .result) (made .result) c (record { result = refl; buffer = refl })) }
-  where
-    made : Lent Next
-    made = record { result = sliceOf s (length bytes); buffer = bufferAfter s bytes }
+slicing = slice-one-outcome
 
 -- "a refused slice .. gives back the state handed in", and the lent row keeps every byte
 pub slicing-refused : (s : State) (bytes after : List ℕ) (next : Next) → Sliced s bytes next after → number (next .answer) ≢ 0 → (next .state ≡ s) × (after ≡ bytes)

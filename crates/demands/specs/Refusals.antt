@@ -8,8 +8,7 @@ use native.Mathlib.Omega.{arith}
 use lib.Dec.{ltb, eqb}
 use borrow.Author.Tests.{not-true, not-false, eqb-false}
 use Rattle.answer.specs.declared.Answer.the-variants.{Good}
-use Rattle.answer.specs.declared.Refusal.the-variants.{Bare}
-use Rattle.answer.specs.Answer.{number, refuse, _andThen_}
+use Rattle.answer.specs.Answer.{bare, number, refuse, _andThen_}
 use Rattle.plan.specs.Order.{within}
 use Rattle.rack.specs.declared.State.{State}
 use Rattle.rack.specs.State.{lastClock, unitOf, kindAt, InUse, used}
@@ -27,7 +26,7 @@ use Rattle.demands.specs.Safe.Properties.{safe-none-left}
 -- ---- a release's refusals in their order
 
 abbrev told : (twelve thirteen fourteen fifteen : Bool) → ℕ
-told a b c d = number (refuse a (Bare 12) andThen (refuse b (Bare 13) andThen (refuse c (Bare 14) andThen refuse d (Bare 15))))
+told a b c d = number (refuse a (bare 12) andThen (refuse b (bare 13) andThen (refuse c (bare 14) andThen refuse d (bare 15))))
 
 no-ten : (a b c d : Bool) → told a b c d ≢ 10
 no-ten true b c d = omega arith
@@ -100,7 +99,7 @@ module _ (s : State) (safe : Safe s) where
   -- ---- a slice
 
   module _ (room : ℕ) where
-    slice-told : number (sliceAnswer s room) ≡ number (refuse (ltb room (s .plan .cards)) (Bare 9) andThen refuse (eqb (s .clock) lastClock) (Bare 11))
+    slice-told : number (sliceAnswer s room) ≡ number (refuse (ltb room (s .plan .cards)) (bare 9) andThen refuse (eqb (s .clock) lastClock) (bare 11))
     unfolding sliceAnswer roomFor timeLeft
     slice-told = rw is-ready
 
@@ -108,7 +107,7 @@ module _ (s : State) (safe : Safe s) where
     pub slice-not : (n : ℕ) → 0 < n → n ≢ 9 → n ≢ 11 → number (sliceAnswer s room) ≢ n
     slice-not n p q r h = go (ltb room (s .plan .cards)) (eqb (s .clock) lastClock) (sym slice-told ∙ h)
       where
-        go : (a b : Bool) → number (refuse a (Bare 9) andThen refuse b (Bare 11)) ≡ n → ⊥
+        go : (a b : Bool) → number (refuse a (bare 9) andThen refuse b (bare 11)) ≡ n → ⊥
         go true b e = q (sym e)
         go false true e = r (sym e)
         go false false e = omega arith

@@ -40,7 +40,8 @@ use Rattle.rack.specs.Slice.{sliceOf, Sliced}
 use Rattle.demands.specs.Run.{release, nextAfter, runFrom, after, noSlice, rowWritten}
 use Rattle.demands.specs.Named.{namesKind, namesProject, bytesIn, bytesNaming, Orderly, Apart}
 use Rattle.demands.specs.Shown.{shown, upTo, none, lastFrom, leftOf, restarted, kindsLeft}
-use Rattle.demands.specs.Outcomes.{Lent, reading, reading-refused, writing, writing-refused, tabling, tabling-refused}
+use Rattle.demands.specs.Outcomes.{reading, reading-refused, writing, writing-refused, tabling, tabling-refused}
+use Rattle.answer.specs.Outcome.{Lent}
 use Rattle.demands.specs.Outcomes.{judging, judging-refused, starting, starting-refused, releasing, releasing-refused}
 use Rattle.demands.specs.Outcomes.{slicing, slicing-refused}
 use Rattle.demands.specs.Verdicts.{admitted-when, least-given, refused-when, written-then-read, read-then-written, only-encoding}
@@ -81,7 +82,7 @@ writes-nothing r after c = writing-refused planA (replicate 21 7) after r c refu
     refused z = omega (arith, ap (λ (x : Written). number (x .answer)) (c .result), answers .write-short)
 
 -- its slot table takes eight bytes of nine, and none of seven
-pub writes-table : (o : Lent TableWritten) → Tabled planA (replicate 9 7) (o .buffer) (o .result) →
+pub writes-table : (o : Lent TableWritten) → Tabled planA (replicate 9 7) (o .result) (o .buffer) →
     (o .result .count ≡ 8) × (o .buffer ≡ 1 ∷ 1 ∷ 1 ∷ 2 ∷ 2 ∷ 2 ∷ 2 ∷ 2 ∷ 7 ∷ [])
 writes-table o c = (ap (λ (x : Lent TableWritten). x .result .count) same, ap (λ (x : Lent TableWritten). x .buffer) same)
   where
@@ -91,11 +92,11 @@ writes-table o c = (ap (λ (x : Lent TableWritten). x .result .count) same, ap (
     same : o ≡ said
     same = tabling planA (replicate 9 7) .only o c ∙ sym (tabling planA (replicate 9 7) .only said (answers .tables))
 
-pub tables-nothing : (r : TableWritten) (after : List ℕ) → Tabled planA (replicate 7 7) after r → after ≡ replicate 7 7
+pub tables-nothing : (r : TableWritten) (after : List ℕ) → Tabled planA (replicate 7 7) r after → after ≡ replicate 7 7
 tables-nothing r after c = tabling-refused planA (replicate 7 7) after r c refused .1
   where
     refused : number (r .answer) ≢ 0
-    refused z = omega (arith, ap number (c .answer), answers .table-short)
+    refused z = omega (arith, ap (λ (x : TableWritten). number (x .answer)) (c .result), answers .table-short)
 
 -- the verdict and the fresh start
 pub gives-ones : judging planA .outcome .width ≡ 1 ∷ 1 ∷ 1 ∷ replicate 13 0

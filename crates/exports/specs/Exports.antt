@@ -1,14 +1,12 @@
 -- What each exported function answers, and what the lent buffers hold then.
 -- Assumes nothing.
 use Prim.Native.Nat.{ℕ}
-use mathlib.Core.Path.{_≡_}
 use mathlib.Core.Bool.{not}
 use mathlib.Core.List.{List, _++_}
 use lib.ListN.{length, drop, getD}
 use Rattle.laws.specs.Written.{written}
 use Rattle.answer.specs.declared.Answer.{Answer}
-use Rattle.answer.specs.declared.Refusal.the-variants.{Bare}
-use Rattle.answer.specs.Answer.{refuse, _andThen_, ifGood}
+use Rattle.answer.specs.Answer.{bare, refuse, _andThen_, ifGood}
 use Rattle.plan.specs.Order.{checked}
 use Rattle.plan_bytes.specs.Parts.{encoded, size}
 use Rattle.plan_bytes.specs.Reading.{readOf}
@@ -23,7 +21,9 @@ use Rattle.rack.specs.Slice.{sliceAnswer}
 use Rattle.rack.specs.Row.{rowOver}
 use Rattle.images.specs.Image.{planSize, stateSize, planFrom, planImage, stateFrom, stateImage, releasedTold}
 use Rattle.images.specs.Lent.{room}
-use Rattle.exports.specs.Outcome.{told, Outcome}
+use Rattle.answer.specs.Word.{told}
+use Rattle.answer.specs.Outcome.{LeavesTwo}
+use Rattle.exports.specs.Outcome.{Outcome}
 pub mod Properties
 
 -- ---- a plan's image
@@ -80,7 +80,7 @@ Starts plan state r after = Outcome (freshAnswer plan state) 0 (stateImage (fres
 
 -- whether an image is a state's: 9, the record order, and 10 where a released byte is neither 0 nor 1
 unfoldable pub stateAnswer : List ℕ → Answer
-stateAnswer state = room state stateSize andThen (checked (planFrom state) andThen refuse (not (releasedTold state)) (Bare 10))
+stateAnswer state = room state stateSize andThen (checked (planFrom state) andThen refuse (not (releasedTold state)) (bare 10))
 
 -- `parchbeetle_release`: the image, then as a release answers
 unfoldable pub releasesAnswer : List ℕ → ℕ → ℕ → Answer
@@ -95,7 +95,7 @@ unfoldable pub slicesAnswer : List ℕ → List ℕ → Answer
 slicesAnswer state row = stateAnswer state andThen sliceAnswer (stateFrom state) (length row)
 
 -- the state after the slice, and its row
-pub record Slices (state row : List ℕ) (r : ℕ) (after cards : List ℕ) : Type 0 where
-  pub result : r ≡ told (slicesAnswer state row) 0
-  pub image : after ≡ ifGood (slicesAnswer state row) (stateImage (advanced (stateFrom state)) ++ drop stateSize state) state
-  pub row-bytes : cards ≡ ifGood (slicesAnswer state row) (rowOver (stateFrom state) row) row
+abbrev pub Slices : List ℕ → List ℕ → ℕ → List ℕ → List ℕ → Type 0
+Slices state row =
+    let a = slicesAnswer state row in
+    LeavesTwo (told a 0) (ifGood a (stateImage (advanced (stateFrom state)) ++ drop stateSize state) state) (ifGood a (rowOver (stateFrom state) row) row)

@@ -1,37 +1,13 @@
 // The functions that another language calls, on numbers and byte slices. A plan and a state cross
 // as images in lent buffers, and every function answers one number.
 ghost use mathlib.Core.Path.{_≡_};
-ghost use Prim.Native.Nat.{_≤_, _<_, min};
+ghost use Prim.Native.Nat.{_≤_, min};
 ghost use lib.ListN.{length};
 ghost use Rattle.laws.specs.Written.{written};
-ghost use Rattle.exports.specs.Outcome.{told};
+ghost use Rattle.answer.specs.Word.{told};
 ghost use Rattle.exports.specs.Exports.{checkAnswer, Reads, WritesBytes, WritesSlots, widthAt, Judges, Starts, Releases, Slices};
 use answer::Answer;
-use answer::Refusal;
 use rack::State;
-
-fn byte(x: u8) -> u64
-    ensures { λ r. ⌜ (r ≡ x) × (r < 256) ⌝ }
-{
-    x as u64
-}
-
-fn word(x: u32) -> u64
-    ensures { λ r. ⌜ (r ≡ x) × (r < 4294967296) ⌝ }
-{
-    x as u64
-}
-
-// The answer and the count as one number.
-fn told(answer: Answer, count: usize) -> u64
-    requires { ⌜ count < 65536 ⌝ }
-    ensures { λ r. ⌜ r ≡ told answer count ⌝ }
-{
-    byte(answer.number())
-        + byte(answer.place()) * 256
-        + count as u64 * 65536
-        + word(answer.excess()) * 4294967296
-}
 
 // Whether the plan of an image is in order.
 #[no_mangle]
@@ -41,11 +17,11 @@ pub extern "C" fn parchbeetle_check(plan: &[u8]) -> u64
     let found = image_reader::plan_of(plan);
     let seen = found.answer;
     let Answer::Good = seen else {
-        return told(seen, 0);
+        return seen.told(0);
     };
     let given = found.plan;
     let checked = given.check();
-    told(checked, 0)
+    checked.told(0)
 }
 
 // Reads plan bytes into an image.
@@ -56,13 +32,13 @@ pub extern "C" fn parchbeetle_read(bytes: &[u8], plan: &mut [u8]) -> u64
     let reading = plan_reader::read(bytes);
     let answer = reading.answer;
     let Answer::Good = answer else {
-        return told(answer, 0);
+        return answer.told(0);
     };
     let stored = image_writer::put_plan(reading.plan, plan);
     let Answer::Good = stored else {
-        return told(stored, 0);
+        return stored.told(0);
     };
-    told(stored, reading.taken)
+    stored.told(reading.taken as u16)
 }
 
 // Writes the bytes of an image's plan.
@@ -73,11 +49,11 @@ pub extern "C" fn parchbeetle_write(plan: &[u8], out: &mut [u8]) -> u64
     let found = image_reader::plan_of(plan);
     let seen = found.answer;
     let Answer::Good = seen else {
-        return told(seen, 0);
+        return seen.told(0);
     };
     let done = plan_writer::write(found.plan, out);
     let answer = done.answer;
-    told(answer, done.count)
+    answer.told(done.count as u16)
 }
 
 // Writes the slot table of an image's plan.
@@ -88,11 +64,11 @@ pub extern "C" fn parchbeetle_slot_table(plan: &[u8], out: &mut [u8]) -> u64
     let found = image_reader::plan_of(plan);
     let seen = found.answer;
     let Answer::Good = seen else {
-        return told(seen, 0);
+        return seen.told(0);
     };
     let table = layout::slot_table(found.plan, out);
     let answer = table.answer;
-    told(answer, table.count)
+    answer.told(table.count as u16)
 }
 
 fn put_widths(width: [u8; 16], k: &mut [u8])
@@ -112,19 +88,19 @@ pub extern "C" fn parchbeetle_verdict(plan: &[u8], k: &mut [u8]) -> u64
     let found = image_reader::plan_of(plan);
     let seen = found.answer;
     let Answer::Good = seen else {
-        return told(seen, 0);
+        return seen.told(0);
     };
     let verdict = verdict::judge(found.plan);
     let answer = verdict.answer;
     let Answer::Good = answer else {
-        return told(answer, 0);
+        return answer.told(0);
     };
     if k.len() < 16 {
-        return told(Answer::No(Refusal::Bare(9)), 0);
+        return Answer::bare(9).told(0);
     }
     let width = verdict.width;
     put_widths(width, k);
-    told(answer, 0)
+    answer.told(0)
 }
 
 // The fresh state of an image's plan, as an image.
@@ -135,14 +111,14 @@ pub extern "C" fn parchbeetle_fresh(plan: &[u8], state: &mut [u8]) -> u64
     let found = image_reader::plan_of(plan);
     let seen = found.answer;
     let Answer::Good = seen else {
-        return told(seen, 0);
+        return seen.told(0);
     };
     let start = State::start(found.plan);
     let answer = start.answer;
     let Answer::Good = answer else {
-        return told(answer, 0);
+        return answer.told(0);
     };
-    told(image_writer::put_state(start.state, state), 0)
+    image_writer::put_state(start.state, state).told(0)
 }
 
 // The kind, or 16: no plan has so many, so that what is too large stays so.
@@ -173,15 +149,15 @@ pub extern "C" fn parchbeetle_release(state: &mut [u8], kind: u64, e: u64) -> u6
     let found = image_reader::state_of(state);
     let seen = found.answer;
     let Answer::Good = seen else {
-        return told(seen, 0);
+        return seen.told(0);
     };
     let given = found.state;
     let next = given.release(limited_kind(kind), limited_length(e));
     let answer = next.answer;
     let Answer::Good = answer else {
-        return told(answer, 0);
+        return answer.told(0);
     };
-    told(image_writer::put_state(next.state, state), 0)
+    image_writer::put_state(next.state, state).told(0)
 }
 
 // Runs a slice, in a state's image, and writes its row.
@@ -192,13 +168,13 @@ pub extern "C" fn parchbeetle_slice(state: &mut [u8], row: &mut [u8]) -> u64
     let found = image_reader::state_of(state);
     let seen = found.answer;
     let Answer::Good = seen else {
-        return told(seen, 0);
+        return seen.told(0);
     };
     let given = found.state;
     let after = given.slice(row);
     let answer = after.answer;
     let Answer::Good = answer else {
-        return told(answer, 0);
+        return answer.told(0);
     };
-    told(image_writer::put_state(after.state, state), 0)
+    image_writer::put_state(after.state, state).told(0)
 }

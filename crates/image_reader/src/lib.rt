@@ -5,13 +5,11 @@ ghost use Prim.Native.Nat.{_+_, _≤_};
 ghost use lib.ListN.{length, drop};
 ghost use Rattle.codec.specs.Bytes.{numberTo};
 ghost use Rattle.answer.specs.declared.Answer.the-variants.{No};
-ghost use Rattle.answer.specs.declared.Refusal.the-variants.{Bare};
-ghost use Rattle.answer.specs.Answer.{_andThen_};
+ghost use Rattle.answer.specs.Answer.{bare, _andThen_};
 ghost use Rattle.plan.specs.Order.{checked};
 ghost use Rattle.images.specs.Image.{planSize, stateSize, clockPlace, unitWidths, field, projectFrom, kindFrom, clockFrom, unitFrom, projectsFrom, kindsFrom, unitsFrom, planFrom, stateFrom, releasedTold};
 ghost use Rattle.images.specs.Lent.{planFound, stateFound};
 use answer::Answer;
-use answer::Refusal;
 use images::BITS_8;
 use images::BITS_16;
 use images::BITS_24;
@@ -172,13 +170,13 @@ fn released_told(s: &[u8]) -> bool
 
 // Of an image with some other released byte: the record order, 10.
 fn no_state(plan: Plan) -> Answer
-    ensures { λ r. ⌜ r ≡ (checked plan andThen No (Bare 10)) ⌝ }
+    ensures { λ r. ⌜ r ≡ (checked plan andThen bare 10) ⌝ }
 {
     let checked = plan.check();
     let Answer::Good = checked else {
         return checked;
     };
-    Answer::No(Refusal::Bare(10))
+    Answer::bare(10)
 }
 
 // The plan that an image says, whatever its fields hold: 9.
@@ -187,7 +185,7 @@ pub fn plan_of(image: &[u8]) -> PlanFound
 {
     if image.len() < PLAN {
         return PlanFound {
-            answer: Answer::No(Refusal::Bare(9)),
+            answer: Answer::bare(9),
             plan: Plan::empty(),
         };
     }
@@ -204,7 +202,7 @@ pub fn state_of(image: &[u8]) -> StateFound
 {
     if image.len() < STATE {
         return StateFound {
-            answer: Answer::No(Refusal::Bare(9)),
+            answer: Answer::bare(9),
             state: State::empty(),
         };
     }

@@ -2,10 +2,10 @@
 -- Assumes nothing.
 use mathlib.Core.List.{List}
 use Prim.Native.Nat.{ℕ}
-use Rattle.plan.specs.declared.Plan.{Plan}
-use Rattle.answer.specs.declared.Answer.{Answer}
 use Rattle.answer.specs.Outcome.{One, Lent}
 use Rattle.answer.specs.Outcome.Properties.{leaves-one}
+use Rattle.plan.specs.declared.Plan.{Plan}
+use Rattle.answer.specs.declared.Answer.{Answer}
 use Rattle.rack.specs.declared.State.{State}
 use Rattle.images.specs.Lent.{StoresPlan, StoresState}
 

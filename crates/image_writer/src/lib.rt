@@ -12,7 +12,6 @@ ghost use Rattle.codec.specs.Places.{putTo};
 ghost use Rattle.images.specs.Image.{countWidths, projectWidths, kindWidths, clockWidths, unitWidths, planSize, stateSize, projectPlace, kindPlace, clockPlace, unitPlace, countFields, projectFields, kindFields, unitFields, projectBytesAt, kindBytesAt, unitBytesAt, planImage, stateImage};
 ghost use Rattle.images.specs.Lent.{StoresPlan, StoresState};
 use answer::Answer;
-use answer::Refusal;
 use images::BITS_8;
 use images::BITS_16;
 use images::BITS_24;
@@ -169,7 +168,7 @@ pub fn put_plan(plan: Plan, image: &mut [u8]) -> Answer
     ensures { λ r. ⌜ StoresPlan plan (now (image .entry)) r (now (image .exit)) ⌝ }
 {
     if image.len() < PLAN {
-        return Answer::No(Refusal::Bare(9));
+        return Answer::bare(9);
     }
     store_plan(plan, image);
     Answer::Good
@@ -180,7 +179,7 @@ pub fn put_state(state: State, image: &mut [u8]) -> Answer
     ensures { λ r. ⌜ StoresState state (now (image .entry)) r (now (image .exit)) ⌝ }
 {
     if image.len() < STATE {
-        return Answer::No(Refusal::Bare(9));
+        return Answer::bare(9);
     }
     store_state(state, image);
     Answer::Good

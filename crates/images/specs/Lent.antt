@@ -8,10 +8,9 @@ use lib.ListN.{length, drop}
 use Rattle.plan.specs.declared.Plan.{Plan}
 use Rattle.answer.specs.declared.Answer.{Answer}
 use Rattle.answer.specs.declared.Answer.the-variants.{Good, No}
-use Rattle.answer.specs.declared.Refusal.the-variants.{Bare}
 use Rattle.answer.specs.Outcome.{Leaves}
 use Rattle.plan.specs.Record.{noPlan}
-use Rattle.answer.specs.Answer.{refuse, _andThen_, ifGood}
+use Rattle.answer.specs.Answer.{bare, refuse, _andThen_, ifGood}
 use Rattle.plan.specs.Order.{checked}
 use Rattle.rack.specs.declared.State.{State}
 use Rattle.rack.specs.State.{noState}
@@ -22,7 +21,7 @@ pub mod Properties
 
 -- "9: buffer shorter than needed"
 abbrev pub room : List ℕ → ℕ → Answer
-room s needed = refuse (ltb (length s) needed) (Bare 9)
+room s needed = refuse (ltb (length s) needed) (bare 9)
 
 -- ---- found
 
@@ -32,7 +31,7 @@ planFound s = record { answer = room s planSize; plan = ifGood (room s planSize)
 
 -- 9; and 10 where a released byte is neither 0 nor 1, after the plan's own refusals
 unfoldable pub foundAnswer : List ℕ → Answer
-foundAnswer s = room s stateSize andThen cond (releasedTold s) Good (checked (planFrom s) andThen No (Bare 10))
+foundAnswer s = room s stateSize andThen cond (releasedTold s) Good (checked (planFrom s) andThen bare 10)
 
 -- the state that an image says, or a refusal and an all-zero state
 unfoldable pub stateFound : List ℕ → StateFound

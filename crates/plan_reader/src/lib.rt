@@ -11,7 +11,6 @@ ghost use Rattle.plan.specs.Record.{noPlan};
 ghost use Rattle.plan_bytes.specs.Parts.{projectsFrom, kindsFrom, headed, decoded, size};
 ghost use Rattle.plan_bytes.specs.Reading.{projectsSpare, kindsSpare, placesSpare, headerSpare, bodyAnswer, readOf, reading};
 use answer::Answer;
-use answer::Refusal;
 use plan::Kind;
 use plan::Plan;
 use plan::Project;
@@ -123,11 +122,11 @@ fn body(bytes: &[u8], plan: Plan, spare: u8) -> Reading
 {
     let total = size(plan);
     if bytes.len() < total {
-        return refused(Answer::No(Refusal::Bare(1)));
+        return refused(Answer::bare(1));
     }
     let placed = places(bytes, plan);
     if !both(spare == 0, placed.clean) {
-        return refused(Answer::No(Refusal::Bare(3)));
+        return refused(Answer::bare(3));
     }
     let plan = placed.plan;
     let checked = plan.check();
@@ -146,7 +145,7 @@ pub fn read(bytes: &[u8]) -> Reading
     ensures { λ r. ⌜ r ≡ readOf (now (bytes .entry)) ⌝ }
 {
     if bytes.len() < 3 {
-        return refused(Answer::No(Refusal::Bare(1)));
+        return refused(Answer::bare(1));
     }
     let header = part::header_from(bytes);
     let plan = header.plan;

@@ -10,7 +10,6 @@ ghost use Rattle.plan_bytes.specs.Parts.{size, encoded, projectBytesAt, kindByt
 ghost use Rattle.codec.specs.Places.{putTo};
 ghost use Rattle.plan_bytes.specs.Writing.{Writes};
 use answer::Answer;
-use answer::Refusal;
 use plan::Plan;
 use plan_bytes::Written;
 use plan_bytes::size;
@@ -62,7 +61,7 @@ pub fn write(plan: Plan, out: &mut [u8]) -> Written
     let count = size(plan);
     if out.len() < count {
         return Written {
-            answer: Answer::No(Refusal::Bare(9)),
+            answer: Answer::bare(9),
             count: 0,
         };
     }

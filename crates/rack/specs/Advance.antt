@@ -5,8 +5,7 @@ use mathlib.Core.Bool.{cond}
 use lib.Dec.{eqb}
 use Rattle.laws.specs.Written.{written}
 use Rattle.answer.specs.declared.Answer.{Answer}
-use Rattle.answer.specs.declared.Refusal.the-variants.{Bare}
-use Rattle.answer.specs.Answer.{refuse}
+use Rattle.answer.specs.Answer.{bare, refuse}
 use Rattle.unit.specs.declared.Unit.{Unit}
 use Rattle.rack.specs.declared.State.{State}
 use Rattle.rack.specs.State.{lastClock, unitOf, kindPlaces}
@@ -24,7 +23,7 @@ advanced s = record { plan = s .plan; clock = s .clock + 1; unit = written (kind
 
 -- "11: clock is 1,000,000,000"
 unfoldable pub timeLeft : State → Answer
-timeLeft s = refuse (eqb (s .clock) lastClock) (Bare 11)
+timeLeft s = refuse (eqb (s .clock) lastClock) (bare 11)
 
 -- what advancing needs: none of the record order, 10 and 11
 pub record Advanceable (s : State) : Type 0 where

@@ -6,8 +6,7 @@ use mathlib.Core.Bool.{Bool, not, _&&_}
 use lib.Dec.{leb}
 use Rattle.laws.specs.All.{allTo}
 use Rattle.answer.specs.declared.Answer.{Answer}
-use Rattle.answer.specs.declared.Refusal.the-variants.{Bare}
-use Rattle.answer.specs.Answer.{refuse, _andThen_}
+use Rattle.answer.specs.Answer.{bare, refuse, _andThen_}
 use Rattle.plan.specs.Order.{InOrder, checked}
 use Rattle.unit.specs.Unit.{noUnit}
 use Rattle.unit.specs.Form.{UnitInForm, fitsPlace}
@@ -25,7 +24,7 @@ inForm s = leb (s .clock) lastClock && allTo 16 (placeInForm s)
 
 -- "the record order, 10"
 unfoldable pub ready : State → Answer
-ready s = checked (s .plan) andThen refuse (not (inForm s)) (Bare 10)
+ready s = checked (s .plan) andThen refuse (not (inForm s)) (bare 10)
 
 -- ---- what a good answer says, place by place
 

@@ -4,8 +4,7 @@ use Prim.Native.Nat.{ℕ}
 use mathlib.Core.Bool.{true, not}
 use lib.ListN.{set}
 use Rattle.answer.specs.declared.Answer.{Answer}
-use Rattle.answer.specs.declared.Refusal.the-variants.{Bare}
-use Rattle.answer.specs.Answer.{refuse, _andThen_}
+use Rattle.answer.specs.Answer.{bare, refuse, _andThen_}
 use Rattle.unit.specs.declared.Unit.{Unit}
 use Rattle.unit.specs.Start.{Startable, startable}
 use Rattle.rack.specs.declared.State.{State}
@@ -17,7 +16,7 @@ pub mod Properties
 
 -- "Release: the record order, 10, 12, 13, 14, 15"
 unfoldable pub releaseAnswer : State → ℕ → ℕ → Answer
-releaseAnswer s i e = ready s andThen (refuse (not (used s i)) (Bare 12) andThen startable (kindAt s i) (unitOf s i) (gone s i) e)
+releaseAnswer s i e = ready s andThen (refuse (not (used s i)) (bare 12) andThen startable (kindAt s i) (unitOf s i) (gone s i) e)
 
 -- the unit that starts: "sets that clock and sets left to e"
 abbrev pub startedUnit : State → ℕ → Unit

@@ -5,8 +5,7 @@ use mathlib.Core.List.{List}
 use lib.Dec.{ltb}
 use lib.ListN.{length}
 use Rattle.answer.specs.declared.Answer.{Answer}
-use Rattle.answer.specs.declared.Refusal.the-variants.{Bare}
-use Rattle.answer.specs.Answer.{refuse, _andThen_, ifGood}
+use Rattle.answer.specs.Answer.{bare, refuse, _andThen_, ifGood}
 use Rattle.answer.specs.Outcome.{Leaves}
 use Rattle.rack.specs.declared.State.{State}
 use Rattle.rack.specs.declared.Next.{Next}
@@ -18,7 +17,7 @@ pub mod Properties
 
 -- "9: buffer shorter than needed", for a lent row of that many bytes
 unfoldable pub roomFor : State → ℕ → Answer
-roomFor s room = refuse (ltb room (s .plan .cards)) (Bare 9)
+roomFor s room = refuse (ltb room (s .plan .cards)) (bare 9)
 
 -- "Slice: the record order, 10, 9, 11"
 unfoldable pub sliceAnswer : State → ℕ → Answer

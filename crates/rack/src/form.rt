@@ -3,7 +3,6 @@ ghost use mathlib.Core.Path.{_≡_};
 ghost use Rattle.rack.specs.Form.{inForm, ready};
 use crate::State;
 use answer::Answer;
-use answer::Refusal;
 
 impl State {
     fn in_form(self) -> bool
@@ -32,7 +31,7 @@ impl State {
             return checked;
         };
         if !self.in_form() {
-            return Answer::No(Refusal::Bare(10));
+            return Answer::bare(10);
         }
         Answer::Good
     }

@@ -4,7 +4,6 @@ ghost use Rattle.rack.specs.Release.{releaseAnswer, releaseOf};
 use crate::Next;
 use crate::State;
 use answer::Answer;
-use answer::Refusal;
 use unit::Unit;
 
 impl State {
@@ -17,7 +16,7 @@ impl State {
             return checked;
         };
         if !self.in_use(kind) {
-            return Answer::No(Refusal::Bare(12));
+            return Answer::bare(12);
         }
         let plan = self.plan;
         let unit = self.unit[kind];

@@ -7,7 +7,6 @@ ghost use Rattle.rack.specs.Slice.{sliceAnswer, Sliced};
 use crate::Next;
 use crate::State;
 use answer::Answer;
-use answer::Refusal;
 
 impl State {
     // The record order, 10, 9, 11.
@@ -20,10 +19,10 @@ impl State {
         };
         let plan = self.plan;
         if room < plan.cards as usize {
-            return Answer::No(Refusal::Bare(9));
+            return Answer::bare(9);
         }
         if self.clock == State::LAST {
-            return Answer::No(Refusal::Bare(11));
+            return Answer::bare(11);
         }
         Answer::Good
     }

@@ -38,7 +38,7 @@ pub record Table : Type 0 where
   pub P1-read : readOf bytesA ≡ record { answer = Good; plan = planA; taken = 22 }
   pub P1-written : encoded planA ≡ bytesA
   -- "P2 A's slot table: card 0 is 1 1 1 2, card 1 is 2 2 2 2."
-  pub P2 : Tabled planA (replicate 8 0) (1 ∷ 1 ∷ 1 ∷ 2 ∷ 2 ∷ 2 ∷ 2 ∷ 2 ∷ []) (record { answer = Good; count = 8 })
+  pub P2 : Tabled planA (replicate 8 0) (record { answer = Good; count = 8 }) (1 ∷ 1 ∷ 1 ∷ 2 ∷ 2 ∷ 2 ∷ 2 ∷ 2 ∷ [])
   -- "P3 A, project 0: S(1,t) for t = 0, 1, 3, 4, 8 is 0, 0, 2, 3, 6."
   pub P3 : map (supply 4 (held planA 0) 1) (0 ∷ 1 ∷ 3 ∷ 4 ∷ 8 ∷ []) ≡ 0 ∷ 0 ∷ 2 ∷ 3 ∷ 6 ∷ []
   -- "P4 A, project 1: S(1,4) = 4, S(2,4) = 5, S(2,1) = 1, S(2,3) = 3."

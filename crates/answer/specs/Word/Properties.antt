@@ -8,7 +8,8 @@ use Rattle.answer.specs.Answer.{number, place, excess}
 use Rattle.answer.specs.Word.{told, Holds, Decodes}
 
 -- the parts as the code finds and widens them
-pub told-is : (a : Answer) (k n j p c y x : ℕ) → k ≡ number a → n ≡ k → j ≡ place a → p ≡ j → y ≡ excess a → x ≡ y → n + p * 256 + c * 65536 + x * 4294967296 ≡ told a c
+pub told-is : (a : Answer) (k n j p c y x : ℕ) → k ≡ number a → n ≡ k → j ≡ place a → p ≡ j → y ≡ excess a → x ≡ y →
+    n + p * 256 + c * 65536 + x * 4294967296 ≡ told a c
 unfolding told
 told-is a k n j p c y x d e f g h i = rw (e, d, g, f, i, h)
 

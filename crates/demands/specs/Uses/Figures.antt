@@ -297,7 +297,7 @@ pub record Answered : Type 0 where
   pub read-short : number (readOf (0x22 ∷ 0x18 ∷ []) .answer) ≡ 1
   pub writes : Writes planA (replicate 23 7) (record { answer = Good; count = 22 }) (bytesA ++ 7 ∷ [])
   pub write-short : number (writeAnswer planA (replicate 21 7)) ≡ 9
-  pub tables : Tabled planA (replicate 9 7) (1 ∷ 1 ∷ 1 ∷ 2 ∷ 2 ∷ 2 ∷ 2 ∷ 2 ∷ 7 ∷ []) (record { answer = Good; count = 8 })
+  pub tables : Tabled planA (replicate 9 7) (record { answer = Good; count = 8 }) (1 ∷ 1 ∷ 1 ∷ 2 ∷ 2 ∷ 2 ∷ 2 ∷ 2 ∷ 7 ∷ [])
   pub table-short : number (tableAnswer planA 7) ≡ 9
   pub widths-A : judged planA .width ≡ 1 ∷ 1 ∷ 1 ∷ replicate 13 0
   pub starts : startOf planA ≡ record { answer = Good; state = freshOf planA }
@@ -314,7 +314,7 @@ answers = record {
   read-short = refl;
   writes = record { result = refl; buffer = refl };
   write-short = refl;
-  tables = record { answer = refl; count = refl; bytes = refl };
+  tables = record { result = refl; buffer = refl };
   table-short = refl;
   widths-A = refl;
   starts = refl;

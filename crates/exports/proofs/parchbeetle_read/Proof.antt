@@ -1,7 +1,7 @@
 -- `exports::parchbeetle_read` meets its contract.
 -- Assumes nothing.
 use Rattle.exports.specs.Exports.Properties.{read-count, read-refused, read-short, read-good}
-use borrow.Author.Needs.{needs}
+use borrow.Author.Needs.{fits-under, needs}
 use Rattle.exports.proofs.parchbeetle_read.Statement.{statement}
 use Rattle.exports.proofs.parchbeetle_read.Tie as tie
 
@@ -38,8 +38,11 @@ same-length c = search needs
 returns-2 : tie.Need-returns-2
 returns-2 c = search read-short
 
+cast-told : tie.Need-cast-told
+cast-told c = fits-under _ _ 65536 (search read-count) tt
+
 told-requires-3 : tie.Need-told-requires-3
-told-requires-3 c κs = search (read-count, needs)
+told-requires-3 c κs = search needs
 
 same-length-2 : tie.Need-same-length-2
 same-length-2 c = search needs
@@ -62,6 +65,7 @@ parchbeetle-read-spec =
     told-requires-2
     same-length
     returns-2
+    cast-told
     told-requires-3
     same-length-2
     returns-3)

@@ -26,8 +26,11 @@ returns c = search unfound-outcome
 slot-table-requires : tie.Need-slot-table-requires
 slot-table-requires c κs = search needs
 
+cast-told : tie.Need-cast-told
+cast-told c = search (slots-count, needs)
+
 told-requires-2 : tie.Need-told-requires-2
-told-requires-2 c κs = search (slots-count, needs)
+told-requires-2 c κs = search needs
 
 same-length : tie.Need-same-length
 same-length c = search needs
@@ -45,6 +48,7 @@ parchbeetle-slot-table-spec =
     told-requires
     returns
     slot-table-requires
+    cast-told
     told-requires-2
     same-length
     returns-2)

@@ -38,6 +38,9 @@ told-requires-2 c κs = search needs
 returns-2 : tie.Need-returns-2
 returns-2 c = search judge-refused
 
+bare-requires : tie.Need-bare-requires
+bare-requires c κs = search needs
+
 told-requires-3 : tie.Need-told-requires-3
 told-requires-3 c κs = search needs
 
@@ -70,6 +73,7 @@ parchbeetle-verdict-spec =
     enum-told-4
     told-requires-2
     returns-2
+    bare-requires
     told-requires-3
     returns-3
     put-widths-requires

@@ -26,8 +26,11 @@ returns c = search unfound-outcome
 write-requires : tie.Need-write-requires
 write-requires c κs = search needs
 
+cast-told : tie.Need-cast-told
+cast-told c = search (write-count, needs)
+
 told-requires-2 : tie.Need-told-requires-2
-told-requires-2 c κs = search (write-count, needs)
+told-requires-2 c κs = search needs
 
 same-length : tie.Need-same-length
 same-length c = search needs
@@ -45,6 +48,7 @@ parchbeetle-write-spec =
     told-requires
     returns
     write-requires
+    cast-told
     told-requires-2
     same-length
     returns-2)

@@ -15,8 +15,7 @@ use Rattle.plan.specs.declared.Plan.{Plan}
 use Rattle.answer.specs.declared.Answer.{Answer}
 use Rattle.answer.specs.declared.Answer.the-variants.{Good, No}
 use Rattle.answer.specs.declared.Refusal.{Refusal}
-use Rattle.answer.specs.declared.Refusal.the-variants.{Bare}
-use Rattle.answer.specs.Answer.{refuse, _andThen_, ifGood}
+use Rattle.answer.specs.Answer.{bare, refuse, _andThen_, ifGood}
 use Rattle.answer.specs.Answer.Properties.{andThen-left, opened-no, opened-on}
 use Rattle.plan.specs.Order.{checked, within, InOrder}
 use Rattle.plan.specs.Order.Properties.{in-order}
@@ -46,7 +45,7 @@ use Rattle.images.specs.declared.StateFound.{StateFound}
 use Rattle.images.specs.Image.{planSize, stateSize, planFrom, planImage, stateFrom, stateImage, releasedTold}
 use Rattle.images.specs.Lent.{room, planFound, foundAnswer, stateFound, StoresPlan, StoresState}
 use Rattle.images.specs.Lent.Properties.{short-room, long-room, plan-room, plan-is, plan-no, plan-on, state-room, state-is, state-no, state-on}
-use Rattle.exports.specs.Outcome.{told}
+use Rattle.answer.specs.Word.{told}
 use Rattle.exports.specs.Outcome.Properties.{refused-outcome, good-outcome, stored-outcome, uncounted}
 use Rattle.exports.specs.Exports.{checkAnswer, readsAnswer, Reads, writesAnswer, WritesBytes, slotsAnswer, WritesSlots, verdictAnswer, widthAt, Judges, freshAnswer, Starts, stateAnswer, releasesAnswer, Releases, slicesAnswer, Slices}
 
@@ -100,7 +99,7 @@ read-good bytes plan after v b r e g t n h = read-stored bytes plan after v b r 
 
 good-size : (p : Plan) (out : List ℕ) (a : Answer) → writeAnswer p out ≡ a → ifGood a (size p) 0 < 65536
 unfolding writeAnswer
-good-size p out Good e = size-most p (andThen-left (checked p) (refuse (ltb (length out) (size p)) (Bare 9)) e)
+good-size p out Good e = size-most p (andThen-left (checked p) (refuse (ltb (length out) (size p)) (bare 9)) e)
 good-size p out (No r) e = omega arith
 
 pub write-count : (p : Plan) (out after : List ℕ) (w : Written) → Writes p out w after → w .count < 65536
@@ -125,18 +124,18 @@ table-most p e =
 
 good-table : (p : Plan) (room : ℕ) (a : Answer) → tableAnswer p room ≡ a → ifGood a (tableLength p) 0 < 65536
 unfolding tableAnswer
-good-table p room Good e = table-most p (andThen-left (checked p) (refuse (ltb room (tableLength p)) (Bare 9)) e)
+good-table p room Good e = table-most p (andThen-left (checked p) (refuse (ltb room (tableLength p)) (bare 9)) e)
 good-table p room (No r) e = omega arith
 
-pub slots-count : (p : Plan) (out after : List ℕ) (w : TableWritten) → Tabled p out after w → w .count < 65536
+pub slots-count : (p : Plan) (out after : List ℕ) (w : TableWritten) → Tabled p out w after → w .count < 65536
 slots-count p out after w e =
-    let z = e .count in
+    let z : w .count ≡ ifGood (tableAnswer p (length out)) (tableLength p) 0 = ap (λ (x : TableWritten). x .count) (e .result) in
     let m = good-table p (length out) (tableAnswer p (length out)) refl in
     omega arith
 
-pub slots-told : (plan out after : List ℕ) (f : PlanFound) (w : TableWritten) (r : ℕ) → f ≡ planFound plan → f .answer ≡ Good → Tabled (f .plan) out after w → r ≡ told (w .answer) (w .count) → WritesSlots plan out r after
+pub slots-told : (plan out after : List ℕ) (f : PlanFound) (w : TableWritten) (r : ℕ) → f ≡ planFound plan → f .answer ≡ Good → Tabled (f .plan) out w after → r ≡ told (w .answer) (w .count) → WritesSlots plan out r after
 unfolding slotsAnswer
-slots-told plan out after f w r e g t h = rw (plan-room plan f e g, ← plan-is plan f e g) (record { result = h ∙ ap₂ told (t .answer) (t .count); buffer = t .bytes })
+slots-told plan out after f w r e g t h = rw (plan-room plan f e g, ← plan-is plan f e g) (record { result = h ∙ ap (λ (x : TableWritten). told (x .answer) (x .count)) (t .result); buffer = t .buffer })
 
 -- ---- `parchbeetle_verdict`: v is the verdict
 
@@ -155,8 +154,8 @@ judge-refused plan k f v w r e g h n t =
 judge-room : (plan k : List ℕ) (f : PlanFound) (v : Verdict) (x : Answer) → f ≡ planFound plan → f .answer ≡ Good → v ≡ judged (f .plan) → v .answer ≡ Good → x ≡ room k 16 → x ≡ verdictAnswer plan k
 judge-room plan k f v x e g h n m = judge-stage plan k f x e g (opened-on (v .answer) (judged (planFrom plan) .answer) (room k 16) x n (ap (λ (y : Verdict). y .answer) (judge-is plan f v e g h)) m)
 
-pub judge-short : (plan k : List ℕ) (f : PlanFound) (v : Verdict) (r : ℕ) → f ≡ planFound plan → f .answer ≡ Good → v ≡ judged (f .plan) → v .answer ≡ Good → length k < 16 → r ≡ told (No (Bare 9)) 0 → Judges plan k r k
-judge-short plan k f v r e g h n l t = refused-outcome (verdictAnswer plan k) (No (Bare 9)) (Bare 9) _ _ k r refl t (judge-room plan k f v (No (Bare 9)) e g h n (short-room k 16 l))
+pub judge-short : (plan k : List ℕ) (f : PlanFound) (v : Verdict) (x : Answer) (r : ℕ) → f ≡ planFound plan → f .answer ≡ Good → v ≡ judged (f .plan) → v .answer ≡ Good → x ≡ bare 9 → length k < 16 → r ≡ told x 0 → Judges plan k r k
+judge-short plan k f v x r e g h n b l t = refused-outcome (verdictAnswer plan k) x _ _ _ k r b t (judge-room plan k f v x e g h n (short-room k 16 x b l))
 
 pub judge-good : (plan k after : List ℕ) (f : PlanFound) (v : Verdict) (r : ℕ) → f ≡ planFound plan → f .answer ≡ Good → v ≡ judged (f .plan) → v .answer ≡ Good → 16 ≤ length k → after ≡ written 16 (widthAt (v .width)) k → r ≡ told (v .answer) 0 → Judges plan k r after
 judge-good plan k after f v r e g h n l m t =
@@ -200,7 +199,7 @@ again Good b c = refl
 again (No w) b c = refl
 
 -- the same behind 9, and before the 10 of a released byte
-once-of : (short order x : Answer) (told : Bool) → (order andThen x) ≡ x → ((short andThen (order andThen refuse (not told) (Bare 10))) andThen x) ≡ ((short andThen cond told Good (order andThen No (Bare 10))) andThen x)
+once-of : (short order x : Answer) (told : Bool) → (order andThen x) ≡ x → ((short andThen (order andThen refuse (not told) (bare 10))) andThen x) ≡ ((short andThen cond told Good (order andThen bare 10)) andThen x)
 once-of (No w) order x told e = refl
 once-of Good Good x true e = refl
 once-of Good (No w) x true e = e
@@ -219,7 +218,7 @@ no-next : (a : Answer) (w : Refusal) (x y s : State) → nextOf (a andThen No w)
 no-next Good w x y s = refl
 no-next (No v) w x y s = refl
 
-too-long : (s : State) (k e : ℕ) → InOrder (s .plan) → k < s .plan .kinds → 4095 < e → startable (kindAt s k) (unitOf s k) (gone s k) e ≡ No (Bare 13)
+too-long : (s : State) (k e : ℕ) → InOrder (s .plan) → k < s .plan .kinds → 4095 < e → startable (kindAt s k) (unitOf s k) (gone s k) e ≡ bare 13
 unfolding startable within
 too-long s k e o l m =
     let r = o .kind-at k l in
@@ -228,13 +227,13 @@ too-long s k e o l m =
     let d = r .separation-most in
     rw (ne-eqb e 0 (λ q. omega arith), lt-leb e (kindAt s k .length) (omega arith))
 
-no-kind : (s : State) (k e : ℕ) → s .plan .kinds ≤ k → releaseOf s k e ≡ nextOf (ready s andThen No (Bare 12)) s s
+no-kind : (s : State) (k e : ℕ) → s .plan .kinds ≤ k → releaseOf s k e ≡ nextOf (ready s andThen bare 12) s s
 unfolding releaseOf releaseAnswer
-no-kind s k e l = rw (le-ltb k (s .plan .kinds) l) (no-next (ready s) (Bare 12) (released s k e) s s)
+no-kind s k e l = rw (le-ltb k (s .plan .kinds) l) (no-next (ready s) _ (released s k e) s s)
 
-no-length : (s : State) (k e : ℕ) → InOrder (s .plan) → k < s .plan .kinds → 4095 < e → releaseOf s k e ≡ nextOf (ready s andThen No (Bare 13)) s s
+no-length : (s : State) (k e : ℕ) → InOrder (s .plan) → k < s .plan .kinds → 4095 < e → releaseOf s k e ≡ nextOf (ready s andThen bare 13) s s
 unfolding releaseOf releaseAnswer
-no-length s k e o l m = rw (lt-ltb k (s .plan .kinds) l, too-long s k e o l m) (no-next (ready s) (Bare 13) (released s k e) s s)
+no-length s k e o l m = rw (lt-ltb k (s .plan .kinds) l, too-long s k e o l m) (no-next (ready s) _ (released s k e) s s)
 
 limited-in-order : (s : State) (k e : ℕ) → InOrder (s .plan) → releaseOf s (min k 16) (min e 65536) ≡ releaseOf s k e
 limited-in-order s k e o =
@@ -317,12 +316,12 @@ slice-state s row cards v t n = ap (λ (x : Next). x .state) (t .result) ∙ ap 
 pub slice-unfound : (state row : List ℕ) (f : StateFound) (w : Refusal) (r : ℕ) → f ≡ stateFound state → f .answer ≡ No w → r ≡ told (f .answer) 0 → Slices state row r state row
 slice-unfound state row f w r h g t =
     let z : slicesAnswer state row ≡ No w = slice-once state row ∙ sym (state-no state f (sliceAnswer (stateFrom state) (length row)) w h g) ∙ g in
-    record { result = t ∙ ap (λ (x : Answer). told x 0) (g ∙ sym z); image = rw z; row-bytes = rw z }
+    record { result = t ∙ ap (λ (x : Answer). told x 0) (g ∙ sym z); buffer = rw z; second = rw z }
 
 pub slice-refused : (state row cards : List ℕ) (f : StateFound) (v : Next) (w : Refusal) (r : ℕ) → f ≡ stateFound state → f .answer ≡ Good → Sliced (f .state) row v cards → v .answer ≡ No w → r ≡ told (v .answer) 0 → Slices state row r state cards
 slice-refused state row cards f v w r h g t n u =
     let z : slicesAnswer state row ≡ No w = sym (slice-stage state row f (v .answer) h g (slice-answer (f .state) row cards v t)) ∙ n in
-    record { result = u ∙ ap (λ (x : Answer). told x 0) (n ∙ sym z); image = rw z; row-bytes = rw z (slice-row (f .state) row cards v (No w) t n) }
+    record { result = u ∙ ap (λ (x : Answer). told x 0) (n ∙ sym z); buffer = rw z; second = rw z (slice-row (f .state) row cards v (No w) t n) }
 
 pub slice-stored : (state row after cards : List ℕ) (f : StateFound) (v : Next) (b : Answer) (r : ℕ) → f ≡ stateFound state → f .answer ≡ Good → Sliced (f .state) row v cards → v .answer ≡ Good → StoresState (v .state) state b after → r ≡ told b 0 → Slices state row r after cards
 slice-stored state row after cards f v b r h g t n u y =
@@ -332,6 +331,6 @@ slice-stored state row after cards f v b r h g t n u y =
     let d : v .state ≡ advanced (stateFrom state) = slice-state (f .state) row cards v t n ∙ ap advanced s in
     record {
       result = y ∙ ap (λ (x : Answer). told x 0) (u .result ∙ a ∙ sym z);
-      image = rw z (u .buffer ∙ ap (λ (x : Answer). ifGood x (stateImage (v .state) ++ drop stateSize state) state) a ∙ ap (λ (x : State). stateImage x ++ drop stateSize state) d);
-      row-bytes = rw z (slice-row (f .state) row cards v Good t n ∙ ap (λ (x : State). rowOver x row) s);
+      buffer = rw z (u .buffer ∙ ap (λ (x : Answer). ifGood x (stateImage (v .state) ++ drop stateSize state) state) a ∙ ap (λ (x : State). stateImage x ++ drop stateSize state) d);
+      second = rw z (slice-row (f .state) row cards v Good t n ∙ ap (λ (x : State). rowOver x row) s);
     }

@@ -2,22 +2,18 @@
 -- Assumes nothing.
 use mathlib.Core.Path.{_≡_, sym, ap, _∙_}
 use mathlib.Core.List.{List, _++_}
-use Prim.Native.Nat.{ℕ, _+_, _*_}
+use Prim.Native.Nat.{ℕ}
 use lib.ListN.{drop}
 use Rattle.answer.specs.declared.Answer.{Answer}
 use Rattle.answer.specs.declared.Answer.the-variants.{Good, No}
 use Rattle.answer.specs.declared.Refusal.{Refusal}
-use Rattle.answer.specs.Answer.{number, place, excess, _andThen_, ifGood}
+use Rattle.answer.specs.Answer.{_andThen_, ifGood}
+use Rattle.answer.specs.Word.{told}
 use Rattle.images.specs.declared.PlanFound.{PlanFound}
 use Rattle.images.specs.Image.{planSize}
 use Rattle.images.specs.Lent.{room, planFound, Stores}
 use Rattle.images.specs.Lent.Properties.{plan-no}
-use Rattle.exports.specs.Outcome.{told, Outcome}
-
--- the parts as the code finds and widens them
-pub told-is : (a : Answer) (k n j p c y x : ℕ) → k ≡ number a → n ≡ k → j ≡ place a → p ≡ j → y ≡ excess a → x ≡ y → n + p * 256 + c * 65536 + x * 4294967296 ≡ told a c
-unfolding told
-told-is a k n j p c y x d e f g h i = rw (e, d, g, f, i, h)
+use Rattle.exports.specs.Outcome.{Outcome}
 
 -- refused: no count, and the buffer as it was
 pub refused-outcome : (a x : Answer) (w : Refusal) (n : ℕ) (new old : List ℕ) (r : ℕ) → x ≡ No w → r ≡ told x 0 → x ≡ a → Outcome a n new old r old

@@ -60,7 +60,7 @@ told-fails i x s e l m = all-fails 16 i (releasedAt s) (lt-leb (field unitWidths
 
 pub told-end : (i : ℕ) (s : List ℕ) → true ≡ allTo i (releasedAt s) → i ≤ 16 → 16 ≤ i → true ≡ releasedTold s
 unfolding releasedTold
-told-end i s e a b = all-stop i 16 (releasedAt s) e a b
+told-end i s e a b = all-stop true i 16 (releasedAt s) e a b
 
 -- the counts and the places make the plan
 pub plan-from : (s : List ℕ) (n : ℕ) (projects : List Project) (kinds : List Kind) → n ≡ numberTo (sizeOf countWidths) s → projects ≡ projectsFrom 8 s → kinds ≡ kindsFrom 16 s

@@ -10,9 +10,8 @@ use Rattle.plan.specs.declared.Plan.{Plan}
 use Rattle.answer.specs.declared.Answer.{Answer}
 use Rattle.answer.specs.declared.Answer.the-variants.{Good, No}
 use Rattle.answer.specs.declared.Refusal.{Refusal}
-use Rattle.answer.specs.declared.Refusal.the-variants.{Bare}
 use Rattle.plan.specs.Record.{noPlan}
-use Rattle.answer.specs.Answer.{_andThen_, ifGood}
+use Rattle.answer.specs.Answer.{bare, _andThen_, ifGood}
 use Rattle.answer.specs.Answer.Properties.{andThen-left, opened-no, opened-on, opened-is}
 use Rattle.plan.specs.Order.{checked}
 use Rattle.rack.specs.declared.State.{State}
@@ -24,17 +23,17 @@ use Rattle.images.specs.Lent.{room, planFound, foundAnswer, stateFound, 
 
 -- ---- a buffer against what is needed
 
-pub short-room : (s : List ℕ) (n : ℕ) → length s < n → No (Bare 9) ≡ room s n
-short-room s n l = rw (lt-ltb (length s) n l)
+pub short-room : (s : List ℕ) (n : ℕ) (x : Answer) → x ≡ bare 9 → length s < n → x ≡ room s n
+short-room s n x b l = rw (lt-ltb (length s) n l) b
 
 pub long-room : (s : List ℕ) (n : ℕ) → n ≤ length s → Good ≡ room s n
 long-room s n l = rw (le-ltb (length s) n l)
 
 -- ---- a plan found
 
-pub plan-short : (s : List ℕ) (p : Plan) → length s < planSize → p ≡ noPlan → record { answer = No (Bare 9); plan = p } ≡ planFound s
+pub plan-short : (s : List ℕ) (x : Answer) (p : Plan) → x ≡ bare 9 → length s < planSize → p ≡ noPlan → record { answer = x; plan = p } ≡ planFound s
 unfolding planFound
-plan-short s p l e = rw (lt-ltb (length s) planSize l, e)
+plan-short s x p b l e = rw (lt-ltb (length s) planSize l, b, e)
 
 pub plan-good : (s : List ℕ) (p : Plan) → planSize ≤ length s → p ≡ planFrom s → record { answer = Good; plan = p } ≡ planFound s
 unfolding planFound
@@ -60,15 +59,16 @@ plan-on s f b x e g h = opened-on (f .answer) (room s planSize) b x g (plan-answ
 
 -- ---- a state found
 
-pub state-short : (s : List ℕ) (v : State) → length s < stateSize → v ≡ noState → record { answer = No (Bare 9); state = v } ≡ stateFound s
+pub state-short : (s : List ℕ) (x : Answer) (v : State) → x ≡ bare 9 → length s < stateSize → v ≡ noState →
+    record { answer = x; state = v } ≡ stateFound s
 unfolding stateFound foundAnswer
-state-short s v l e = rw (lt-ltb (length s) stateSize l, e)
+state-short s x v b l e = rw (lt-ltb (length s) stateSize l, b, e)
 
-refused-state : (a : Answer) (v : State) → ifGood (a andThen No (Bare 10)) v noState ≡ noState
+refused-state : (a : Answer) (v : State) → ifGood (a andThen bare 10) v noState ≡ noState
 refused-state Good v = refl
 refused-state (No r) v = refl
 
-pub state-untold : (s : List ℕ) (told : Bool) (p : Plan) (a : Answer) (v : State) → stateSize ≤ length s → told ≡ releasedTold s → not told ≡ true → p ≡ planFrom s → a ≡ (checked p andThen No (Bare 10)) → v ≡ noState → record { answer = a; state = v } ≡ stateFound s
+pub state-untold : (s : List ℕ) (told : Bool) (p : Plan) (a : Answer) (v : State) → stateSize ≤ length s → told ≡ releasedTold s → not told ≡ true → p ≡ planFrom s → a ≡ (checked p andThen bare 10) → v ≡ noState → record { answer = a; state = v } ≡ stateFound s
 unfolding stateFound foundAnswer
 state-untold s told p a v l h t e f g = rw (le-ltb (length s) stateSize l, sym h ∙ not-true told t, refused-state (checked (planFrom s)) (stateFrom s), f, e, g)
 
@@ -85,7 +85,7 @@ found-good s f e g = opened-is (f .answer) (foundAnswer s) g (state-answer s f e
 
 pub state-room : (s : List ℕ) (f : StateFound) → f ≡ stateFound s → f .answer ≡ Good → room s stateSize ≡ Good
 unfolding foundAnswer
-state-room s f e g = andThen-left (room s stateSize) (cond (releasedTold s) Good (checked (planFrom s) andThen No (Bare 10))) (found-good s f e g)
+state-room s f e g = andThen-left (room s stateSize) (cond (releasedTold s) Good (checked (planFrom s) andThen bare 10)) (found-good s f e g)
 
 pub state-is : (s : List ℕ) (f : StateFound) → f ≡ stateFound s → f .answer ≡ Good → f .state ≡ stateFrom s
 unfolding stateFound
@@ -100,8 +100,8 @@ state-on s f b x e g h = opened-on (f .answer) (foundAnswer s) b x g (state-answ
 
 -- ---- an image stored
 
-pub stores-short : (image : List ℕ) (n : ℕ) (s : List ℕ) → length s < n → Stores image n s (No (Bare 9)) s
-stores-short image n s l = record { result = short-room s n l; buffer = rw (lt-ltb (length s) n l) }
+pub stores-short : (image : List ℕ) (n : ℕ) (s : List ℕ) (x : Answer) → x ≡ bare 9 → length s < n → Stores image n s x s
+stores-short image n s x b l = record { result = short-room s n x b l; buffer = rw (lt-ltb (length s) n l) }
 
 pub stores-good : (image : List ℕ) (n : ℕ) (s after : List ℕ) → n ≤ length s → after ≡ image ++ drop n s → Stores image n s Good after
 stores-good image n s after l e = record { result = long-room s n l; buffer = rw (le-ltb (length s) n l) e }

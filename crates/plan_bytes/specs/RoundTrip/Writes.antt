@@ -14,9 +14,8 @@ use Rattle.laws.specs.Tests.{and-left, and-right}
 use Rattle.laws.specs.All.Properties.{all-at}
 use Rattle.laws.specs.Written.Properties.{written-at, written-length}
 use Rattle.answer.specs.declared.Answer.the-variants.{Good}
-use Rattle.answer.specs.declared.Refusal.the-variants.{Bare}
 use Rattle.plan.specs.Record.{noProject, noKind}
-use Rattle.answer.specs.Answer.{refuse, _andThen_}
+use Rattle.answer.specs.Answer.{bare, refuse, _andThen_}
 use Rattle.answer.specs.Answer.Properties.{andThen-left, andThen-right, refuse-good}
 use Rattle.plan.specs.Order.{sizes, ranges, checked, Sized}
 use Rattle.plan.specs.Order.Properties.{sizes-says}
@@ -41,16 +40,16 @@ pub record ReadGood (s : List ℕ) : Type 0 where
 pub read-good : (s : List ℕ) → readAnswer s ≡ Good → ReadGood s
 unfolding readAnswer bodyAnswer
 read-good s e =
-    let one = refuse (ltb (length s) 3) (Bare 1) in
-    let short = refuse (ltb (length s) (size (headed s))) (Bare 1) in
-    let three = refuse (not (spareZero s)) (Bare 3) in
+    let one = refuse (ltb (length s) 3) (bare 1) in
+    let short = refuse (ltb (length s) (size (headed s))) (bare 1) in
+    let three = refuse (not (spareZero s)) (bare 3) in
     let a = andThen-right one (sizes (headed s) andThen bodyAnswer s) e in
     let b = andThen-right (sizes (headed s)) (bodyAnswer s) a in
     let c = andThen-right short (three andThen ranges (decoded s)) b in
     record {
       counts = andThen-left (sizes (headed s)) (bodyAnswer s) a;
-      long = ltb-false (length s) (size (headed s)) (refuse-good (ltb (length s) (size (headed s))) (Bare 1) (andThen-left short (three andThen ranges (decoded s)) b));
-      spare = not-false (spareZero s) (refuse-good (not (spareZero s)) (Bare 3) (andThen-left three (ranges (decoded s)) c));
+      long = ltb-false (length s) (size (headed s)) (refuse-good (ltb (length s) (size (headed s))) _ (andThen-left short (three andThen ranges (decoded s)) b));
+      spare = not-false (spareZero s) (refuse-good (not (spareZero s)) _ (andThen-left three (ranges (decoded s)) c));
       in-range = andThen-right three (ranges (decoded s)) c;
     }
 

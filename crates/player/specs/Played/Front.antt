@@ -17,9 +17,8 @@ use Rattle.plan.specs.declared.Plan.{Plan}
 use Rattle.answer.specs.declared.Answer.{Answer}
 use Rattle.answer.specs.declared.Answer.the-variants.{Good, No}
 use Rattle.answer.specs.declared.Refusal.{Refusal}
-use Rattle.answer.specs.declared.Refusal.the-variants.{Bare, ByProject, ByKind}
 use Rattle.plan.specs.Record.{noProject, noKind}
-use Rattle.answer.specs.Answer.{number, refuse, _andThen_, eachTo}
+use Rattle.answer.specs.Answer.{bare, atProject, atKind, number, refuse, _andThen_, eachTo}
 use Rattle.plan.specs.Order.{sized, sizes, inRange, timed, projectOf, kindOf, projectInRange, projectsInRange, kindInRange, kindInRangeAt}
 use Rattle.plan.specs.Order.{kindsInRange, budgets, budgetsFit, ranges}
 use Rattle.plan.specs.Order.Properties.{sizes-says}
@@ -171,7 +170,7 @@ module _ (s t : List ℕ) (three : 3 ≤ length s) where
       rw (a, b)
 
   -- fewer bytes than the header's total
-  total-short : sizes (headed s) ≡ Good → length s < size (headed s) → readAnswer s ≡ No (Bare 1)
+  total-short : sizes (headed s) ≡ Good → length s < size (headed s) → readAnswer s ≡ bare 1
   unfolding readAnswer bodyAnswer
   total-short e l = rw (le-ltb (length s) 3 three, e, lt-ltb (length s) (size (headed s)) l)
 
@@ -182,7 +181,7 @@ answer-is s w e = e
 -- an answer that is not 1 stays the same, whatever follows
 pub read-more : (s t : List ℕ) → (number (readOf s .answer) ≡ 1 → ⊥) → readOf (s ++ t) ≡ readOf s
 read-more s t ne =
-    elim (decLt (length s) 3) [ yes l ↦ absurd (ne (ap number (answer-is s (Bare 1) (sym (read-short s l))))) | no l ↦ long (omega arith) ]
+    elim (decLt (length s) 3) [ yes l ↦ absurd (ne (ap number (answer-is s _ (sym (read-short s (bare 1) refl l))))) | no l ↦ long (omega arith) ]
   where
     long : 3 ≤ length s → readOf (s ++ t) ≡ readOf s
     long three = by-counts (sizes (headed s)) refl
@@ -191,15 +190,15 @@ read-more s t ne =
         by-counts (No w) e = counts-read s t three w e
         by-counts Good e =
             elim (decLt (length s) (size (headed s))) [
-              | yes l ↦ absurd (ne (ap number (answer-is s (Bare 1) (total-short s t three e l))))
+              | yes l ↦ absurd (ne (ap number (answer-is s _ (total-short s t three e l))))
               | no l ↦ whole-read s t three (omega arith)
             ]
 
 -- ---- the answer 1 says that bytes are missing
 
-refuse-other : (b : Bool) (r : Refusal) → (number (No r) ≡ 1 → ⊥) → number (refuse b r) ≡ 1 → ⊥
-refuse-other true r h e = h e
-refuse-other false r h e = absurd (omega arith)
+refuse-other : (b : Bool) (a : Answer) → (number a ≡ 1 → ⊥) → number (refuse b a) ≡ 1 → ⊥
+refuse-other true a h e = h e
+refuse-other false a h e = absurd (omega arith)
 
 then-other : (a b : Answer) → (number a ≡ 1 → ⊥) → (number b ≡ 1 → ⊥) → number (a andThen b) ≡ 1 → ⊥
 then-other Good b h k e = k e
@@ -215,18 +214,18 @@ unfolding ranges projectsInRange kindsInRange kindInRange budgetsFit
 ranges-other p =
     then-other (projectsInRange p) (kindsInRange p andThen budgetsFit p)
     (each-other (p .projects) (projectInRange p)
-    (λ j. refuse-other (not (inRange (p .cards) (p .frame) (projectOf p j))) (ByProject 4 j) (λ q. omega arith)))
+    (λ j. refuse-other (not (inRange (p .cards) (p .frame) (projectOf p j))) (atProject 4 j) (λ q. omega arith)))
     (then-other (kindsInRange p) (budgetsFit p)
     (each-other (p .kinds) (kindInRangeAt p)
-    (λ i. then-other (refuse (not (ltb (kindOf p i .project) (p .projects))) (ByKind 5 i 0))
-    (refuse (not (timed (kindOf p i))) (ByKind 6 i 0))
-    (refuse-other (not (ltb (kindOf p i .project) (p .projects))) (ByKind 5 i 0) (λ q. omega arith))
-    (refuse-other (not (timed (kindOf p i))) (ByKind 6 i 0) (λ q. omega arith))))
-    (refuse-other (not (leb (budgets p) (p .cards * p .frame))) (Bare 7) (λ q. omega arith)))
+    (λ i. then-other (refuse (not (ltb (kindOf p i .project) (p .projects))) (atKind 5 i))
+    (refuse (not (timed (kindOf p i))) (atKind 6 i))
+    (refuse-other (not (ltb (kindOf p i .project) (p .projects))) (atKind 5 i) (λ q. omega arith))
+    (refuse-other (not (timed (kindOf p i))) (atKind 6 i) (λ q. omega arith))))
+    (refuse-other (not (leb (budgets p) (p .cards * p .frame))) (bare 7) (λ q. omega arith)))
 
 sizes-other : (p : Plan) → number (sizes p) ≡ 1 → ⊥
 unfolding sizes
-sizes-other p = refuse-other (not (sized p)) (Bare 2) (λ q. omega arith)
+sizes-other p = refuse-other (not (sized p)) (bare 2) (λ q. omega arith)
 
 -- "at most 99" bytes
 pub one-short : (s : List ℕ) → number (readOf s .answer) ≡ 1 → length s < 99
@@ -240,15 +239,15 @@ one-short s one =
             | no q ↦
                 absurd
                 (then-other (sizes (headed s)) (bodyAnswer s) (sizes-other (headed s))
-                (then-other (refuse (ltb (length s) (size (headed s))) (Bare 1))
-                (refuse (not (spareZero s)) (Bare 3) andThen ranges (decoded s)) (λ e. no-one (omega arith) e)
-                (then-other (refuse (not (spareZero s)) (Bare 3)) (ranges (decoded s))
-                (refuse-other (not (spareZero s)) (Bare 3) (λ e. omega arith)) (ranges-other (decoded s))))
+                (then-other (refuse (ltb (length s) (size (headed s))) (bare 1))
+                (refuse (not (spareZero s)) (bare 3) andThen ranges (decoded s)) (λ e. no-one (omega arith) e)
+                (then-other (refuse (not (spareZero s)) (bare 3)) (ranges (decoded s))
+                (refuse-other (not (spareZero s)) (bare 3) (λ e. omega arith)) (ranges-other (decoded s))))
                 (rw (le-ltb (length s) 3 (omega arith)) at one))
           ]
     ]
   where
-    no-one : size (headed s) ≤ length s → number (refuse (ltb (length s) (size (headed s))) (Bare 1)) ≡ 1 → ⊥
+    no-one : size (headed s) ≤ length s → number (refuse (ltb (length s) (size (headed s))) (bare 1)) ≡ 1 → ⊥
     no-one l e = let z : _≡_ {A = ℕ} 0 1 = rw (le-ltb (length s) (size (headed s)) l) at e in omega arith
 
     by-counts : (a : Answer) → sizes (headed s) ≡ a → length s < size (headed s) → length s < 99

@@ -12,8 +12,7 @@ use Rattle.laws.specs.All.{allTo}
 use Rattle.laws.specs.All.Properties.{all-at, all-of}
 use Rattle.answer.specs.declared.Answer.{Answer}
 use Rattle.answer.specs.declared.Answer.the-variants.{Good}
-use Rattle.answer.specs.declared.Refusal.the-variants.{Bare}
-use Rattle.answer.specs.Answer.{refuse}
+use Rattle.answer.specs.Answer.{bare, refuse}
 use Rattle.answer.specs.Answer.Properties.{andThen-left, andThen-right, refuse-good}
 use Rattle.plan.specs.Order.{checked}
 use Rattle.plan.specs.Order.Properties.{in-order, in-order-good}
@@ -76,10 +75,10 @@ form-of s f =
 pub ready-says : (s : State) → ready s ≡ Good → Ready s
 unfolding ready
 ready-says s e =
-    let ten = refuse (not (inForm s)) (Bare 10) in
+    let ten = refuse (not (inForm s)) (bare 10) in
     record {
       order = in-order (s .plan) (andThen-left (checked (s .plan)) ten e);
-      form = form-says s (not-false (inForm s) (refuse-good (not (inForm s)) (Bare 10) (andThen-right (checked (s .plan)) ten e)));
+      form = form-says s (not-false (inForm s) (refuse-good (not (inForm s)) _ (andThen-right (checked (s .plan)) ten e)));
     }
 
 -- and nothing more is asked

@@ -12,8 +12,7 @@ use borrow.Author.Tests.{not-false}
 use Rattle.answer.specs.declared.Answer.{Answer}
 use Rattle.answer.specs.declared.Answer.the-variants.{Good, No}
 use Rattle.answer.specs.declared.Refusal.{Refusal}
-use Rattle.answer.specs.declared.Refusal.the-variants.{Bare}
-use Rattle.answer.specs.Answer.{refuse, _andThen_}
+use Rattle.answer.specs.Answer.{bare, refuse, _andThen_}
 use Rattle.answer.specs.Answer.Properties.{andThen-left, andThen-right, refuse-good}
 use Rattle.unit.specs.Start.{startable}
 use Rattle.unit.specs.Start.Properties.{start-says, start-of}
@@ -32,12 +31,12 @@ use Rattle.rack.specs.Release.{Releasable, releaseAnswer, startedUnit, r
 pub release-says : (s : State) (i e : ℕ) → releaseAnswer s i e ≡ Good → Releasable s i e
 unfolding releaseAnswer
 release-says s i e h =
-    let twelve = refuse (not (used s i)) (Bare 12) in
+    let twelve = refuse (not (used s i)) (bare 12) in
     let rest = startable (kindAt s i) (unitOf s i) (gone s i) e in
     let r = andThen-right (ready s) (twelve andThen rest) h in
     record {
       ready = ready-says s (andThen-left (ready s) (twelve andThen rest) h);
-      its-kind = used-says s i (not-false (used s i) (refuse-good (not (used s i)) (Bare 12) (andThen-left twelve rest r)));
+      its-kind = used-says s i (not-false (used s i) (refuse-good (not (used s i)) _ (andThen-left twelve rest r)));
       start = start-says (kindAt s i) (unitOf s i) (gone s i) e (andThen-right twelve rest r);
     }
 

@@ -10,8 +10,7 @@ use borrow.Author.Tests.{le-ltb, ne-eqb, ltb-false, eqb-false}
 use Rattle.answer.specs.declared.Answer.{Answer}
 use Rattle.answer.specs.declared.Answer.the-variants.{Good, No}
 use Rattle.answer.specs.declared.Refusal.{Refusal}
-use Rattle.answer.specs.declared.Refusal.the-variants.{Bare}
-use Rattle.answer.specs.Answer.{_andThen_}
+use Rattle.answer.specs.Answer.{bare, _andThen_}
 use Rattle.answer.specs.Answer.Properties.{andThen-left, andThen-right, refuse-good}
 use Rattle.rack.specs.declared.State.{State}
 use Rattle.rack.specs.declared.Next.{Next}
@@ -30,8 +29,8 @@ unfolding sliceAnswer roomFor timeLeft
 slice-says s room h =
     let r = ready-says s (andThen-left (ready s) (roomFor s room andThen timeLeft s) h) in
     let t = andThen-right (ready s) (roomFor s room andThen timeLeft s) h in
-    let nine = refuse-good (ltb room (s .plan .cards)) (Bare 9) (andThen-left (roomFor s room) (timeLeft s) t) in
-    let eleven = refuse-good (eqb (s .clock) lastClock) (Bare 11) (andThen-right (roomFor s room) (timeLeft s) t) in
+    let nine = refuse-good (ltb room (s .plan .cards)) _ (andThen-left (roomFor s room) (timeLeft s) t) in
+    let eleven = refuse-good (eqb (s .clock) lastClock) _ (andThen-right (roomFor s room) (timeLeft s) t) in
     let z = eqb-false (s .clock) lastClock eleven in
     record {
       advance = record { ready = r; time = omega (arith, r .form .clock-most) };

@@ -36,7 +36,7 @@ unfolding sumTo leastTo firstTo countTo allTo written eachTo within sized emptyP
 table = record {
   P1-read = refl;
   P1-written = refl;
-  P2 = record { answer = refl; count = refl; bytes = refl };
+  P2 = record { result = refl; buffer = refl };
   P3 = refl;
   P4-one = refl;
   P4-two = refl;

@@ -11,19 +11,12 @@ use Rattle.unit.specs.declared.Unit.{Unit}
 use Rattle.unit.specs.Unit.{noUnit}
 use Rattle.unit.specs.Form.{UnitInForm, untouched, underway, unitInForm, emptyUnit}
 
--- ---- a conjunction that the code goes through from left to right: a is what its first half says
-
-pub both-goes : (a b r : Bool) → a ≡ true → r ≡ b → r ≡ (a && b)
-both-goes a b r e q = rw e q
-
--- ---- what the tests say
-
 untouched-says : (v : Unit) → untouched v ≡ true → (v .at ≡ 0) × (v .left ≡ 0)
 unfolding untouched
-untouched-says v e =
-    let at = and-left (eqb (v .at) 0) (eqb (v .left) 0) e in
-    let left = and-right (eqb (v .at) 0) (eqb (v .left) 0) e in
-    (eqb-true (v .at) 0 at, eqb-true (v .left) 0 left)
+untouched-says v e = (
+  eqb-true (v .at) 0 (and-left (eqb (v .at) 0) (eqb (v .left) 0) e),
+  eqb-true (v .left) 0 (and-right (eqb (v .at) 0) (eqb (v .left) 0) e),
+)
 
 untouched-of : (v : Unit) → (v .at ≡ 0) × (v .left ≡ 0) → untouched v ≡ true
 unfolding untouched
@@ -49,9 +42,8 @@ unit-of clock length v r = go (v .released) refl
   where
     go : (b : Bool) → v .released ≡ b → cond b (leb (v .at) clock && leb (v .left) length) (untouched v) ≡ true
     go true p =
-        let at = le-leb (v .at) clock (r .release-clock) in
-        let left = le-leb (v .left) length (r .left-most) in
-        and-both (leb (v .at) clock) (leb (v .left) length) at left
+        and-both (leb (v .at) clock) (leb (v .left) length) (le-leb (v .at) clock (r .release-clock))
+        (le-leb (v .left) length (r .left-most))
     go false p = untouched-of v (r .never p)
 
 -- an empty place is the unit that never was

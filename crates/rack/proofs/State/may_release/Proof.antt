@@ -26,6 +26,9 @@ returns c = search (opened-no, opened-on)
 in-use-requires : tie.Need-in-use-requires
 in-use-requires c κs = search needs
 
+bare-requires : tie.Need-bare-requires
+bare-requires c κs = search needs
+
 returns-2 : tie.Need-returns-2
 unfolding releaseAnswer
 returns-2 c = search (opened-on, stages)
@@ -61,6 +64,7 @@ may-release-spec =
     enum-told-2
     returns
     in-use-requires
+    bare-requires
     returns-2
     mul-unit
     element-copy-out-unit

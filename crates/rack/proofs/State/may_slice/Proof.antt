@@ -24,9 +24,15 @@ returns c = search (opened-no, opened-on)
 cast-if1 : tie.Need-cast-if1
 cast-if1 c = search needs
 
+bare-requires : tie.Need-bare-requires
+bare-requires c κs = search needs
+
 returns-2 : tie.Need-returns-2
 unfolding sliceAnswer roomFor timeLeft
 returns-2 c = search (opened-on, stages, tests)
+
+bare-requires-2 : tie.Need-bare-requires-2
+bare-requires-2 c κs = search needs
 
 returns-3 : tie.Need-returns-3
 unfolding sliceAnswer roomFor timeLeft
@@ -39,4 +45,4 @@ returns-4 c = search (opened-on, stages, tests)
 pub may-slice-spec : {M : Type 1} → statement M
 may-slice-spec =
     tie.close
-    (tie.spec check-requires enum-told enum-told-2 returns cast-if1 returns-2 returns-3 returns-4)
+    (tie.spec check-requires enum-told enum-told-2 returns cast-if1 bare-requires returns-2 bare-requires-2 returns-3 returns-4)

@@ -189,7 +189,21 @@ fn fields(text: &str, record: &str) -> Vec<(String, String)> {
         .filter_map(|line| line.trim_end_matches(',').split_once(": "))
         // In an image a truth takes a byte.
         .map(|(name, kind)| (name.to_string(), kind.replace("bool", "u8")))
+        .map(|(name, kind)| (name, with_number(text, kind)))
         .collect()
+}
+
+/// `[Kind; 16]` for `[Kind; Plan::KINDS]`.
+fn with_number(text: &str, kind: String) -> String {
+    let Some((before, constant)) = kind.split_once("; ") else {
+        return kind;
+    };
+    let Some((_, name)) = constant.trim_end_matches(']').split_once("::") else {
+        return kind;
+    };
+    let found = text.split_once(&format!("pub const {name}: "));
+    let value = found.and_then(|(_, rest)| leading(rest.split_once(" = ")?.1));
+    value.map_or(kind.clone(), |value| format!("{before}; {value}]"))
 }
 
 /// The fields of one of the header's lists, and the places behind it in the structure that it makes.
@@ -578,6 +592,7 @@ fn one_thing_changed_on_one_side_is_found() {
         (code, "pub deadline: u16", "pub due: u16"),
         (code, "pub clock: u32,\n", ""),
         (code, "pub left: u16", "pub left: u32"),
+        (code, "[Unit; ", "[Other; "),
         (images, "unitWidths = 8 ∷ 32", "unitWidths = 32 ∷ 8"),
         (images, "row 8 projectWidths", "row 9 projectWidths"),
         // A size.

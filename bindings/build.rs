@@ -6,7 +6,7 @@ use std::path::Path;
 use std::process::{exit, Command};
 
 /// The library's name, as the crate it is made from.
-const LIBRARY: &str = "exports";
+const LIBRARY: &str = "parchbeetle";
 
 fn main() {
     println!("cargo:rerun-if-env-changed=PARCHBEETLE_LIB");

@@ -3,8 +3,8 @@
  *
  * Plain C99, Linux x86-64. To build the library and a program over it:
  *
- *   rt staticlib exports
- *   cc -std=c99 -Iinclude samples/host.c -Ltarget/staticlib -lexports -o host
+ *   rt staticlib parchbeetle
+ *   cc -std=c99 -Iinclude samples/host.c -Ltarget/staticlib -lparchbeetle -o host
  *
  * samples/host.c is a whole program. No function keeps a pointer, allocates, or has
  * a state of its own; each may be called from any thread.

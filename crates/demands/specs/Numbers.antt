@@ -1,19 +1,19 @@
 -- Document 01, "Numbers given back when we say no": the numbers that each call lists, and what each number comes with.
 -- Assumes nothing.
-use mathlib.Core.Path.{_≡_, refl}
+use mathlib.Core.Path.{refl}
 use mathlib.Core.Bool.{not, _&&_}
 use mathlib.Core.List.{List, [], _∷_}
 use Prim.Native.Nat.{ℕ, _*_, _≤_, _<_}
 use native.Mathlib.Omega.{arith}
 use lib.Dec.{leb, ltb, eqb}
 use lib.ListN.{length}
-use Rattle.answer.specs.declared.Answer.the-variants.{Good}
 use Rattle.answer.specs.Numbers.{among, covers, Numbered}
 use Rattle.answer.specs.Numbers.Properties.{bare-numbered, project-numbered, kind-numbered, eight-numbered}
 use Rattle.answer.specs.Numbers.Properties.{refuse-numbered, andThen-numbered, each-numbered, wider}
 use Rattle.plan.specs.declared.Plan.{Plan}
 use Rattle.plan.specs.Order.{within, sized, tidyProjects, tidyKinds, inRange, timed, budgets, projectOf, kindOf, InOrder}
-use Rattle.plan.specs.Order.{sizes, unused, projectInRange, projectsInRange, kindInRange, kindInRangeAt, kindsInRange, budgetsFit, ranges, checked}
+use Rattle.plan.specs.Order.{sizes, unused, projectInRange, projectsInRange, kindInRange, kindInRangeAt, kindsInRange}
+use Rattle.plan.specs.Order.{budgetsFit, ranges, checked}
 use Rattle.plan.specs.Order.Properties.{sizes-says, in-order}
 use Rattle.plan_bytes.specs.Parts.{headed, decoded, size}
 use Rattle.plan_bytes.specs.Reading.{spareZero, bodyAnswer, readAnswer, readOf}
@@ -104,7 +104,8 @@ unfolding readOf readAnswer bodyAnswer decoded among covers
 read-numbers bytes =
     andThen-numbered _ _ _ (refuse-numbered _ (ltb (length bytes) 3) _ (bare-numbered _ 1 (λ z. omega arith) refl))
     (λ a. andThen-numbered _ _ _ (wider _ recordOrder _ refl (sizes-numbers (headed bytes)))
-    (λ e. andThen-numbered _ _ _ (refuse-numbered _ (ltb (length bytes) (size (headed bytes))) _ (bare-numbered _ 1 (λ z. omega arith) refl))
+    (λ e. andThen-numbered _ _ _
+    (refuse-numbered _ (ltb (length bytes) (size (headed bytes))) _ (bare-numbered _ 1 (λ z. omega arith) refl))
     (λ b. andThen-numbered _ _ _ (refuse-numbered _ (not (spareZero bytes)) _ (bare-numbered _ 3 (λ z. omega arith) refl))
     (λ c. wider _ recordOrder _ refl
     (ranges-numbers (decoded bytes) (sizes-says (headed bytes) e .projects-most) (sizes-says (headed bytes) e .kinds-most))))))

@@ -56,7 +56,8 @@ pub writing : (p : Plan) (out : List ℕ) → One (λ (o : Lent Written). Writes
 writing = write-one-outcome
 
 -- "0 on a refusal. Lent buffers keep every byte on a refusal"
-pub writing-refused : (p : Plan) (out after : List ℕ) (r : Written) → Writes p out r after → number (r .answer) ≢ 0 → (r .count ≡ 0) × (after ≡ out)
+pub writing-refused : (p : Plan) (out after : List ℕ) (r : Written) → Writes p out r after → number (r .answer) ≢ 0 →
+    (r .count ≡ 0) × (after ≡ out)
 writing-refused p out after r c h =
     let t = refusal (r .answer) h in
     let a : writeAnswer p out ≡ No (t .0) = ap (λ (x : Written). x .answer) (sym (c .result)) ∙ t .1 in
@@ -68,7 +69,8 @@ pub tabling : (p : Plan) (out : List ℕ) → One (λ (o : Lent TableWritten). T
 tabling = slot-table-one-outcome
 
 -- "Lent buffers keep every byte on a refusal"
-pub tabling-refused : (p : Plan) (out after : List ℕ) (r : TableWritten) → Tabled p out r after → number (r .answer) ≢ 0 → (r .count ≡ 0) × (after ≡ out)
+pub tabling-refused : (p : Plan) (out after : List ℕ) (r : TableWritten) → Tabled p out r after → number (r .answer) ≢ 0 →
+    (r .count ≡ 0) × (after ≡ out)
 tabling-refused p out after r c h =
     let t = refusal (r .answer) h in
     let a : tableAnswer p (length out) ≡ No (t .0) = ap (λ (x : TableWritten). x .answer) (sym (c .result)) ∙ t .1 in
@@ -107,5 +109,6 @@ pub slicing : (s : State) (bytes : List ℕ) → One (λ (o : Lent Next). Sliced
 slicing = slice-one-outcome
 
 -- "a refused slice .. gives back the state handed in", and the lent row keeps every byte
-pub slicing-refused : (s : State) (bytes after : List ℕ) (next : Next) → Sliced s bytes next after → number (next .answer) ≢ 0 → (next .state ≡ s) × (after ≡ bytes)
+pub slicing-refused : (s : State) (bytes after : List ℕ) (next : Next) → Sliced s bytes next after → number (next .answer) ≢ 0 →
+    (next .state ≡ s) × (after ≡ bytes)
 slicing-refused s bytes after next c h = let t = refusal (next .answer) h in slice-refused s bytes after next (t .0) c (t .1)

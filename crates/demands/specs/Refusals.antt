@@ -99,7 +99,8 @@ module _ (s : State) (safe : Safe s) where
   -- ---- a slice
 
   module _ (room : ℕ) where
-    slice-told : number (sliceAnswer s room) ≡ number (refuse (ltb room (s .plan .cards)) (bare 9) andThen refuse (eqb (s .clock) lastClock) (bare 11))
+    slice-told : number (sliceAnswer s room)
+        ≡ number (refuse (ltb room (s .plan .cards)) (bare 9) andThen refuse (eqb (s .clock) lastClock) (bare 11))
     unfolding sliceAnswer roomFor timeLeft
     slice-told = rw is-ready
 

@@ -3,7 +3,7 @@
 -- Assumes nothing.
 use mathlib.Core.Path.{_≡_, refl, sym, _∙_}
 use mathlib.Core.Logic.{_↔_}
-use Prim.Native.Nat.{ℕ, zero, suc, _+_, _*_, _≤_, _<_}
+use Prim.Native.Nat.{ℕ, zero, suc, _≤_, _<_}
 use native.Mathlib.Decide.{decLt}
 use native.Mathlib.Omega.{arith}
 use lib.Dec.{eqb}
@@ -19,13 +19,10 @@ use Rattle.answer.specs.Answer.Properties.{andThen-good, andThen-no, andThen-le
 use Rattle.answer.specs.Answer.Properties.{each-opened}
 use Rattle.plan.specs.Order.{kindOf, checked, InOrder}
 use Rattle.plan.specs.Order.Properties.{in-order, in-order-good}
-use Rattle.layout.specs.Layout.Properties.{held-period}
-use Rattle.supply.specs.Supply.{window}
-use Rattle.supply.specs.Supply.Properties.{supply-everywhere}
 use Rattle.supply.specs.Fit.Properties.{width-most, width-fits, width-least, width-some, width-none, excess-most, excess-attained}
 use Rattle.verdict.specs.Workload.{workload}
 use Rattle.verdict.specs.Verdict.{projectOn, ceilingOn, heldOn, widthOf, excessOf, fitted, admitted, verdictOf, judged}
-use Rattle.verdict.specs.Admission.{Width, Fits, Excess, NotAdmitted}
+use Rattle.verdict.specs.Admission.{Fits, Excess, NotAdmitted}
 
 -- ---- the k of one kind
 
@@ -218,20 +215,3 @@ refused-exactly p o i x = (told, tell)
         ∙ sym
         (each-opened (p .kinds) i (fitted p) (notAdmitted i (excessOf p i)) _ (sym before) refl (sym (fitted-no p i none)) (n .its-kind))
         ∙ rw same
-
--- ---- what a run needs
-
--- an admitted plan's kind has room for its unit and its workload in the Di slices from every clock on
-pub admitted-windows : (p : Plan) → judged p .answer ≡ Good → (i : ℕ) → i < p .kinds → (clock : ℕ) →
-    widthOf p i * kindOf p i .length + workload p i ≤ window (widthOf p i) (heldOn p i) clock (kindOf p i .deadline)
-admitted-windows p e i l clock =
-    let f = kind-fits p i (kind-admitted p e i l) in
-    omega (
-      arith,
-      f .room,
-      supply-everywhere (p .frame) (heldOn p i) (held-period p (projectOn p i))
-          (judged-in-order p e .counts .some-slice) (widthOf p i) clock (kindOf p i .deadline),
-    )
-
-pub admitted-width : (p : Plan) → judged p .answer ≡ Good → (i : ℕ) → i < p .kinds → Width p i (widthOf p i)
-admitted-width p e i l = kind-fits p i (kind-admitted p e i l) .width

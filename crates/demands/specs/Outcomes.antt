@@ -46,7 +46,8 @@ pub reading : (bytes : List ℕ) → One (λ r. r ≡ readOf bytes)
 reading = read-one-outcome
 
 -- "A refused read gives an all-zero plan and 0 bytes taken"
-pub reading-refused : (bytes : List ℕ) → number (readOf bytes .answer) ≢ 0 → (readOf bytes .plan ≡ noPlan) × (readOf bytes .taken ≡ 0)
+pub reading-refused : (bytes : List ℕ) → number (readOf bytes .answer) ≢ 0 →
+    (readOf bytes .plan ≡ noPlan) × (readOf bytes .taken ≡ 0)
 unfolding readOf
 reading-refused bytes h = let t = refusal (readAnswer bytes) h in (rw (t .1), rw (t .1))
 

@@ -14,16 +14,18 @@ use Rattle.laws.specs.Tests.{and-left, and-right}
 use Rattle.laws.specs.Count.{countTo}
 use Rattle.answer.specs.declared.Answer.the-variants.{Good}
 use Rattle.answer.specs.Answer.{number, place, excess}
+use Rattle.answer.specs.Numbers.{among, placed}
 use Rattle.plan.specs.Example.{planA, planB, bytesA}
+use Rattle.plan.specs.Order.{checked}
 use Rattle.plan.specs.Order.Properties.{in-order}
 use Rattle.codec.specs.Bytes.{AreBytes}
 use Rattle.plan_bytes.specs.Parts.{encoded}
 use Rattle.plan_bytes.specs.declared.Reading.{Reading}
 use Rattle.plan_bytes.specs.Reading.{readOf}
 use Rattle.plan_bytes.specs.declared.Written.{Written}
-use Rattle.plan_bytes.specs.Writing.{Writes}
+use Rattle.plan_bytes.specs.Writing.{writeAnswer, Writes}
 use Rattle.layout.specs.declared.table.TableWritten.{TableWritten}
-use Rattle.layout.specs.Table.{Tabled}
+use Rattle.layout.specs.Table.{tableAnswer, Tabled}
 use Rattle.verdict.specs.declared.Verdict.{Verdict}
 use Rattle.verdict.specs.Verdict.{ceilingOn, judged}
 use Rattle.verdict.specs.Admission.{given, Fits, NotAdmitted}
@@ -34,14 +36,16 @@ use Rattle.rack.specs.Form.{Ready}
 use Rattle.rack.specs.Form.Properties.{ready-says}
 use Rattle.rack.specs.Rank.{outranks, rank}
 use Rattle.rack.specs.Row.{holds, takes, rowByte}
-use Rattle.rack.specs.Start.{startOf}
-use Rattle.rack.specs.Release.{releaseOf}
-use Rattle.rack.specs.Slice.{sliceOf, Sliced}
+use Rattle.rack.specs.Start.{startAnswer, startOf}
+use Rattle.rack.specs.Release.{releaseAnswer, releaseOf}
+use Rattle.rack.specs.Slice.{sliceAnswer, sliceOf, Sliced}
 use Rattle.demands.specs.Run.{release, nextAfter, runFrom, after, noSlice, rowWritten}
 use Rattle.demands.specs.Named.{namesKind, namesProject, bytesIn, bytesNaming, Orderly, Apart}
 use Rattle.demands.specs.Shown.{shown, upTo, none, lastFrom, leftOf, restarted, kindsLeft}
 use Rattle.demands.specs.Outcomes.{reading, reading-refused, writing, writing-refused, tabling, tabling-refused}
 use Rattle.answer.specs.Outcome.{Lent}
+use Rattle.demands.specs.Numbers.{check-numbers, read-numbers, write-numbers, slot-table-numbers}
+use Rattle.demands.specs.Numbers.{judge-numbers, start-numbers, release-numbers, slice-numbers}
 use Rattle.demands.specs.Outcomes.{judging, judging-refused, starting, starting-refused, releasing, releasing-refused}
 use Rattle.demands.specs.Outcomes.{slicing, slicing-refused}
 use Rattle.demands.specs.Verdicts.{admitted-when, least-given, refused-when, written-then-read, read-then-written, only-encoding}
@@ -136,6 +140,37 @@ slices-nothing next left c = slicing-refused (after planA releases) (7 ∷ []) l
   where
     refused : number (next .answer) ≢ 0
     refused z = omega (arith, ap (λ (n : Next). number (n .answer)) (c .result), running .slice-short)
+
+-- ---- demand 1: the numbers
+
+-- plan A has nothing to refuse, and is told 0
+pub in-order-none : number (checked planA) ≡ 0
+in-order-none = check-numbers planA .good .1 (verdicts .order-A)
+
+pub admitted-none : number (judged planA .answer) ≡ 0
+admitted-none = judge-numbers planA .good .1 (verdicts .good-A)
+
+-- a refused start has a kind's place, and no other refusal here has one, or an excess
+pub kind-place : place (startAnswer longer) < 16
+kind-place = start-numbers longer .place-most
+
+pub not-good : startAnswer longer ≢ Good
+not-good g = omega (arith, start-numbers longer .good .1 g, answers .start-told)
+
+pub read-excess : excess (readOf (0x22 ∷ 0x18 ∷ []) .answer) ≡ 0
+read-excess = read-numbers (0x22 ∷ 0x18 ∷ []) .its-excess (λ z. omega (arith, answers .read-short))
+
+pub write-place : place (writeAnswer planA (replicate 21 7)) ≡ 0
+write-place = write-numbers planA (replicate 21 7) .its-place (ap (among placed) (answers .write-short) ∙ answers .nine-bare)
+
+pub table-place : place (tableAnswer planA 7) ≡ 0
+table-place = slot-table-numbers planA 7 .its-place (ap (among placed) (answers .table-short) ∙ answers .nine-bare)
+
+pub release-excess : excess (releaseAnswer (after planA fourSlices) 2 1) ≡ 0
+release-excess = release-numbers (after planA fourSlices) 2 1 .its-excess (λ z. omega (arith, running .release-told))
+
+pub slice-place : place (sliceAnswer (after planA releases) 1) ≡ 0
+slice-place = slice-numbers (after planA releases) 1 .its-place (ap (among placed) (running .slice-told) ∙ answers .nine-bare)
 
 -- ---- demand 2: the verdict
 
@@ -310,6 +345,9 @@ taken-from-two = rows-serve planA (running .admitted-A) releases row 1 (running 
 -- card 0 is taken by kind 0 alone, and card 1's byte names kind 1
 pub card-none : (k : ℕ) → k < 3 → takes (after planA releases) k 0 ≡ true → 0 ≡ k
 card-none k l takes-it = one-kind-a-card planA (running .admitted-A) releases 0 0 k (omega arith) l (running .takes-none) takes-it
+
+pub card-one-taken : (i : ℕ) → namesKind i (getD (rowWritten (after planA releases) row) 1 0) ≡ true → i < 3
+card-one-taken i names = rows-name planA (running .admitted-A) releases row 1 i (running .accepted) (omega arith) .0 names .0
 
 pub card-one : namesKind 1 (getD (rowWritten (after planA releases) row) 1 0) ≡ true
 card-one = rows-name planA (running .admitted-A) releases row 1 1 (running .accepted) (omega arith) .1 (omega arith, running .takes-one)

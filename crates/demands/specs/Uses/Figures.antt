@@ -15,6 +15,7 @@ use Rattle.laws.specs.Written.{written}
 use Rattle.laws.specs.Ranking.{rankIn, firstIn, sooner}
 use Rattle.answer.specs.declared.Answer.the-variants.{Good}
 use Rattle.answer.specs.Answer.{number, place, excess, eachTo}
+use Rattle.answer.specs.Numbers.{among, placed}
 use Rattle.plan.specs.declared.Plan.{Plan}
 use Rattle.plan.specs.Example.{kind, likeA, planA, planB, bytesA}
 use Rattle.plan.specs.Order.{within, sized, emptyProject, emptyKind, tidyProjects, tidyKinds, inRange, timed, budgets}
@@ -135,6 +136,8 @@ pub record Running : Type 0 where
   pub release-early : number (releaseOf (after planA fourSlices) 2 1 .answer) ≡ 14
   pub slices : Sliced (after planA releases) (7 ∷ 7 ∷ 7 ∷ []) (sliceOf (after planA releases) 3) (1 ∷ 2 ∷ 7 ∷ [])
   pub slice-short : number (sliceOf (after planA releases) 1 .answer) ≡ 9
+  pub release-told : number (releaseAnswer (after planA fourSlices) 2 1) ≡ 14
+  pub slice-told : number (sliceAnswer (after planA releases) 1) ≡ 9
   -- on the refused plan
   pub enough-good : releaseOf (runFrom (freshOf enoughCards) (release 0 1 ∷ [])) 1 1 .answer ≡ Good
   pub enough-rows : length oneSlice ≡ 1
@@ -172,6 +175,8 @@ running = record {
   release-early = refl;
   slices = record { result = refl; buffer = refl };
   slice-short = refl;
+  release-told = refl;
+  slice-told = refl;
   enough-good = refl;
   enough-rows = refl;
 }
@@ -302,6 +307,9 @@ pub record Answered : Type 0 where
   pub widths-A : judged planA .width ≡ 1 ∷ 1 ∷ 1 ∷ replicate 13 0
   pub starts : startOf planA ≡ record { answer = Good; state = freshOf planA }
   pub start-eight : number (startOf longer .answer) ≡ 8
+  pub start-told : number (startAnswer longer) ≡ 8
+  -- 9 comes with no place
+  pub nine-bare : among placed 9 ≡ false
 
 pub answers : Answered
 unfolding sumTo leastTo firstTo countTo allTo written eachTo within sized emptyProject emptyKind tidyProjects tidyKinds inRange timed
@@ -309,7 +317,7 @@ unfolding sumTo leastTo firstTo countTo allTo written eachTo within sized emptyP
     window supply workloadPart fitsAt leastWidth excessAt leastExcess besides partOf workload widthOf excessOf fitted admitted judged
     pack unpack numberTo bytesOf size headerBytes projectBytes kindBytes partsTo encoded headerFields projectFields kindFields
     projectFrom kindFrom projectsFrom kindsFrom headed decoded headerSpare projectSpare kindSpare projectsSpare kindsSpare placesSpare
-    spareZero bodyAnswer readAnswer readOf writeAnswer tableLength tableOver tableAnswer startAnswer startOf
+    spareZero bodyAnswer readAnswer readOf writeAnswer tableLength tableOver tableAnswer startAnswer startOf among
 answers = record {
   read-short = refl;
   writes = record { result = refl; buffer = refl };
@@ -319,4 +327,6 @@ answers = record {
   widths-A = refl;
   starts = refl;
   start-eight = refl;
+  start-told = refl;
+  nine-bare = refl;
 }

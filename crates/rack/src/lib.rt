@@ -46,7 +46,7 @@ impl State {
     pub(crate) fn in_use(self, place: usize) -> bool
         ensures { λ r. ⌜ r ≡ used self place ⌝ }
     {
-        place < self.plan.kinds as usize
+        place < self.places()
     }
 
     // The plan at clock 0, with no kind ever released.

@@ -12,7 +12,6 @@ use lib.ListN.{length, getD, take, drop, replicate, length-append, length-drop, 
 use lib.Seq.{getD-append-add, getD-drop, ext-getD, take-at}
 use borrow.Author.Tests.{eq-eqb, ne-eqb, eqb-true, eqb-false, not-true}
 use Rattle.laws.specs.Tests.{and-left, and-right}
-use Rattle.laws.specs.Count.{countTo}
 use Rattle.laws.specs.Count.Properties.{count-cong, between-yes, between-low, between-high, count-between}
 use Rattle.laws.specs.First.{firstTo}
 use Rattle.laws.specs.First.Properties.{first-le, first-holds, first-zero}
@@ -23,7 +22,7 @@ use Rattle.layout.specs.Layout.Properties.{slot-owned}
 use Rattle.rack.specs.declared.State.{State}
 use Rattle.rack.specs.State.{kindAt, kindPlaces, InUse, ProjectInUse}
 use Rattle.rack.specs.Form.{Ready}
-use Rattle.rack.specs.View.{hasCard, cardsHeld, lowestCard, endCard, activeIn, takesCard, byteOn}
+use Rattle.rack.specs.View.{hasCard, cardsHeld, lowestCard, activeIn, takesCard, byteOn}
 use Rattle.rack.specs.View.Properties.{takes-active, takes-has, takes-card, card-takes, takes-chosen, byte-takes, byte-below, byte-is}
 use Rattle.rack.specs.View.Properties.{has-of, has-from, has-to, lowest-held, used-first, first-used}
 use Rattle.rack.specs.Rank.{working, activeKinds, outranks, viewOf, ownView, rank, served}

@@ -19,7 +19,7 @@ use Rattle.rack.specs.State.Properties.{refused-keeps}
 use Rattle.rack.specs.Form.{ready, Ready}
 use Rattle.rack.specs.Form.Properties.{ready-says, ready-of}
 use Rattle.rack.specs.Row.{rowOver}
-use Rattle.rack.specs.Advance.{Advanceable, advanced, timeLeft}
+use Rattle.rack.specs.Advance.{advanced, timeLeft}
 use Rattle.rack.specs.Slice.{Sliceable, roomFor, sliceAnswer, sliceOf, bufferAfter, Sliced}
 
 -- ---- the answer

@@ -3,12 +3,12 @@
 -- Assumes nothing.
 use mathlib.Core.Path.{_≡_, refl, sym, ap, _∙_}
 use mathlib.Core.Bool.{Bool, true, false, not, _&&_, false≢true}
-use Prim.Native.Nat.{ℕ, zero, suc, pred, _+_, _%_, _≤_, _<_, min}
+use Prim.Native.Nat.{ℕ, zero, suc, pred, _+_, _≤_, _<_, min}
 use native.Mathlib.Decide.{decLt}
 use native.Mathlib.Nat.{mod-eq-of-lt}
 use native.Mathlib.Omega.{arith}
 use lib.Dec.{leb, ltb, eqb}
-use borrow.Author.Tests.{eq-eqb, ne-eqb, eqb-true}
+use borrow.Author.Tests.{eq-eqb, eqb-true}
 use Rattle.laws.specs.Tests.{and-left, and-right}
 use Rattle.laws.specs.Count.{countTo}
 use Rattle.laws.specs.Count.Properties.{count-cong, between-yes, between-low, between-high, count-between}
@@ -16,7 +16,6 @@ use Rattle.laws.specs.First.Properties.{first-le, first-holds, first-some, firs
 use Rattle.laws.specs.Ranking.{Order, firstIn}
 use Rattle.laws.specs.Ranking.Properties.{first-of, first-member, first-rank, not-first, first-count, first-above}
 use Rattle.laws.specs.Ranking.Properties.{rank-cong, rank-distinct, rank-at, rank-lt-members, above-of-rank}
-use Rattle.layout.specs.Layout.{cellAt}
 use Rattle.layout.specs.Cards.Properties.{run-card, run-closed, below-grows}
 use Rattle.rack.specs.View.{View, Same, hasCard, cardsHeld, lowestCard, endCard, activeIn, rankOf, chosen, takesCard, byteOn}
 
@@ -44,23 +43,17 @@ module _ (v : View) where
   abbrev lower : ℕ → ℕ
   lower card = countTo card (hasCard v)
 
-  -- the card is the project's, and the kind's by its rank
-  abbrev by-rank : ℕ → ℕ → Bool
-  by-rank i card = hasCard v card && eqb (rankOf v i) (lower card)
-
   pub takes-active : (i card : ℕ) → takesCard v i card ≡ true → v .active i ≡ true
   unfolding takesCard
-  takes-active i card e = and-left (v .active i) (by-rank i card) e
+  takes-active i card e = and-left (v .active i) _ e
 
   pub takes-has : (i card : ℕ) → takesCard v i card ≡ true → hasCard v card ≡ true
   unfolding takesCard
-  takes-has i card e = and-left (hasCard v card) (eqb (rankOf v i) (lower card)) (and-right (v .active i) (by-rank i card) e)
+  takes-has i card e = and-left (hasCard v card) _ (and-right (v .active i) _ e)
 
   takes-rank : (i card : ℕ) → takesCard v i card ≡ true → rankOf v i ≡ lower card
   unfolding takesCard
-  takes-rank i card e =
-      let same = and-right (hasCard v card) (eqb (rankOf v i) (lower card)) (and-right (v .active i) (by-rank i card) e) in
-      eqb-true (rankOf v i) (lower card) same
+  takes-rank i card e = eqb-true (rankOf v i) (lower card) (and-right (hasCard v card) _ (and-right (v .active i) _ e))
 
   takes-of : (i card : ℕ) → v .active i ≡ true → hasCard v card ≡ true → rankOf v i ≡ lower card → takesCard v i card ≡ true
   unfolding takesCard
@@ -232,7 +225,10 @@ module _ (v w : View) (same : Same v w) where
   unfolding takesCard
   same-takes i card l = go (v .active i) refl
     where
-      go : (b : Bool) → v .active i ≡ b → (v .active i && by-rank v i card) ≡ (w .active i && by-rank w i card)
+      byRank : View → Bool
+      byRank u = hasCard u card && eqb (rankOf u i) (countTo card (hasCard u))
+
+      go : (b : Bool) → v .active i ≡ b → (v .active i && byRank v) ≡ (w .active i && byRank w)
       go true e = rw (same .active i l, same-has card, same-rank i l e, count-cong card (hasCard v) (hasCard w) (λ c q. same-has c))
       go false e = rw (← same .active i l, e)
 

@@ -39,7 +39,8 @@ stateFound s = record { answer = foundAnswer s; state = ifGood (foundAnswer s) (
 
 -- ---- stored
 
--- an image of that many bytes at the front of s, or 9: "Lent buffers keep every byte on a refusal. On success, bytes past those needed keep their value"
+-- an image of that many bytes at the front of s, or 9: "Lent buffers keep every byte on a refusal. On success, bytes past those
+-- needed keep their value"
 abbrev pub Stores : List ℕ → ℕ → List ℕ → Answer → List ℕ → Type 0
 Stores image needed s = Leaves (room s needed) (ifGood (room s needed) (image ++ drop needed s) s)
 

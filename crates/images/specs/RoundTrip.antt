@@ -23,7 +23,10 @@ use Rattle.unit.specs.declared.Unit.{Unit}
 use Rattle.rack.specs.declared.State.{State}
 use Rattle.unit.specs.Unit.{noUnit}
 use Rattle.rack.specs.State.{unitOf}
-use Rattle.images.specs.Image.{countWidths, projectWidths, kindWidths, clockWidths, unitWidths, planRows, stateRows, projectPlace, kindPlace, clockPlace, unitPlace, field, projectFrom, kindFrom, clockFrom, unitFrom, projectsFrom, kindsFrom, unitsFrom, planFrom, stateFrom, releasedAt, releasedTold, countFields, projectFields, kindFields, unitFields, planValues, stateValues, planImage, stateImage}
+use Rattle.images.specs.Image.{countWidths, projectWidths, kindWidths, clockWidths, unitWidths, planRows, stateRows, projectPlace}
+use Rattle.images.specs.Image.{kindPlace, clockPlace, unitPlace, field, projectFrom, kindFrom, clockFrom, unitFrom, projectsFrom}
+use Rattle.images.specs.Image.{kindsFrom, unitsFrom, planFrom, stateFrom, releasedAt, releasedTold, countFields, projectFields}
+use Rattle.images.specs.Image.{kindFields, unitFields, planValues, stateValues, planImage, stateImage}
 use Rattle.images.specs.Typed.{PlanTyped, StateTyped}
 
 -- ---- fields that were found are the record
@@ -45,7 +48,8 @@ unfolding unitFrom
 unit-read s v e = rw e (let f = flag-read (v .released) in λ i. record { at = v .at; left = v .left; released = f i })
 
 -- every place written is the whole list
-written-all : {A : Type 0} (n : ℕ) (f : ℕ → A) (l r : List A) (d : A) → length l ≡ n → length r ≡ n → ((i : ℕ) → i < n → f i ≡ getD r i d) → written n f l ≡ r
+written-all : {A : Type 0} (n : ℕ) (f : ℕ → A) (l r : List A) (d : A) → length l ≡ n → length r ≡ n → ((i : ℕ) → i < n → f i ≡ getD r i d)
+    → written n f l ≡ r
 written-all n f l r d p q h =
     let m = written-length n f l in
     ext-getD d (written n f l) r (m ∙ p ∙ sym q) (λ i k. written-at n f l d i (omega arith) (omega arith) ∙ h i (omega arith))
@@ -71,7 +75,8 @@ module _ (p : Plan) (typed : PlanTyped p) (s : List ℕ)
   plan-said =
       let a = projects-are in
       let b = kinds-are in
-      rw counts-found (λ i. record { cards = p .cards; projects = p .projects; kinds = p .kinds; frame = p .frame; project = a i; kind = b i })
+      rw counts-found
+      (λ i. record { cards = p .cards; projects = p .projects; kinds = p .kinds; frame = p .frame; project = a i; kind = b i })
 
 -- a plan stored and found again
 pub plan-round-trip : (p : Plan) → PlanTyped p → (rest : List ℕ) → planFrom (planImage p ++ rest) ≡ p
@@ -100,7 +105,8 @@ module _ (v : State) (typed : StateTyped v) (rest : List ℕ) where
 
   clock-is : clockFrom (drop clockPlace s) ≡ v .clock
   unfolding s stateImage clockFrom
-  clock-is = ap (λ (l : List ℕ). getD l 0 0) (row-fields stateRows (stateValues v) 3 0 s rest refl (omega arith) (omega arith) refl refl (typed .clock-fits))
+  clock-is = ap (λ (l : List ℕ). getD l 0 0)
+      (row-fields stateRows (stateValues v) 3 0 s rest refl (omega arith) (omega arith) refl refl (typed .clock-fits))
 
   plan-is : planFrom s ≡ v .plan
   unfolding s stateImage
@@ -123,4 +129,5 @@ module _ (v : State) (typed : StateTyped v) (rest : List ℕ) where
   -- and each of its released bytes is 0 or 1
   pub state-told : releasedTold (stateImage v ++ rest) ≡ true
   unfolding s releasedTold
-  state-told = all-of 16 (releasedAt s) (λ i l. rw (unit-found i l) (le-leb (cond (unitOf v i .released) 1 0) 1 (flag-small (unitOf v i .released))))
+  state-told =
+      all-of 16 (releasedAt s) (λ i l. rw (unit-found i l) (le-leb (cond (unitOf v i .released) 1 0) 1 (flag-small (unitOf v i .released))))

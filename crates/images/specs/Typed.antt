@@ -10,7 +10,8 @@ use Rattle.plan.specs.Order.{projectOf, kindOf}
 use Rattle.plan_bytes.specs.Parts.{Shaped}
 use Rattle.rack.specs.declared.State.{State}
 use Rattle.rack.specs.State.{unitOf}
-use Rattle.images.specs.Image.{countWidths, projectWidths, kindWidths, clockWidths, unitWidths, countFields, projectFields, kindFields, unitFields}
+use Rattle.images.specs.Image.{countWidths, projectWidths, kindWidths, clockWidths, unitWidths, countFields, projectFields}
+use Rattle.images.specs.Image.{kindFields, unitFields}
 pub mod Properties
 
 -- a plan of the language's type

@@ -86,7 +86,14 @@ projectFrom s = record { ceiling = getD (projectFields s) 0 0; budget = getD (pr
 
 -- the unit kind whose fields stand at the front of s
 unfoldable pub kindFrom : List ℕ → Kind
-kindFrom s = record { project = getD (kindFields s) 0 0; separation = getD (kindFields s) 1 0; deadline = getD (kindFields s) 2 0; length = getD (kindFields s) 3 0 }
+kindFrom s =
+    record {
+      project = getD (kindFields s) 0 0;
+      separation = getD (kindFields s) 1 0;
+      deadline = getD (kindFields s) 2 0;
+      length =
+          getD (kindFields s) 3 0;
+    }
 
 -- ---- where each part starts
 

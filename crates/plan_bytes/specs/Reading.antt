@@ -12,7 +12,8 @@ use Rattle.plan.specs.Record.{noPlan}
 use Rattle.answer.specs.Answer.{bare, refuse, _andThen_, ifGood}
 use Rattle.plan.specs.Order.{sizes, ranges}
 use Rattle.plan_bytes.specs.declared.Reading.{Reading}
-use Rattle.plan_bytes.specs.Parts.{headerFields, projectFields, kindFields, projectAt, kindAt, afterHeader, afterProjects, headed, decoded, size}
+use Rattle.plan_bytes.specs.Parts.{headerFields, projectFields, kindFields, projectAt, kindAt, afterHeader, afterProjects, headed}
+use Rattle.plan_bytes.specs.Parts.{decoded, size}
 pub mod Properties
 
 -- ---- the spare bits, "which are zero"

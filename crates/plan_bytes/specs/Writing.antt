@@ -21,6 +21,7 @@ writeAnswer p out = checked p andThen refuse (ltb (length out) (size p)) (bare 9
 abbrev pub counted : Answer → ℕ → Written
 counted a n = record { answer = a; count = ifGood a n 0 }
 
--- what writing answers, and what the buffer `out` holds then: "Lent buffers keep every byte on a refusal. On success, bytes past those needed keep their value"
+-- what writing answers, and what the buffer `out` holds then: "Lent buffers keep every byte on a refusal. On success, bytes past
+-- those needed keep their value"
 abbrev pub Writes : Plan → List ℕ → Written → List ℕ → Type 0
 Writes p out = Leaves (counted (writeAnswer p out) (size p)) (ifGood (writeAnswer p out) (encoded p ++ drop (size p) out) out)

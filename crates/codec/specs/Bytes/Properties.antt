@@ -79,9 +79,11 @@ pub number-room : (x i n : ℕ) → x < 256 ^ i → i ≤ n → x < 256 ^ n
 number-room x i n p q = lt-of-lt-of-le p (pow-le-pow-right {n = 256} (omega arith) q)
 
 -- of a loop that goes no further than there are bytes
-pub number-seen : (x i count limited seen : ℕ) (s : List ℕ) → x ≡ numberTo i s → limited ≡ min count 8 → seen ≡ min limited (length s) → i ≤ seen → seen ≤ i
+pub number-seen : (x i count limited seen : ℕ) (s : List ℕ) → x ≡ numberTo i s → limited ≡ min count 8 → seen ≡ min limited (length s)
+    → i ≤ seen → seen ≤ i
     → x ≡ numberTo (min (min count 8) (length s)) s
-number-seen x i count limited seen s p a b h l = let e : i ≡ min (min count 8) (length s) = omega arith in p ∙ ap (λ (k : ℕ). numberTo k s) e
+number-seen x i count limited seen s p a b h l = let e : i ≡ min (min count 8) (length s) = omega arith in
+    p ∙ ap (λ (k : ℕ). numberTo k s) e
 
 -- a number of so many bytes, where so many are there
 pub number-whole : (n : ℕ) (s : List ℕ) (x : ℕ) → x ≡ numberTo (min (min n 8) (length s)) s → n ≤ 8 → n ≤ length s → x ≡ numberTo n s
@@ -94,7 +96,8 @@ unfolding bytesOf
 bytes-more zero x = rw (div-one x)
 bytes-more (suc n) x =
     ap (λ (l : List ℕ). l ++ (x % 256 ∷ [])) (bytes-more n (x / 256))
-    ∙ ap (λ (k : ℕ). k % 256 ∷ (bytesOf n (x / 256) ++ (x % 256 ∷ []))) (div-div-eq-div-mul x 256 (256 ^ n) ∙ ap (λ (k : ℕ). x / k) (sym (pow-succ' 256 n)))
+    ∙ ap (λ (k : ℕ). k % 256 ∷ (bytesOf n (x / 256) ++ (x % 256 ∷ [])))
+    (div-div-eq-div-mul x 256 (256 ^ n) ∙ ap (λ (k : ℕ). x / k) (sym (pow-succ' 256 n)))
 
 drop-set : (l : List ℕ) (k v : ℕ) → k < length l → drop k (set l k v) ≡ v ∷ drop (suc k) l
 drop-set l k v h = ap (drop k) (set-split l k v h) ∙ drop-at (take k l) (v ∷ drop (suc k) l) k (length-take-le k l (omega arith))
@@ -108,7 +111,8 @@ pub stored-again : (x rest i n : ℕ) (l : List ℕ) → length l ≡ n → i < 
 stored-again x rest i n l m q e h =
     let k : n - (i + 1) ≡ n - 1 - i = omega arith in
     let j : suc (n - 1 - i) ≡ n - i = omega arith in
-    rw (k, add-one i, bytes-more i x) (drop-set l (n - 1 - i) (rest % 256) (omega arith) ∙ ap₂ (λ (a : ℕ) (b : List ℕ). a % 256 ∷ b) e (ap (λ (y : ℕ). drop y l) j ∙ h))
+    rw (k, add-one i, bytes-more i x)
+    (drop-set l (n - 1 - i) (rest % 256) (omega arith) ∙ ap₂ (λ (a : ℕ) (b : List ℕ). a % 256 ∷ b) e (ap (λ (y : ℕ). drop y l) j ∙ h))
 
 pub stored-rest : (x rest i : ℕ) → rest ≡ x / 256 ^ i → rest / 256 ≡ x / 256 ^ (i + 1)
 stored-rest x rest i e = rw (add-one i, pow-suc, e) (div-div-eq-div-mul x (256 ^ i) 256)

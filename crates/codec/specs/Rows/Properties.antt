@@ -38,7 +38,8 @@ abbrev pub valuesAt : List Values → ℕ → Values
 valuesAt fs k = getD fs k (λ i. [])
 
 -- what stands where row k starts begins with that row
-row-found : (from : ℕ) (rs : List Row) (fs : List Values) (k : ℕ) (s rest : List ℕ) → length fs ≡ length rs → k < length rs → drop from s ≡ rowsBytes rs fs ++ rest
+row-found : (from : ℕ) (rs : List Row) (fs : List Values) (k : ℕ) (s rest : List ℕ) → length fs ≡ length rs → k < length rs
+    → drop from s ≡ rowsBytes rs fs ++ rest
     → (more : List ℕ) × (drop (endFrom from (take k rs)) s ≡ partsTo (rowAt rs k .places) (placedAt (rowAt rs k) (valuesAt fs k)) ++ more)
 unfolding rowsBytes
 row-found from [] fs k s rest e l h = absurd (omega arith)
@@ -54,7 +55,8 @@ row-found from (r ∷ rs) (f ∷ fs) (suc k) s rest e l h =
     row-found (from + rowSize r) rs fs k s rest (omega arith) (omega arith) t
 
 -- the fields found at place i of row k are its values
-pub row-fields : (rs : List Row) (fs : List Values) (k i : ℕ) (s rest : List ℕ) → length fs ≡ length rs → k < length rs → i < rowAt rs k .places → s ≡ rowsBytes rs fs ++ rest
+pub row-fields : (rs : List Row) (fs : List Values) (k i : ℕ) (s rest : List ℕ) → length fs ≡ length rs → k < length rs
+    → i < rowAt rs k .places → s ≡ rowsBytes rs fs ++ rest
     → Whole (rowAt rs k .widths) → Fitting (rowAt rs k .widths) (valuesAt fs k i)
     → fieldsOf (rowAt rs k .widths) (drop (placeAt rs k i) s) ≡ valuesAt fs k i
 row-fields rs fs k i s rest e l m h w f =
@@ -68,7 +70,8 @@ row-fields rs fs k i s rest e l m h w f =
 -- ---- stored
 
 -- rows stored behind a front xs that is there already
-stored-behind : (rs : List Row) (fs : List Values) (from : ℕ) (xs e l : List ℕ) → length fs ≡ length rs → length xs ≡ from → l ≡ xs ++ drop from e → endFrom from rs ≤ length e
+stored-behind : (rs : List Row) (fs : List Values) (from : ℕ) (xs e l : List ℕ) → length fs ≡ length rs → length xs ≡ from
+    → l ≡ xs ++ drop from e → endFrom from rs ≤ length e
     → putRows from rs fs l ≡ xs ++ rowsBytes rs fs ++ drop (endFrom from rs) e
 unfolding putRows rowsBytes
 stored-behind [] fs from xs e l n p q m = q ∙ ap (λ (x : List ℕ). x ++ drop from e) (sym (append-nil xs))

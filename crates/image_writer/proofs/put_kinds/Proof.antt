@@ -13,7 +13,8 @@ use Rattle.image_writer.proofs.put_kinds.Statement.{statement}
 use Rattle.image_writer.proofs.put_kinds.Tie as tie
 
 abbrev Inv-loop : tie.InvT-loop
-Inv-loop out₀ plan i₀ out i = (i ≤ 16) × (out ≡ putTo i (kindBytesAt plan) (kindPlace 0) (sizeOf kindWidths) out₀) × (length out ≡ length out₀)
+Inv-loop out₀ plan i₀ out i =
+    (i ≤ 16) × (out ≡ putTo i (kindBytesAt plan) (kindPlace 0) (sizeOf kindWidths) out₀) × (length out ≡ length out₀)
 
 abbrev μ-loop : tie.MeasureT-loop
 μ-loop out₀ plan i₀ out i = 16 - i

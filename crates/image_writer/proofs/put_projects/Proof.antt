@@ -13,7 +13,8 @@ use Rattle.image_writer.proofs.put_projects.Statement.{statement}
 use Rattle.image_writer.proofs.put_projects.Tie as tie
 
 abbrev Inv-loop : tie.InvT-loop
-Inv-loop out₀ plan j₀ out j = (j ≤ 8) × (out ≡ putTo j (projectBytesAt plan) (projectPlace 0) (sizeOf projectWidths) out₀) × (length out ≡ length out₀)
+Inv-loop out₀ plan j₀ out j =
+    (j ≤ 8) × (out ≡ putTo j (projectBytesAt plan) (projectPlace 0) (sizeOf projectWidths) out₀) × (length out ≡ length out₀)
 
 abbrev μ-loop : tie.MeasureT-loop
 μ-loop out₀ plan j₀ out j = 8 - j

@@ -13,7 +13,8 @@ use Rattle.image_writer.proofs.put_units.Statement.{statement}
 use Rattle.image_writer.proofs.put_units.Tie as tie
 
 abbrev Inv-loop : tie.InvT-loop
-Inv-loop out₀ state i₀ out i = (i ≤ 16) × (out ≡ putTo i (unitBytesAt state) (unitPlace 0) (sizeOf unitWidths) out₀) × (length out ≡ length out₀)
+Inv-loop out₀ state i₀ out i =
+    (i ≤ 16) × (out ≡ putTo i (unitBytesAt state) (unitPlace 0) (sizeOf unitWidths) out₀) × (length out ≡ length out₀)
 
 abbrev μ-loop : tie.MeasureT-loop
 μ-loop out₀ state i₀ out i = 16 - i

@@ -24,16 +24,22 @@ use Rattle.plan.specs.declared.Plan.{Plan}
 use Rattle.unit.specs.declared.Unit.{Unit}
 use Rattle.rack.specs.declared.State.{State}
 use Rattle.rack.specs.State.{unitOf}
-use Rattle.images.specs.Image.{countWidths, projectWidths, kindWidths, clockWidths, unitWidths, planRows, stateRows, planSize, stateSize, projectPlace, kindPlace, clockPlace, unitPlace, releasedAt, releasedTold, field, projectFrom, kindFrom, clockFrom, unitFrom, projectsFrom, kindsFrom, unitsFrom, planFrom, stateFrom, countFields, projectFields, kindFields, unitFields, projectBytesAt, kindBytesAt, unitBytesAt, planValues, stateValues, planImage, stateImage}
+use Rattle.images.specs.Image.{countWidths, projectWidths, kindWidths, clockWidths, unitWidths, planRows, stateRows, planSize}
+use Rattle.images.specs.Image.{stateSize, projectPlace, kindPlace, clockPlace, unitPlace, releasedAt, releasedTold, field}
+use Rattle.images.specs.Image.{projectFrom, kindFrom, clockFrom, unitFrom, projectsFrom, kindsFrom, unitsFrom, planFrom, stateFrom}
+use Rattle.images.specs.Image.{countFields, projectFields, kindFields, unitFields, projectBytesAt, kindBytesAt, unitBytesAt}
+use Rattle.images.specs.Image.{planValues, stateValues, planImage, stateImage}
 
 -- ---- the fields of a place off its number n
 
-pub project-at : (s : List ℕ) (n : ℕ) → n ≡ numberTo (sizeOf projectWidths) s → record { ceiling = n / 65536 % 256; budget = n % 65536 } ≡ projectFrom s
+pub project-at : (s : List ℕ) (n : ℕ) → n ≡ numberTo (sizeOf projectWidths) s
+    → record { ceiling = n / 65536 % 256; budget = n % 65536 } ≡ projectFrom s
 unfolding projectFrom fieldsOf unpack
 project-at s n e = rw (← e, div-one n)
 
 pub kind-at : (s : List ℕ) (n : ℕ) → n ≡ numberTo (sizeOf kindWidths) s
-    → record { project = n / 281474976710656 % 256; separation = n / 4294967296 % 65536; deadline = n / 65536 % 65536; length = n % 65536 } ≡ kindFrom s
+    → record { project = n / 281474976710656 % 256; separation = n / 4294967296 % 65536; deadline = n / 65536 % 65536; length = n % 65536 }
+    ≡ kindFrom s
 unfolding kindFrom fieldsOf unpack
 kind-at s n e = rw (← e, div-one n)
 
@@ -51,7 +57,8 @@ unfolding unitFrom fieldsOf unpack
 unit-at s n e = rw (← e, div-one n)
 
 -- the steps of the loop over the released bytes
-pub told-again : (i x : ℕ) (s : List ℕ) → true ≡ allTo i (releasedAt s) → x ≡ field unitWidths (drop (unitPlace i) s) 0 → x ≤ 1 → true ≡ allTo (i + 1) (releasedAt s)
+pub told-again : (i x : ℕ) (s : List ℕ) → true ≡ allTo i (releasedAt s) → x ≡ field unitWidths (drop (unitPlace i) s) 0 → x ≤ 1
+    → true ≡ allTo (i + 1) (releasedAt s)
 told-again i x s e f l = all-more i (releasedAt s) e (le-leb (field unitWidths (drop (unitPlace i) s) 0) 1 (omega arith))
 
 pub told-fails : (i x : ℕ) (s : List ℕ) → x ≡ field unitWidths (drop (unitPlace i) s) 0 → 1 < x → i < 16 → false ≡ releasedTold s
@@ -63,13 +70,23 @@ unfolding releasedTold
 told-end i s e a b = all-stop true i 16 (releasedAt s) e a b
 
 -- the counts and the places make the plan
-pub plan-from : (s : List ℕ) (n : ℕ) (projects : List Project) (kinds : List Kind) → n ≡ numberTo (sizeOf countWidths) s → projects ≡ projectsFrom 8 s → kinds ≡ kindsFrom 16 s
-    → record { cards = n / 16777216 % 256; projects = n / 65536 % 256; kinds = n / 256 % 256; frame = n % 256; project = projects; kind = kinds } ≡ planFrom s
+pub plan-from : (s : List ℕ) (n : ℕ) (projects : List Project) (kinds : List Kind) → n ≡ numberTo (sizeOf countWidths) s
+    → projects ≡ projectsFrom 8 s → kinds ≡ kindsFrom 16 s
+    → record {
+      cards = n / 16777216 % 256;
+      projects = n / 65536 % 256;
+      kinds = n / 256 % 256;
+      frame = n % 256;
+      project = projects;
+      kind =
+          kinds;
+    } ≡ planFrom s
 unfolding planFrom fieldsOf unpack
 plan-from s n projects kinds e f g = rw (f, g, ← e, div-one n)
 
 -- the plan, the clock and the units make the state
-pub state-from : (s : List ℕ) (p : Plan) (clock : ℕ) (units : List Unit) → p ≡ planFrom s → clock ≡ clockFrom (drop clockPlace s) → units ≡ unitsFrom 16 s
+pub state-from : (s : List ℕ) (p : Plan) (clock : ℕ) (units : List Unit) → p ≡ planFrom s → clock ≡ clockFrom (drop clockPlace s)
+    → units ≡ unitsFrom 16 s
     → record { plan = p; clock = clock; unit = units } ≡ stateFrom s
 unfolding stateFrom
 state-from s p clock units e f g = λ i. record { plan = e i; clock = f i; unit = g i }
@@ -77,10 +94,12 @@ state-from s p clock units e f g = λ i. record { plan = e i; clock = f i; unit 
 -- ---- the fields of a place as its number
 
 pub put-counts : (p : Plan) (m k n f at : ℕ) (l after : List ℕ) → m ≡ p .cards → k ≡ p .projects → n ≡ p .kinds → f ≡ p .frame
-    → after ≡ sets l at (bytesOf (sizeOf countWidths) (m * 16777216 + k * 65536 + n * 256 + f)) → after ≡ sets l at (placed countWidths (countFields p))
+    → after ≡ sets l at (bytesOf (sizeOf countWidths) (m * 16777216 + k * 65536 + n * 256 + f))
+    → after ≡ sets l at (placed countWidths (countFields p))
 unfolding placed pack
 put-counts p m k n f at l after a b d e h =
-    let x : m * 16777216 + k * 65536 + n * 256 + f ≡ p .cards * 16777216 + (p .projects * 65536 + (p .kinds * 256 + (p .frame * 1 + 0))) = omega arith in
+    let x : m * 16777216 + k * 65536 + n * 256 + f ≡ p .cards * 16777216 + (p .projects * 65536 + (p .kinds * 256 + (p .frame * 1 + 0))) =
+    omega arith in
     h ∙ ap (λ (y : ℕ). sets l at (bytesOf 4 y)) x
 
 pub put-project : (v : Project) (q b at : ℕ) (l after : List ℕ) → q ≡ v .ceiling → b ≡ v .budget
@@ -91,21 +110,26 @@ put-project v q b at l after e f h =
     h ∙ ap (λ (y : ℕ). sets l at (bytesOf 3 y)) x
 
 pub put-kind : (v : Kind) (j t d c at : ℕ) (l after : List ℕ) → j ≡ v .project → t ≡ v .separation → d ≡ v .deadline → c ≡ v .length
-    → after ≡ sets l at (bytesOf (sizeOf kindWidths) (j * 281474976710656 + t * 4294967296 + d * 65536 + c)) → after ≡ sets l at (placed kindWidths (kindFields v))
+    → after ≡ sets l at (bytesOf (sizeOf kindWidths) (j * 281474976710656 + t * 4294967296 + d * 65536 + c))
+    → after ≡ sets l at (placed kindWidths (kindFields v))
 unfolding placed pack
 put-kind v j t d c at l after e f g i h =
-    let x : j * 281474976710656 + t * 4294967296 + d * 65536 + c ≡ v .project * 281474976710656 + (v .separation * 4294967296 + (v .deadline * 65536 + (v .length * 1 + 0))) = omega arith in
+    let x : j * 281474976710656 + t * 4294967296 + d * 65536 + c ≡ v .project * 281474976710656 +
+    (v .separation * 4294967296 + (v .deadline * 65536 + (v .length * 1 + 0))) = omega arith in
     h ∙ ap (λ (y : ℕ). sets l at (bytesOf 7 y)) x
 
-pub put-clock : (clock x at : ℕ) (l after : List ℕ) → x ≡ clock → after ≡ sets l at (bytesOf (sizeOf clockWidths) x) → after ≡ sets l at (placed clockWidths (clock ∷ []))
+pub put-clock : (clock x at : ℕ) (l after : List ℕ) → x ≡ clock → after ≡ sets l at (bytesOf (sizeOf clockWidths) x)
+    → after ≡ sets l at (placed clockWidths (clock ∷ []))
 unfolding placed pack
 put-clock clock x at l after e h = let z : x ≡ clock * 1 + 0 = omega arith in h ∙ ap (λ (y : ℕ). sets l at (bytesOf 4 y)) z
 
 pub put-unit : (v : Unit) (z r w at : ℕ) (l after : List ℕ) → z ≡ cond (v .released) 1 0 → r ≡ v .at → w ≡ v .left
-    → after ≡ sets l at (bytesOf (sizeOf unitWidths) (z * 281474976710656 + r * 65536 + w)) → after ≡ sets l at (placed unitWidths (unitFields v))
+    → after ≡ sets l at (bytesOf (sizeOf unitWidths) (z * 281474976710656 + r * 65536 + w))
+    → after ≡ sets l at (placed unitWidths (unitFields v))
 unfolding placed pack
 put-unit v z r w at l after e f g h =
-    let x : z * 281474976710656 + r * 65536 + w ≡ cond (v .released) 1 0 * 281474976710656 + (v .at * 65536 + (v .left * 1 + 0)) = omega arith in
+    let x : z * 281474976710656 + r * 65536 + w ≡ cond (v .released) 1 0 * 281474976710656 + (v .at * 65536 + (v .left * 1 + 0)) =
+    omega arith in
     h ∙ ap (λ (y : ℕ). sets l at (bytesOf 7 y)) x
 
 -- ---- the whole images
@@ -120,7 +144,8 @@ state-length s = rows-length stateRows (stateValues s) refl
 
 -- row by row, before what was there
 pub store-plan : (p : Plan) (out a b after : List ℕ) → planSize ≤ length out → a ≡ sets out 0 (placed countWidths (countFields p))
-    → b ≡ putTo 8 (projectBytesAt p) (projectPlace 0) (sizeOf projectWidths) a → after ≡ putTo 16 (kindBytesAt p) (kindPlace 0) (sizeOf kindWidths) b
+    → b ≡ putTo 8 (projectBytesAt p) (projectPlace 0) (sizeOf projectWidths) a
+    → after ≡ putTo 16 (kindBytesAt p) (kindPlace 0) (sizeOf kindWidths) b
     → after ≡ planImage p ++ drop planSize out
 unfolding planImage putRows putTo
 store-plan p out a b after l e f g = rw (g, f, e) (rows-stored planRows (planValues p) out refl l)

@@ -31,7 +31,8 @@ long-room s n l = rw (le-ltb (length s) n l)
 
 -- ---- a plan found
 
-pub plan-short : (s : List ℕ) (x : Answer) (p : Plan) → x ≡ bare 9 → length s < planSize → p ≡ noPlan → record { answer = x; plan = p } ≡ planFound s
+pub plan-short : (s : List ℕ) (x : Answer) (p : Plan) → x ≡ bare 9 → length s < planSize → p ≡ noPlan
+    → record { answer = x; plan = p } ≡ planFound s
 unfolding planFound
 plan-short s x p b l e = rw (lt-ltb (length s) planSize l, b, e)
 
@@ -51,7 +52,8 @@ unfolding planFound
 plan-is s f e g = ap (λ (x : PlanFound). x .plan) e ∙ ap (λ (a : Answer). ifGood a (planFrom s) noPlan) (plan-room s f e g)
 
 -- an order that begins with it, opened
-pub plan-no : (s : List ℕ) (f : PlanFound) (b : Answer) (w : Refusal) → f ≡ planFound s → f .answer ≡ No w → f .answer ≡ (room s planSize andThen b)
+pub plan-no : (s : List ℕ) (f : PlanFound) (b : Answer) (w : Refusal) → f ≡ planFound s → f .answer ≡ No w
+    → f .answer ≡ (room s planSize andThen b)
 plan-no s f b w e g = opened-no (f .answer) (room s planSize) b w g (plan-answer s f e)
 
 pub plan-on : (s : List ℕ) (f : PlanFound) (b x : Answer) → f ≡ planFound s → f .answer ≡ Good → x ≡ b → x ≡ (room s planSize andThen b)
@@ -68,11 +70,14 @@ refused-state : (a : Answer) (v : State) → ifGood (a andThen bare 10) v noStat
 refused-state Good v = refl
 refused-state (No r) v = refl
 
-pub state-untold : (s : List ℕ) (told : Bool) (p : Plan) (a : Answer) (v : State) → stateSize ≤ length s → told ≡ releasedTold s → not told ≡ true → p ≡ planFrom s → a ≡ (checked p andThen bare 10) → v ≡ noState → record { answer = a; state = v } ≡ stateFound s
+pub state-untold : (s : List ℕ) (told : Bool) (p : Plan) (a : Answer) (v : State) → stateSize ≤ length s → told ≡ releasedTold s
+    → not told ≡ true → p ≡ planFrom s → a ≡ (checked p andThen bare 10) → v ≡ noState → record { answer = a; state = v } ≡ stateFound s
 unfolding stateFound foundAnswer
-state-untold s told p a v l h t e f g = rw (le-ltb (length s) stateSize l, sym h ∙ not-true told t, refused-state (checked (planFrom s)) (stateFrom s), f, e, g)
+state-untold s told p a v l h t e f g =
+    rw (le-ltb (length s) stateSize l, sym h ∙ not-true told t, refused-state (checked (planFrom s)) (stateFrom s), f, e, g)
 
-pub state-good : (s : List ℕ) (told : Bool) (v : State) → stateSize ≤ length s → told ≡ releasedTold s → not told ≡ false → v ≡ stateFrom s → record { answer = Good; state = v } ≡ stateFound s
+pub state-good : (s : List ℕ) (told : Bool) (v : State) → stateSize ≤ length s → told ≡ releasedTold s → not told ≡ false → v ≡ stateFrom s
+    → record { answer = Good; state = v } ≡ stateFound s
 unfolding stateFound foundAnswer
 state-good s told v l h t e = rw (le-ltb (length s) stateSize l, sym h ∙ not-false told t, e)
 
@@ -85,14 +90,16 @@ found-good s f e g = opened-is (f .answer) (foundAnswer s) g (state-answer s f e
 
 pub state-room : (s : List ℕ) (f : StateFound) → f ≡ stateFound s → f .answer ≡ Good → room s stateSize ≡ Good
 unfolding foundAnswer
-state-room s f e g = andThen-left (room s stateSize) (cond (releasedTold s) Good (checked (planFrom s) andThen bare 10)) (found-good s f e g)
+state-room s f e g =
+    andThen-left (room s stateSize) (cond (releasedTold s) Good (checked (planFrom s) andThen bare 10)) (found-good s f e g)
 
 pub state-is : (s : List ℕ) (f : StateFound) → f ≡ stateFound s → f .answer ≡ Good → f .state ≡ stateFrom s
 unfolding stateFound
 state-is s f e g = ap (λ (x : StateFound). x .state) e ∙ ap (λ (a : Answer). ifGood a (stateFrom s) noState) (found-good s f e g)
 
 -- an order that begins with it, opened
-pub state-no : (s : List ℕ) (f : StateFound) (b : Answer) (w : Refusal) → f ≡ stateFound s → f .answer ≡ No w → f .answer ≡ (foundAnswer s andThen b)
+pub state-no : (s : List ℕ) (f : StateFound) (b : Answer) (w : Refusal) → f ≡ stateFound s → f .answer ≡ No w
+    → f .answer ≡ (foundAnswer s andThen b)
 state-no s f b w e g = opened-no (f .answer) (foundAnswer s) b w g (state-answer s f e)
 
 pub state-on : (s : List ℕ) (f : StateFound) (b x : Answer) → f ≡ stateFound s → f .answer ≡ Good → x ≡ b → x ≡ (foundAnswer s andThen b)

@@ -33,7 +33,8 @@ use Rattle.rack.specs.Release.Properties.{release-says, release-unit, release-o
 use Rattle.rack.specs.Advance.{unitAfter, advanced}
 use Rattle.rack.specs.Slice.{sliceAnswer}
 use Rattle.rack.specs.Slice.Properties.{slice-says}
-use Rattle.images.specs.Image.{countWidths, projectWidths, kindWidths, clockWidths, unitWidths, projectPlace, kindPlace, clockPlace, unitPlace}
+use Rattle.images.specs.Image.{countWidths, projectWidths, kindWidths, clockWidths, unitWidths, projectPlace, kindPlace, clockPlace}
+use Rattle.images.specs.Image.{unitPlace}
 use Rattle.images.specs.Image.{projectFrom, kindFrom, clockFrom, unitFrom, planFrom, stateFrom, projectFields, kindFields, unitFields}
 use Rattle.images.specs.Typed.{PlanTyped, StateTyped}
 
@@ -107,7 +108,8 @@ module _ (p : Plan) (shaped : Shaped p) (order : InOrder p) where
       let b : v .budget ≤ 8 * 64 = omega (arith, r .budget-most, mul-le-mul q (c .frame-most)) in
       (omega arith, (omega arith, tt))
   order-project j l (no u) =
-      rw (empty-project (projectOf p j) (unused-place j (p .projects) (emptyProject (projectOf p j)) (omega arith) (order .projects-tidy j l)))
+      rw (empty-project (projectOf p j)
+      (unused-place j (p .projects) (emptyProject (projectOf p j)) (omega arith) (order .projects-tidy j l)))
       (omega arith, (omega arith, tt))
 
   order-kind : (i : ℕ) → i < 16 → Dec (i < p .kinds) → Fitting kindWidths (kindFields (kindOf p i))

@@ -46,7 +46,7 @@ impl State {
     pub(crate) fn in_use(self, place: usize) -> bool
         ensures { λ r. ⌜ r ≡ used self place ⌝ }
     {
-        place < self.places()
+        place < self.plan.kinds as usize
     }
 
     // The plan at clock 0, with no kind ever released.

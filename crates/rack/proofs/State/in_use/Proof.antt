@@ -4,11 +4,11 @@ use borrow.Author.Needs.{needs}
 use Rattle.rack.proofs.State.in_use.Statement.{statement}
 use Rattle.rack.proofs.State.in_use.Tie as tie
 
-places-requires : tie.Need-places-requires
-places-requires c κs = search needs
+cast-result : tie.Need-cast-result
+cast-result c = search needs
 
 returns : tie.Need-returns
-returns c = rw (c .places .ensures)
+returns c = search needs
 
 pub in-use-spec : {M : Type 1} → statement M
-in-use-spec = tie.close (tie.spec places-requires returns)
+in-use-spec = tie.close (tie.spec cast-result returns)

@@ -39,7 +39,8 @@ pub extern "C" fn parchbeetle_read(bytes: &[u8], plan: &mut [u8]) -> u64
     let Answer::Good = stored else {
         return stored.told(0);
     };
-    stored.told(reading.taken as u16)
+    let taken = reading.taken as u16;
+    stored.told(taken)
 }
 
 // Writes the bytes of an image's plan.
@@ -54,7 +55,8 @@ pub extern "C" fn parchbeetle_write(plan: &[u8], out: &mut [u8]) -> u64
     };
     let done = plan_writer::write(found.plan, out);
     let answer = done.answer;
-    answer.told(done.count as u16)
+    let written = done.count as u16;
+    answer.told(written)
 }
 
 // Writes the slot table of an image's plan.
@@ -69,7 +71,8 @@ pub extern "C" fn parchbeetle_slot_table(plan: &[u8], out: &mut [u8]) -> u64
     };
     let table = layout::slot_table(found.plan, out);
     let answer = table.answer;
-    answer.told(table.count as u16)
+    let slots = table.count as u16;
+    answer.told(slots)
 }
 
 fn put_widths(width: [u8; Plan::KINDS], k: &mut [u8])

@@ -38,8 +38,8 @@ same-length c = search needs
 returns-2 : tie.Need-returns-2
 returns-2 c = search read-short
 
-cast-told : tie.Need-cast-told
-cast-told c = fits-under _ _ 65536 (search read-count) tt
+cast-taken : tie.Need-cast-taken
+cast-taken c = fits-under _ _ 65536 (search read-count) tt
 
 told-requires-3 : tie.Need-told-requires-3
 told-requires-3 c κs = search needs
@@ -65,7 +65,7 @@ parchbeetle-read-spec =
     told-requires-2
     same-length
     returns-2
-    cast-told
+    cast-taken
     told-requires-3
     same-length-2
     returns-3)

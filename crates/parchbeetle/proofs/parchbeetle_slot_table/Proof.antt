@@ -26,8 +26,8 @@ returns c = search unfound-outcome
 slot-table-requires : tie.Need-slot-table-requires
 slot-table-requires c κs = search needs
 
-cast-told : tie.Need-cast-told
-cast-told c = search (slots-count, needs)
+cast-slots : tie.Need-cast-slots
+cast-slots c = search (slots-count, needs)
 
 told-requires-2 : tie.Need-told-requires-2
 told-requires-2 c κs = search needs
@@ -48,7 +48,7 @@ parchbeetle-slot-table-spec =
     told-requires
     returns
     slot-table-requires
-    cast-told
+    cast-slots
     told-requires-2
     same-length
     returns-2)

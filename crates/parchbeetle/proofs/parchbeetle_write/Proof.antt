@@ -26,8 +26,8 @@ returns c = search unfound-outcome
 write-requires : tie.Need-write-requires
 write-requires c κs = search needs
 
-cast-told : tie.Need-cast-told
-cast-told c = search (write-count, needs)
+cast-written : tie.Need-cast-written
+cast-written c = search (write-count, needs)
 
 told-requires-2 : tie.Need-told-requires-2
 told-requires-2 c κs = search needs
@@ -48,7 +48,7 @@ parchbeetle-write-spec =
     told-requires
     returns
     write-requires
-    cast-told
+    cast-written
     told-requires-2
     same-length
     returns-2)

@@ -8,6 +8,7 @@ use native.Mathlib.Omega.{arith}
 use lib.ListN.{length, take, drop, set, getD, length-drop}
 use lib.Seq.{take-suc, drop-cons, getD-drop, set-at, append-snoc, length-take-le, take-at, getD-append-add}
 use borrow.Author.Tests.{le-leb, lt-leb}
+use Rattle.laws.specs.Loops.{stop}
 use Rattle.commands.specs.Kept.{within, inFront, Keeps}
 
 -- the first i bytes from `from` on are in front
@@ -58,10 +59,9 @@ pub keeps-part : (bytes m : List ℕ) (from to i n : ℕ) → from ≤ to → to
     → n ≤ i → Keeps bytes from to n m
 unfolding within inFront moved
 keeps-part bytes m from to i n k l e f a b =
-    let g : i ≡ to - from = omega arith in
     record {
       result = rw (le-leb from to k, le-leb to (length bytes) l) f;
-      buffer = rw (le-leb from to k, le-leb to (length bytes) l) (e ∙ ap (λ (j : ℕ). take j (drop from bytes) ++ drop j bytes) g);
+      buffer = rw (le-leb from to k, le-leb to (length bytes) l) (stop (moved bytes from) m i n e a b ∙ ap (moved bytes from) f);
     }
 
 -- the count lies within the buffer

@@ -14,6 +14,9 @@ use answer::Answer;
 use plan::Kind;
 use plan::Plan;
 use plan::Project;
+use plan_bytes::HEADER;
+use plan_bytes::KIND;
+use plan_bytes::PROJECT;
 use plan_bytes::Reading;
 use plan_bytes::size;
 
@@ -53,7 +56,7 @@ fn projects_from(s: &[u8], count: u8) -> Projects
     let mut project = none.project;
     let mut clean = true;
     for j in 0..count as usize {
-        let at = 2 * j;
+        let at = PROJECT * j;
         let part = part::project_from(&s[at..]);
         let read = part.project;
         project[j] = read;
@@ -71,7 +74,7 @@ fn kinds_from(s: &[u8], count: u8) -> Kinds
     let mut kind = none.kind;
     let mut clean = true;
     for i in 0..count as usize {
-        let at = 5 * i;
+        let at = KIND * i;
         let part = part::kind_from(&s[at..]);
         let read = part.kind;
         kind[i] = read;
@@ -96,9 +99,9 @@ fn places(bytes: &[u8], plan: Plan) -> Placed
     requires { ⌜ (plan ≡ headed (now bytes)) × (plan .projects ≤ 8) × (plan .kinds ≤ 16) × (size plan ≤ length (now bytes)) ⌝ }
     ensures { λ r. ⌜ (r .plan ≡ decoded (now (bytes .entry))) × (r .clean ≡ placesSpare (now (bytes .entry))) ⌝ }
 {
-    let first = 3;
+    let first = HEADER;
     let projects = projects_from(&bytes[first..], plan.projects);
-    let next = 3 + 2 * plan.projects as usize;
+    let next = HEADER + PROJECT * plan.projects as usize;
     let kinds = kinds_from(&bytes[next..], plan.kinds);
     let project = projects.project;
     let kind = kinds.kind;
@@ -144,7 +147,7 @@ fn body(bytes: &[u8], plan: Plan, spare: u8) -> Reading
 pub fn read(bytes: &[u8]) -> Reading
     ensures { λ r. ⌜ r ≡ readOf (now (bytes .entry)) ⌝ }
 {
-    if bytes.len() < 3 {
+    if bytes.len() < HEADER {
         return refused(Answer::bare(1));
     }
     let header = part::header_from(bytes);

@@ -11,6 +11,9 @@ ghost use Rattle.codec.specs.Places.{putTo};
 ghost use Rattle.plan_bytes.specs.Writing.{Writes};
 use answer::Answer;
 use plan::Plan;
+use plan_bytes::HEADER;
+use plan_bytes::KIND;
+use plan_bytes::PROJECT;
 use plan_bytes::Written;
 use plan_bytes::size;
 
@@ -21,7 +24,7 @@ fn put_projects(plan: Plan, out: &mut [u8])
 {
     for j in 0..plan.projects as usize {
         let project = plan.project[j];
-        part::put_project(project, out, 3 + 2 * j);
+        part::put_project(project, out, HEADER + PROJECT * j);
     }
 }
 
@@ -30,10 +33,10 @@ fn put_kinds(plan: Plan, out: &mut [u8])
     requires { ⌜ (plan .kinds ≤ 16) × (3 + 2 * plan .projects + 5 * plan .kinds ≤ length (now out)) ⌝ }
     ensures { λ _. ⌜ now (out .exit) ≡ putTo (plan .kinds) (kindBytesAt plan) (3 + 2 * plan .projects) 5 (now (out .entry)) ⌝ }
 {
-    let start = 3 + 2 * plan.projects as usize;
+    let start = HEADER + PROJECT * plan.projects as usize;
     for i in 0..plan.kinds as usize {
         let kind = plan.kind[i];
-        part::put_kind(kind, out, start + 5 * i);
+        part::put_kind(kind, out, start + KIND * i);
     }
 }
 

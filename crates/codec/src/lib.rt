@@ -1,7 +1,7 @@
 // Numbers as bytes and bits, for every format above: the definitions and their laws stand in specs/,
 // and the two functions here read a number's bytes and store them.
 ghost use mathlib.Core.Path.{_≡_};
-ghost use Prim.Native.Nat.{_<_, min};
+ghost use Prim.Native.Nat.{_≤_, _<_, min};
 ghost use lib.ListN.{length};
 ghost use Rattle.codec.specs.Bytes.{numberTo, Fills};
 
@@ -21,18 +21,29 @@ fn least(a: usize, b: usize) -> usize
     b
 }
 
+// The number that so many bytes say.
+fn front(bytes: &[u8], count: usize) -> u64
+    requires { ⌜ (count ≤ length (now bytes)) × (count ≤ 8) ⌝ }
+    ensures { λ r. ⌜ r ≡ numberTo count (now (bytes .entry)) ⌝ }
+{
+    let mut sum: u64 = 0;
+    for i in 0..count {
+        sum = sum * 256 + wide(bytes[i]);
+    }
+    sum
+}
+
 // The number that the first bytes say, most significant first: so many of them, but no more than
-// are there, and eight at the most.
+// are there, and eight at the most. Where all are there their count is the caller's own number, so
+// that a compiler can unroll the loop.
 pub fn number(bytes: &[u8], count: usize) -> u64
     ensures { λ r. ⌜ r ≡ numberTo (min (min count 8) (length (now (bytes .entry)))) (now (bytes .entry)) ⌝ }
 {
     let limited = least(count, 8);
-    let seen = least(limited, bytes.len());
-    let mut sum: u64 = 0;
-    for i in 0..seen {
-        sum = sum * 256 + wide(bytes[i]);
+    if limited <= bytes.len() {
+        return front(bytes, limited);
     }
-    sum
+    front(bytes, bytes.len())
 }
 
 // Fills a buffer with a number's lowest bytes, most significant first, and says how many.

@@ -1,73 +1,24 @@
 -- `codec::number` meets its contract.
 -- Assumes nothing.
-use mathlib.Core.Path.{_≡_}
-use Prim.Native.Nat.{_≤_, _<_, _-_, _^_}
-use native.Mathlib.Omega.{arith}
 use borrow.Author.Needs.{needs}
-use Rattle.codec.specs.Bytes.{numberTo}
-use Rattle.codec.specs.Bytes.Properties.{number-none, number-again, number-seen, number-more, number-room}
+use Rattle.codec.specs.Bytes.Properties.{number-all, number-short}
 use Rattle.codec.proofs.number.Statement.{statement}
 use Rattle.codec.proofs.number.Tie as tie
 
-abbrev Inv-loop : tie.InvT-loop
-Inv-loop bytes count limited seen sum₀ i₀ sum i = (i ≤ seen) × (sum ≡ numberTo i bytes) × (sum < 256 ^ i)
-
-abbrev μ-loop : tie.MeasureT-loop
-μ-loop bytes count limited seen sum₀ i₀ sum i = seen - i
-
-least-requires : tie.Need-least-requires Inv-loop μ-loop
+least-requires : tie.Need-least-requires
 least-requires c κs = search needs
 
-least-requires-2 : tie.Need-least-requires-2 Inv-loop μ-loop
-least-requires-2 c κs = search needs
+front-requires : tie.Need-front-requires
+front-requires c κs = search needs
 
-loop-holds : tie.Need-loop-holds Inv-loop μ-loop
-loop-holds c = (omega arith, number-none _, omega arith)
+returns : tie.Need-returns
+returns c = search number-all
 
-mul-sum : tie.Need-mul-sum Inv-loop μ-loop
-mul-sum c =
-    let l = c .before .loop in
-    let h : l .sum < 256 ^ 7 = number-room (l .sum) (l .i) 7 (search) (omega arith) in
-    omega arith
+front-requires-2 : tie.Need-front-requires-2
+front-requires-2 c κs = search needs
 
-shared-slice-read-wide : tie.Need-shared-slice-read-wide Inv-loop μ-loop
-shared-slice-read-wide c = search needs
-
-wide-requires : tie.Need-wide-requires Inv-loop μ-loop
-wide-requires c κs = search needs
-
-add-sum : tie.Need-add-sum Inv-loop μ-loop
-add-sum c =
-    let l = c .before .before .before .loop in
-    let h : l .sum < 256 ^ 7 = number-room (l .sum) (l .i) 7 (search) (omega arith) in
-    omega arith
-
-add-i : tie.Need-add-i Inv-loop μ-loop
-add-i c = search needs
-
-loop-less : tie.Need-loop-less Inv-loop μ-loop
-loop-less c = search needs
-
-loop-again : tie.Need-loop-again Inv-loop μ-loop
-loop-again c = (omega arith, search number-again, search number-more)
-
-returns : tie.Need-returns Inv-loop μ-loop
-returns c = search number-seen
+returns-2 : tie.Need-returns-2
+returns-2 c = search number-short
 
 pub number-spec : {M : Type 1} → statement M
-number-spec =
-    tie.close
-    (tie.spec
-    Inv-loop
-    μ-loop
-    least-requires
-    least-requires-2
-    loop-holds
-    mul-sum
-    shared-slice-read-wide
-    wide-requires
-    add-sum
-    add-i
-    loop-less
-    loop-again
-    returns)
+number-spec = tie.close (tie.spec least-requires front-requires returns front-requires-2 returns-2)

@@ -78,12 +78,14 @@ number-more x i v p q = rw (add-one i, pow-suc) (digits-lt p q)
 pub number-room : (x i n : ℕ) → x < 256 ^ i → i ≤ n → x < 256 ^ n
 number-room x i n p q = lt-of-lt-of-le p (pow-le-pow-right {n = 256} (omega arith) q)
 
--- of a loop that goes no further than there are bytes
-pub number-seen : (x i count limited seen : ℕ) (s : List ℕ) → x ≡ numberTo i s → limited ≡ min count 8 → seen ≡ min limited (length s)
-    → i ≤ seen → seen ≤ i
+-- all of the bytes that are meant are there, or all that are there are meant
+pub number-all : (x count limited : ℕ) (s : List ℕ) → x ≡ numberTo limited s → limited ≡ min count 8 → limited ≤ length s
     → x ≡ numberTo (min (min count 8) (length s)) s
-number-seen x i count limited seen s p a b h l = let e : i ≡ min (min count 8) (length s) = omega arith in
-    p ∙ ap (λ (k : ℕ). numberTo k s) e
+number-all x count limited s p a h = let e : limited ≡ min (min count 8) (length s) = omega arith in p ∙ ap (λ (k : ℕ). numberTo k s) e
+
+pub number-short : (x count limited : ℕ) (s : List ℕ) → x ≡ numberTo (length s) s → limited ≡ min count 8 → length s < limited
+    → x ≡ numberTo (min (min count 8) (length s)) s
+number-short x count limited s p a h = let e : length s ≡ min (min count 8) (length s) = omega arith in p ∙ ap (λ (k : ℕ). numberTo k s) e
 
 -- a number of so many bytes, where so many are there
 pub number-whole : (n : ℕ) (s : List ℕ) (x : ℕ) → x ≡ numberTo (min (min n 8) (length s)) s → n ≤ 8 → n ≤ length s → x ≡ numberTo n s

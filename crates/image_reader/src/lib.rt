@@ -67,25 +67,25 @@ fn kind_from(s: &[u8], at: usize) -> Kind
     }
 }
 
-fn projects_from(s: &[u8]) -> [Project; 8]
+fn projects_from(s: &[u8]) -> [Project; Plan::PROJECTS]
     requires { ⌜ planSize ≤ length (now s) ⌝ }
     ensures { λ r. ⌜ r ≡ projectsFrom 8 (now (s .entry)) ⌝ }
 {
     let none = Plan::empty();
     let mut project = none.project;
-    for j in 0..8 {
+    for j in 0..Plan::PROJECTS {
         project[j] = project_from(s, PROJECTS_AT + PROJECT * j);
     }
     project
 }
 
-fn kinds_from(s: &[u8]) -> [Kind; 16]
+fn kinds_from(s: &[u8]) -> [Kind; Plan::KINDS]
     requires { ⌜ planSize ≤ length (now s) ⌝ }
     ensures { λ r. ⌜ r ≡ kindsFrom 16 (now (s .entry)) ⌝ }
 {
     let none = Plan::empty();
     let mut kind = none.kind;
-    for i in 0..16 {
+    for i in 0..Plan::KINDS {
         kind[i] = kind_from(s, KINDS_AT + KIND * i);
     }
     kind
@@ -127,12 +127,12 @@ fn unit_from(s: &[u8], at: usize) -> Unit
     }
 }
 
-fn units_from(s: &[u8]) -> [Unit; 16]
+fn units_from(s: &[u8]) -> [Unit; Plan::KINDS]
     requires { ⌜ stateSize ≤ length (now s) ⌝ }
     ensures { λ r. ⌜ r ≡ unitsFrom 16 (now (s .entry)) ⌝ }
 {
-    let mut unit = [Unit::empty(); 16];
-    for i in 0..16 {
+    let mut unit = [Unit::empty(); Plan::KINDS];
+    for i in 0..Plan::KINDS {
         unit[i] = unit_from(s, UNITS_AT + UNIT * i);
     }
     unit
@@ -161,7 +161,7 @@ fn released_told(s: &[u8]) -> bool
     requires { ⌜ stateSize ≤ length (now s) ⌝ }
     ensures { λ r. ⌜ r ≡ releasedTold (now (s .entry)) ⌝ }
 {
-    for i in 0..16 {
+    for i in 0..Plan::KINDS {
         if 1 < released_at(s, UNITS_AT + UNIT * i) {
             return false;
         }

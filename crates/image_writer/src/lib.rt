@@ -121,7 +121,7 @@ fn put_projects(plan: Plan, out: &mut [u8])
     requires { ⌜ planSize ≤ length (now out) ⌝ }
     ensures { λ _. ⌜ now (out .exit) ≡ putTo 8 (projectBytesAt plan) (projectPlace 0) (sizeOf projectWidths) (now (out .entry)) ⌝ }
 {
-    for j in 0..8 {
+    for j in 0..Plan::PROJECTS {
         let project = plan.project[j];
         put_project(project, out, PROJECTS_AT + PROJECT * j);
     }
@@ -131,7 +131,7 @@ fn put_kinds(plan: Plan, out: &mut [u8])
     requires { ⌜ planSize ≤ length (now out) ⌝ }
     ensures { λ _. ⌜ now (out .exit) ≡ putTo 16 (kindBytesAt plan) (kindPlace 0) (sizeOf kindWidths) (now (out .entry)) ⌝ }
 {
-    for i in 0..16 {
+    for i in 0..Plan::KINDS {
         let kind = plan.kind[i];
         put_kind(kind, out, KINDS_AT + KIND * i);
     }
@@ -141,7 +141,7 @@ fn put_units(state: State, out: &mut [u8])
     requires { ⌜ stateSize ≤ length (now out) ⌝ }
     ensures { λ _. ⌜ now (out .exit) ≡ putTo 16 (unitBytesAt state) (unitPlace 0) (sizeOf unitWidths) (now (out .entry)) ⌝ }
 {
-    for i in 0..16 {
+    for i in 0..Plan::KINDS {
         let unit = state.unit[i];
         put_unit(unit, out, UNITS_AT + UNIT * i);
     }

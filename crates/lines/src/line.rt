@@ -101,8 +101,8 @@ fn put_served(out: &mut [u8], at: usize, clock: u32, row: &[u8; 8], cards: u8) -
 fn row_cards(cards: u8) -> u8
     ensures { λ r. ⌜ (r ≡ min cards 8) × (r ≤ 8) ⌝ }
 {
-    if 8 < cards {
-        return 8;
+    if Line::CARDS < cards {
+        return Line::CARDS;
     }
     cards
 }
@@ -148,6 +148,9 @@ fn put_bad(out: &mut [u8], at: usize, clock: u32) -> usize
 impl Line {
     // What a line may take of a buffer: every line fits in it.
     pub const ROOM: usize = 128;
+
+    // The bytes of the longest row.
+    pub(crate) const CARDS: u8 = 8;
 
     // The line's bytes, from index at on; its row's bytes stand in row. Answers the index after
     // it. Where less than a line's room stands behind at, nothing is written.

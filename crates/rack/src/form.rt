@@ -3,6 +3,7 @@ ghost use mathlib.Core.Path.{_≡_};
 ghost use Rattle.rack.specs.Form.{inForm, ready};
 use crate::State;
 use answer::Answer;
+use plan::Plan;
 
 impl State {
     fn in_form(self) -> bool
@@ -12,7 +13,7 @@ impl State {
             return false;
         }
         let plan = self.plan;
-        for i in 0..16 {
+        for i in 0..Plan::KINDS {
             if !self.unit[i]
                 .fits_place(self.in_use(i), self.clock, plan.kind[i].length) {
                 return false;

@@ -22,7 +22,7 @@ use verdict::judge;
 pub struct State {
     pub plan: Plan,
     pub clock: u32,
-    pub unit: [Unit; 16],
+    pub unit: [Unit; Plan::KINDS],
 }
 
 // What a call answers, and the state that it hands back.
@@ -56,7 +56,7 @@ impl State {
         State {
             plan,
             clock: 0,
-            unit: [Unit::empty(); 16],
+            unit: [Unit::empty(); Plan::KINDS],
         }
     }
 

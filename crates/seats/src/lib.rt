@@ -10,6 +10,11 @@ ghost use Prim.Native.Nat.{_≤_, _<_};
 ghost use lib.Dec.{ltb, eqb};
 ghost use Rattle.seats.specs.Seats.{rankBy, seatAt, seatBy, seatsBy};
 
+// The most kinds and the most projects that a plan has.
+const KINDS: usize = 16;
+
+const PROJECTS: usize = 8;
+
 fn wide(x: u8) -> u16
     ensures { λ r. ⌜ (r ≡ x) × (r < 256) ⌝ }
 {
@@ -24,7 +29,7 @@ fn outranks(due: u32, k: usize, than: u32, i: usize) -> bool
 }
 
 // How many kinds of the same project outrank kind i.
-fn rank(works: &[u8; 16], due: &[u32; 16], kinds: usize, i: usize) -> u8
+fn rank(works: &[u8; KINDS], due: &[u32; KINDS], kinds: usize, i: usize) -> u8
     requires { ⌜ (kinds ≤ 16) × (i < kinds) ⌝ }
     ensures { λ r. ⌜ r ≡ rankBy (now (works .entry)) (now (due .entry)) kinds i ⌝ }
 {
@@ -55,10 +60,10 @@ fn seat_at(card: u16, end: u8) -> u8
 
 // Where kind i sits.
 fn seat(
-    works: &[u8; 16],
-    due: &[u32; 16],
-    low: &[u8; 8],
-    end: &[u8; 8],
+    works: &[u8; KINDS],
+    due: &[u32; KINDS],
+    low: &[u8; PROJECTS],
+    end: &[u8; PROJECTS],
     kinds: usize,
     i: usize,
 ) -> u8
@@ -69,7 +74,7 @@ fn seat(
     if number == 0 {
         return 0;
     }
-    if 8 < number {
+    if PROJECTS < number {
         return 0;
     }
     let project = number - 1;
@@ -81,16 +86,16 @@ fn seat(
 // or for 0 where it has nothing left; low and end are each project's lowest card and the card
 // after its last.
 pub fn seats(
-    works: &[u8; 16],
-    due: &[u32; 16],
-    low: &[u8; 8],
-    end: &[u8; 8],
+    works: &[u8; KINDS],
+    due: &[u32; KINDS],
+    low: &[u8; PROJECTS],
+    end: &[u8; PROJECTS],
     kinds: usize,
-) -> [u8; 16]
+) -> [u8; KINDS]
     ensures { λ r. ⌜ r ≡ seatsBy (now (works .entry)) (now (due .entry)) (now (low .entry)) (now (end .entry)) kinds ⌝ }
 {
-    let mut seats = [0u8; 16];
-    if 16 < kinds {
+    let mut seats = [0u8; KINDS];
+    if KINDS < kinds {
         return seats;
     }
     for i in 0..kinds {

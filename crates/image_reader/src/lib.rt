@@ -35,12 +35,14 @@ use plan::Project;
 use rack::State;
 use unit::Unit;
 
-// The number that so many bytes of an image say.
+// The number that so many bytes of an image say. The part handed on ends with them, so that the
+// compiler knows the length of the loop over it.
 fn fields(s: &[u8], at: usize, count: usize) -> u64
     requires { ⌜ (at + count ≤ length (now s)) × (count ≤ 8) ⌝ }
     ensures { λ r. ⌜ r ≡ numberTo count (drop at (now (s .entry))) ⌝ }
 {
-    codec::number(&s[at..], count)
+    let end = at + count;
+    codec::number(&s[at..end], count)
 }
 
 fn project_from(s: &[u8], at: usize) -> Project

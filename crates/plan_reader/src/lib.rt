@@ -41,10 +41,7 @@ struct Placed {
 fn both(a: bool, b: bool) -> bool
     ensures { λ r. ⌜ r ≡ (a && b) ⌝ }
 {
-    if !a {
-        return false;
-    }
-    b
+    a && b
 }
 
 // The projects, from the bytes that start after the header.

@@ -54,7 +54,7 @@ fn number(s: &[u8], count: usize) -> u64
 }
 
 // The counts at the front of s, with the spare bits after them.
-pub fn header_from(s: &[u8]) -> Header
+pub(crate) fn header_from(s: &[u8]) -> Header
     requires { ⌜ 3 ≤ length (now s) ⌝ }
     ensures { λ r. ⌜ (r .plan ≡ headed (now (s .entry))) × (r .spare ≡ headerSpare (now (s .entry))) ⌝ }
 {
@@ -71,7 +71,7 @@ pub fn header_from(s: &[u8]) -> Header
 }
 
 // A project at the front of s, with its spare bits.
-pub fn project_from(s: &[u8]) -> ProjectPart
+pub(crate) fn project_from(s: &[u8]) -> ProjectPart
     requires { ⌜ 2 ≤ length (now s) ⌝ }
     ensures { λ r. ⌜ (r .project ≡ projectFrom (now (s .entry))) × (r .spare ≡ projectSpare (now (s .entry))) ⌝ }
 {
@@ -86,7 +86,7 @@ pub fn project_from(s: &[u8]) -> ProjectPart
 }
 
 // A unit kind at the front of s, with its spare bit.
-pub fn kind_from(s: &[u8]) -> KindPart
+pub(crate) fn kind_from(s: &[u8]) -> KindPart
     requires { ⌜ 5 ≤ length (now s) ⌝ }
     ensures { λ r. ⌜ (r .kind ≡ kindFrom (now (s .entry))) × (r .spare ≡ kindSpare (now (s .entry))) ⌝ }
 {

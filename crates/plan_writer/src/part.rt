@@ -31,7 +31,7 @@ fn wider(x: u16) -> u64
 }
 
 // The header of a plan, at the front of out.
-pub fn put_header(plan: Plan, out: &mut [u8])
+pub(crate) fn put_header(plan: Plan, out: &mut [u8])
     requires { ⌜ 3 ≤ length (now out) ⌝ }
     ensures { λ _. ⌜ now (out .exit) ≡ sets (now (out .entry)) 0 (headerBytes plan) ⌝ }
 {
@@ -45,7 +45,7 @@ pub fn put_header(plan: Plan, out: &mut [u8])
 }
 
 // A project, from index at on.
-pub fn put_project(project: Project, out: &mut [u8], at: usize)
+pub(crate) fn put_project(project: Project, out: &mut [u8], at: usize)
     requires { ⌜ at + 2 ≤ length (now out) ⌝ }
     ensures { λ _. ⌜ now (out .exit) ≡ sets (now (out .entry)) at (projectBytes project) ⌝ }
 {
@@ -55,7 +55,7 @@ pub fn put_project(project: Project, out: &mut [u8], at: usize)
 }
 
 // A unit kind, from index at on.
-pub fn put_kind(kind: Kind, out: &mut [u8], at: usize)
+pub(crate) fn put_kind(kind: Kind, out: &mut [u8], at: usize)
     requires { ⌜ at + 5 ≤ length (now out) ⌝ }
     ensures { λ _. ⌜ now (out .exit) ≡ sets (now (out .entry)) at (kindBytes kind) ⌝ }
 {

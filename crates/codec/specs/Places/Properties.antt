@@ -10,7 +10,7 @@ use native.Mathlib.Omega.{arith}
 use lib.ListN.{length, take, drop, length-append, length-drop}
 use lib.Seq.{sets, sets-eq, length-sets, length-take-le, take-at, take-all, take-add, drop-at, drop-append-add, drop-drop}
 use Rattle.codec.specs.Bytes.{numberTo, bytesOf}
-use Rattle.codec.specs.Bytes.Properties.{bytes-length, number-whole}
+use Rattle.codec.specs.Bytes.Properties.{bytes-length, number-take, number-whole}
 use Rattle.codec.specs.Places.{partsTo, putTo}
 
 -- ---- a part that is handed on
@@ -19,11 +19,14 @@ use Rattle.codec.specs.Places.{partsTo, putTo}
 pub handed-on : (s : List ℕ) (a : ℕ) → take (length s - a) (drop a s) ≡ drop a s
 handed-on s a = take-all (length s - a) (drop a s) (omega (arith, length-drop a s))
 
--- the number of so many bytes there
+-- the number that `&s[at..at + n]` says is that of the n bytes there
 pub number-handed : (n at : ℕ) (s : List ℕ) (x : ℕ)
-    → x ≡ numberTo (min (min n 8) (length (take (length s - at) (drop at s)))) (take (length s - at) (drop at s))
+    → x ≡ numberTo (min (min n 8) (length (take (at + n - at) (drop at s)))) (take (at + n - at) (drop at s))
     → at + n ≤ length s → n ≤ 8 → x ≡ numberTo n (drop at s)
-number-handed n at s x e a b = number-whole n (drop at s) x (rw (handed-on s at) at e) b (omega (arith, length-drop at s))
+number-handed n at s x e a b =
+    let m : at + n - at ≡ n = omega arith in
+    let k : length (take n (drop at s)) ≡ n = length-take-le n (drop at s) (omega (arith, length-drop at s)) in
+    number-whole n (take n (drop at s)) x (rw m at e) b (omega (arith, k)) ∙ number-take n (drop at s)
 
 -- a number stored in the part from there on, of so many bytes, that was lent and is back
 pub number-lent : (n at x : ℕ) (l ys : List ℕ) → at + n ≤ length l → ys ≡ bytesOf (length (take (at + n - at) (drop at l))) x

@@ -5,6 +5,9 @@ use borrow.Author.Needs.{needs}
 use Rattle.image_reader.proofs.fields.Statement.{statement}
 use Rattle.image_reader.proofs.fields.Tie as tie
 
+add-end : tie.Need-add-end
+add-end c = search needs
+
 sub-number : tie.Need-sub-number
 sub-number c = search needs
 
@@ -22,4 +25,4 @@ returns c = search number-handed
 
 pub fields-spec : {M : Type 1} → statement M
 fields-spec =
-    tie.close (tie.spec sub-number part-number-start part-number-end number-requires returns)
+    tie.close (tie.spec add-end sub-number part-number-start part-number-end number-requires returns)

@@ -134,10 +134,6 @@ put-unit v z r w at l after e f g h =
 
 -- ---- the whole images
 
-pub plan-length : (p : Plan) → length (planImage p) ≡ planSize
-unfolding planImage
-plan-length p = rows-length planRows (planValues p) refl
-
 pub state-length : (s : State) → length (stateImage s) ≡ stateSize
 unfolding stateImage
 state-length s = rows-length stateRows (stateValues s) refl

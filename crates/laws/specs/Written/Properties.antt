@@ -51,10 +51,6 @@ unfolding written
 written-kept zero f l d i p = refl
 written-kept (suc n) f l d i p = getD-set-other (written n f l) n i (f n) d (λ e. omega arith) ∙ written-kept n f l d i (omega arith)
 
--- a loop that stores one place ahead
-pub written-ahead : {A : Type 0} (i n : ℕ) (f : ℕ → A) (l m : List A) → m ≡ written (i + 1) f l → i ≤ n → n ≤ i → m ≡ written (n + 1) f l
-written-ahead i n f l m p a b = written-stop (i + 1) (n + 1) f l m p (omega arith) (omega arith)
-
 -- what is there already need not be stored
 pub written-same : {A : Type 0} (i : ℕ) (f : ℕ → A) (l m : List A) (d : A) → m ≡ written i f l → f i ≡ getD l i d → m ≡ written (i + 1) f l
 written-same i f l m d p q =

@@ -4,7 +4,7 @@ use mathlib.Core.Path.{_≡_, refl, sym, ap, _∙_}
 use mathlib.Core.Bool.{Bool, true, false, cond, _&&_}
 use Prim.Native.Nat.{ℕ, zero, suc, _+_, _-_, _*_, _/_, _%_, _≤_, _<_}
 use native.Mathlib.Decide.{decLe, decLt}
-use native.Mathlib.Nat.{suc-mul, add-mul, one-mul, mul-le-mul-right, div-add-mod', mod-lt, mod-mod, add-mod-right, div-eq-of-lt-le}
+use native.Mathlib.Nat.{suc-mul, add-mul, one-mul, mul-le-mul-right, div-add-mod', mod-lt, add-mod-right, div-eq-of-lt-le}
 use native.Mathlib.Nat.{le-div-iff-mul-le, add-mul-div-right}
 use native.Mathlib.Omega.{arith}
 use lib.Dec.{leb, ltb, eqb}
@@ -181,10 +181,6 @@ run-card frame slice l first budget card =
 pub run-period : (first budget frame s : ℕ) → heldFrom first budget frame (s + frame) ≡ heldFrom first budget frame s
 unfolding heldFrom
 run-period first budget frame s = rw (add-mod-right s frame)
-
-pub run-mod : (first budget frame s : ℕ) → heldFrom first budget frame (s % frame) ≡ heldFrom first budget frame s
-unfolding heldFrom
-run-mod first budget frame s = rw (mod-mod s frame)
 
 module _ (first budget frame s : ℕ) (f : 0 < frame) where
   slice-in : s % frame < frame

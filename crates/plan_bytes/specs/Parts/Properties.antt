@@ -123,10 +123,6 @@ pub size-header : (p : Plan) (n : ℕ) → size p ≤ n → 3 ≤ n
 unfolding size
 size-header p n l = omega arith
 
-pub size-projects : (p : Plan) (n : ℕ) → size p ≤ n → 3 + 2 * p .projects ≤ n
-unfolding size
-size-projects p n l = omega arith
-
 -- the projects lie in what is handed on after the header
 pub size-after-header : (p : Plan) (s : List ℕ) → size p ≤ length s → 2 * p .projects ≤ length (take (length s - 3) (drop 3 s))
 unfolding size

@@ -3,7 +3,7 @@
 use mathlib.Core.Path.{_≡_, refl, sym, ap, ap₂, _∙_}
 use mathlib.Core.Bool.{Bool, true, _&&_, _||_}
 use mathlib.Core.List.{List, [], _∷_, _++_, append-assoc}
-use Prim.Native.Nat.{ℕ, zero, suc, _+_, _*_, _^_, _≤_, _<_}
+use Prim.Native.Nat.{ℕ, zero, suc, _+_, _*_, _≤_, _<_}
 use native.Mathlib.Nat.{mul-le-mul}
 use native.Mathlib.Decide.{decLt}
 use native.Mathlib.Omega.{arith}
@@ -25,10 +25,10 @@ use Rattle.answer.specs.Answer.Properties.{andThen-left, andThen-right}
 use Rattle.plan.specs.Order.{projectOf, kindOf, emptyProject, emptyKind, sized, sizes, unused, ranges, checked, InOrder, ProjectInRange}
 use Rattle.plan.specs.Order.{KindInRange}
 use Rattle.plan.specs.Order.Properties.{in-order}
-use Rattle.codec.specs.Pack.{bits, pack, unpack, Fitting}
-use Rattle.codec.specs.Pack.Properties.{pack-bound, unpack-pack}
-use Rattle.codec.specs.Bytes.{numberTo, bytesOf}
-use Rattle.codec.specs.Bytes.Properties.{bytes-length, number-append, number-bytes}
+use Rattle.codec.specs.Pack.{unpack}
+use Rattle.codec.specs.Bytes.{numberTo}
+use Rattle.codec.specs.Place.{placed, fieldsOf}
+use Rattle.codec.specs.Place.Properties.{fields-placed}
 use Rattle.codec.specs.Places.{partsTo}
 use Rattle.codec.specs.Places.Properties.{parts-length, parts-drop}
 use Rattle.plan_bytes.specs.Parts.{Shaped, headerWidths, projectWidths, kindWidths, headerBytes, projectBytes, kindBytes}
@@ -41,33 +41,24 @@ use Rattle.plan_bytes.specs.Reading.{bodyAnswer, readAnswer, reading, re
 
 -- ---- a part that was written, whatever follows it
 
--- its fields are the values
-unpacked : (ws vs : List ℕ) (n : ℕ) (rest : List ℕ) → Fitting ws vs → 2 ^ bits ws ≡ 256 ^ n
-    → unpack ws (numberTo n (bytesOf n (pack ws vs) ++ rest)) ≡ vs
-unpacked ws vs n rest f e =
-    let x = pack ws vs in
-    let l : x < 256 ^ n = rw (← e) (pack-bound ws vs f) in
-    let m = bytes-length n x in
-    ap (unpack ws) (number-append n (bytesOf n x) rest (omega arith) ∙ number-bytes n x l) ∙ unpack-pack ws vs f
-
 project-fields : (p : Plan) (v : Project) (rest : List ℕ) → p .cards ≤ 8 → p .frame ≤ 64 → ProjectInRange p v
     → projectFields (projectBytes v ++ rest) ≡ v .ceiling ∷ v .budget ∷ 0 ∷ []
-unfolding projectFields projectBytes
+unfolding projectFields projectBytes placed fieldsOf
 project-fields p v rest m f r =
     let q : v .ceiling ≤ 8 = omega (arith, r .ceiling-most) in
     let b : v .budget ≤ 8 * 64 = omega (arith, r .budget-most, mul-le-mul q f) in
-    unpacked projectWidths (v .ceiling ∷ v .budget ∷ 0 ∷ []) 2 rest (omega arith, (omega arith, (omega arith, tt))) refl
+    fields-placed projectWidths (v .ceiling ∷ v .budget ∷ 0 ∷ []) rest refl (omega arith, (omega arith, (omega arith, tt)))
 
 kind-fields : (p : Plan) (v : Kind) (rest : List ℕ) → p .projects ≤ 8 → KindInRange p v
     → kindFields (kindBytes v ++ rest) ≡ v .project ∷ v .separation ∷ v .deadline ∷ v .length ∷ 0 ∷ []
-unfolding kindFields kindBytes
+unfolding kindFields kindBytes placed fieldsOf
 kind-fields p v rest m r =
     let a = r .its-project in
     let t = r .separation-most in
     let d = r .deadline-most in
     let c = r .length-most in
-    unpacked kindWidths (v .project ∷ v .separation ∷ v .deadline ∷ v .length ∷ 0 ∷ []) 5 rest
-    (omega arith, (omega arith, (omega arith, (omega arith, (omega arith, tt))))) refl
+    fields-placed kindWidths (v .project ∷ v .separation ∷ v .deadline ∷ v .length ∷ 0 ∷ []) rest refl
+    (omega arith, (omega arith, (omega arith, (omega arith, (omega arith, tt)))))
 
 -- ---- a place that holds zeros is the empty one
 
@@ -131,7 +122,7 @@ module _ (p : Plan) (shaped : Shaped p) (good : checked p ≡ Good) (rest : List
 
   -- the header
   header-all : headerFields all ≡ p .cards ∷ p .projects ∷ p .kinds ∷ p .frame ∷ 0 ∷ []
-  unfolding headerFields headerBytes
+  unfolding headerFields headerBytes placed fieldsOf
   header-all =
       let c = order .counts in
       let a = c .cards-most in
@@ -139,8 +130,8 @@ module _ (p : Plan) (shaped : Shaped p) (good : checked p ≡ Good) (rest : List
       let d = c .kinds-most in
       let e = c .frame-most in
       ap (λ (s : List ℕ). unpack headerWidths (numberTo 3 s)) all-split
-      ∙ unpacked headerWidths (p .cards ∷ p .projects ∷ p .kinds ∷ p .frame ∷ 0 ∷ []) 3 (projects-part ++ (kinds-part ++ rest))
-      (omega arith, (omega arith, (omega arith, (omega arith, (omega arith, tt))))) refl
+      ∙ fields-placed headerWidths (p .cards ∷ p .projects ∷ p .kinds ∷ p .frame ∷ 0 ∷ []) (projects-part ++ (kinds-part ++ rest)) refl
+      (omega arith, (omega arith, (omega arith, (omega arith, (omega arith, tt)))))
 
   headed-cards : headed all .cards ≡ p .cards
   unfolding headed

@@ -3,8 +3,8 @@
 use mathlib.Core.Path.{_≡_, refl, sym, ap, ap₂, _∙_}
 use mathlib.Core.Bool.{true, not}
 use mathlib.Core.List.{List, [], _∷_, _++_}
-use Prim.Native.Nat.{ℕ, zero, suc, _+_, _*_, _%_, _^_, _≤_, _<_}
-use native.Mathlib.Nat.{mod-eq-of-lt, mul-suc, mul-zero}
+use Prim.Native.Nat.{ℕ, zero, suc, _+_, _*_, _≤_, _<_}
+use native.Mathlib.Nat.{mul-suc, mul-zero}
 use native.Mathlib.Omega.{arith}
 use lib.Dec.{ltb, eqb}
 use lib.ListN.{length, getD, take, drop, replicate, length-replicate, length-drop}
@@ -19,10 +19,10 @@ use Rattle.answer.specs.Answer.{bare, refuse, _andThen_}
 use Rattle.answer.specs.Answer.Properties.{andThen-left, andThen-right, refuse-good}
 use Rattle.plan.specs.Order.{sizes, ranges, checked, Sized}
 use Rattle.plan.specs.Order.Properties.{sizes-says}
-use Rattle.codec.specs.Pack.{bits, pack, unpack}
-use Rattle.codec.specs.Pack.Properties.{pack-unpack}
-use Rattle.codec.specs.Bytes.{numberTo, bytesOf, AreBytes}
-use Rattle.codec.specs.Bytes.Properties.{number-bound, bytes-number}
+use Rattle.codec.specs.Pack.{pack, unpack}
+use Rattle.codec.specs.Bytes.{bytesOf, AreBytes}
+use Rattle.codec.specs.Place.{placed, fieldsOf}
+use Rattle.codec.specs.Place.Properties.{placed-fields}
 use Rattle.codec.specs.Places.{partsTo}
 use Rattle.codec.specs.Places.Properties.{parts-front}
 use Rattle.plan_bytes.specs.Parts.{Shaped, headerWidths, projectWidths, kindWidths, headerBytes, projectBytes, kindBytes}
@@ -95,33 +95,28 @@ read-size s e = taken-is s (answer-is s e) ∙ sym (ap size (plan-is s (answer-i
 bytes-drop : (s : List ℕ) (a : ℕ) → AreBytes s → AreBytes (drop a s)
 bytes-drop s a b i = rw (getD-drop a s i 0) (b (a + i))
 
--- a part whose fields were read off a number, and whose spare bits are zero, is that number's bytes
-repacked : (ws : List ℕ) (n : ℕ) (s : List ℕ) → AreBytes s → n ≤ length s → 2 ^ bits ws ≡ 256 ^ n
-    → bytesOf n (pack ws (unpack ws (numberTo n s))) ≡ take n s
-repacked ws n s b l e =
-    ap (bytesOf n) (pack-unpack ws (numberTo n s) ∙ ap (λ (k : ℕ). numberTo n s % k) e ∙ mod-eq-of-lt (number-bound n s b))
-    ∙ bytes-number n s b l
+-- a part stored as it was read, its spare bits zero, is the bytes that were read
 
 header-same : (s : List ℕ) → AreBytes s → 3 ≤ length s → headerSpare s ≡ 0 → headerBytes (headed s) ≡ take 3 s
-unfolding headerBytes headed headerSpare headerFields unpack
+unfolding headerBytes headed headerSpare headerFields unpack placed fieldsOf
 header-same s b l e =
     ap (λ (z : ℕ). bytesOf 3
     (pack headerWidths
     (getD (headerFields s) 0 0 ∷ getD (headerFields s) 1 0 ∷ getD (headerFields s) 2 0 ∷ getD (headerFields s) 3 0 ∷ z ∷ []))) (sym e)
-    ∙ repacked headerWidths 3 s b l refl
+    ∙ placed-fields headerWidths s refl b l
 
 project-same : (s : List ℕ) → AreBytes s → 2 ≤ length s → projectSpare s ≡ 0 → projectBytes (projectFrom s) ≡ take 2 s
-unfolding projectBytes projectFrom projectSpare projectFields unpack
+unfolding projectBytes projectFrom projectSpare projectFields unpack placed fieldsOf
 project-same s b l e =
     ap (λ (z : ℕ). bytesOf 2 (pack projectWidths (getD (projectFields s) 0 0 ∷ getD (projectFields s) 1 0 ∷ z ∷ []))) (sym e)
-    ∙ repacked projectWidths 2 s b l refl
+    ∙ placed-fields projectWidths s refl b l
 
 kind-same : (s : List ℕ) → AreBytes s → 5 ≤ length s → kindSpare s ≡ 0 → kindBytes (kindFrom s) ≡ take 5 s
-unfolding kindBytes kindFrom kindSpare kindFields unpack
+unfolding kindBytes kindFrom kindSpare kindFields unpack placed fieldsOf
 kind-same s b l e =
     ap (λ (z : ℕ). bytesOf 5
     (pack kindWidths (getD (kindFields s) 0 0 ∷ getD (kindFields s) 1 0 ∷ getD (kindFields s) 2 0 ∷ getD (kindFields s) 3 0 ∷ z ∷ [])))
-    (sym e) ∙ repacked kindWidths 5 s b l refl
+    (sym e) ∙ placed-fields kindWidths s refl b l
 
 -- ---- the whole
 

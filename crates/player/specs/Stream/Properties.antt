@@ -42,10 +42,6 @@ use Rattle.player.specs.Stream.{Reached, starts, reads, plays}
 abbrev whole : Move → List ℕ → List ℕ → List ℕ
 whole m bytes rest = m .text ++ remaining (m .session) (drop (m .taken) bytes ++ rest)
 
-remaining-over : (s : State) (input : List ℕ) → remaining (over s) input ≡ []
-unfolding remaining
-remaining-over s input = refl
-
 -- the first line
 first-whole : (bytes rest : List ℕ) → readOf (bytes ++ rest) ≡ readOf bytes
     → played (bytes ++ rest) ≡ whole (firstLine (opening bytes) (startOf (readOf bytes .plan) .state) (readOf bytes .taken)) bytes rest

@@ -1,8 +1,13 @@
 /*
  * Parchbeetle: frame plans, verdicts and slices, as functions on lent bytes.
  *
- * Plain C99, Linux x86-64. Link with libexports.a. No function keeps a pointer,
- * allocates, or has a state of its own; each may be called from any thread.
+ * Plain C99, Linux x86-64. To build the library and a program over it:
+ *
+ *   rt staticlib parchbeetle
+ *   cc -std=c99 -Iinclude samples/host.c -Ltarget/staticlib -lparchbeetle -o host
+ *
+ * samples/host.c is a whole program. No function keeps a pointer, allocates, or has
+ * a state of its own; each may be called from any thread.
  *
  * Every buffer is a pointer and a length in bytes. A pointer must be valid for
  * its length and, if the function writes there, must not overlap another buffer
@@ -20,38 +25,52 @@ extern "C" {
 #endif
 
 /*
- * Plan image, 140 bytes; numbers of two bytes have the high byte first.
- *
- *   offset      bytes  field
- *   0           1      cards m
- *   1           1      projects p
- *   2           1      kinds n
- *   3           1      frame length F
- *   4 + 3j      1      ceiling q of project j, for j = 0..7
- *   5 + 3j      2      budget B of project j
- *   28 + 7i     1      project of kind i, from 0, for i = 0..15
- *   29 + 7i     2      separation T of kind i
- *   31 + 7i     2      deadline D of kind i
- *   33 + 7i     2      length C of kind i
- *
- * Places of projects at or beyond p and of kinds at or beyond n hold zeros.
- * Any 140 bytes may be given: fields out of range are refused, by number.
+ * The version of this header and of the library beside it, as "major.minor.patch".
+ * A minor version may add functions, fields and numbers; an image belongs to the
+ * version that made it. Plan bytes are read by every later version.
  */
-#define PARCHBEETLE_PLAN_IMAGE 140u
+#define PARCHBEETLE_VERSION "0.1.0"
+#define PARCHBEETLE_VERSION_MAJOR 0
+#define PARCHBEETLE_VERSION_MINOR 1
+#define PARCHBEETLE_VERSION_PATCH 0
+
+/* ---- Images */
 
 /*
- * State image, 256 bytes; numbers of more than one byte have the high byte first.
+ * A plan and a state cross as images: the fields below one after the other without
+ * a gap, each with so many bytes, high byte first. Any bytes may be given: fields
+ * out of range are refused, by number.
  *
- *   offset      bytes  field
- *   0           140    the plan image
- *   140         4      clock, 0..1000000000
- *   144 + 7i    1      kind i: 1 if ever released, else 0, for i = 0..15
- *   145 + 7i    4      kind i: clock at its last accepted release
- *   149 + 7i    2      kind i: slices left
- *
- * Any 256 bytes may be given. A released byte other than 0 or 1 is a state out
- * of form, as any other: 10, after the numbers of the plan.
+ * A plan image has the four fields of a plan, then 8 places of a project, then 16
+ * places of a kind; places of projects at or beyond `projects` and of kinds at or
+ * beyond `kinds` hold zeros. A state image has the plan image, the field of a state,
+ * and then 16 places of a kind's unit.
  */
+#define PARCHBEETLE_PLAN_FIELDS(field)                                                  \
+    field(cards, 1)       /* m, 1..8 */                                                 \
+    field(projects, 1)    /* p, 1..8 */                                                 \
+    field(kinds, 1)       /* n, 1..16 */                                                \
+    field(frame, 1)       /* F, 1..64: the slices of a frame */
+
+#define PARCHBEETLE_PROJECT_FIELDS(field)                                               \
+    field(ceiling, 1)     /* q, 1..m: the most cards at once */                         \
+    field(budget, 2)      /* B, 1..qF: cells in each frame */
+
+#define PARCHBEETLE_KIND_FIELDS(field)                                                  \
+    field(project, 1)     /* the project's number, from 0 */                            \
+    field(separation, 2)  /* T, at most 4095: from one release to the next, at least */ \
+    field(deadline, 2)    /* D, at most T */                                            \
+    field(length, 2)      /* C, 1..D: the slices of a unit, at most */
+
+#define PARCHBEETLE_STATE_FIELDS(field)                                                 \
+    field(clock, 4)       /* slices run, 0..1000000000 */
+
+#define PARCHBEETLE_UNIT_FIELDS(field)                                                  \
+    field(released, 1)    /* 1 if the kind was ever released, else 0; any other is 10 */ \
+    field(at, 4)          /* the clock at its last accepted release */                  \
+    field(left, 2)        /* slices left */
+
+#define PARCHBEETLE_PLAN_IMAGE 140u
 #define PARCHBEETLE_STATE_IMAGE 256u
 
 /* The least k of each kind, one byte each; 0 beyond n. */
@@ -63,29 +82,32 @@ extern "C" {
 #define PARCHBEETLE_MOST_ROW_BYTES 8u
 
 /*
+ * Each field has two functions, made from the lists above (at the end of this file):
+ *
+ *   uint32_t parchbeetle_plan_cards(const uint8_t *plan);
+ *   void     parchbeetle_set_plan_cards(uint8_t *plan, uint64_t value);
+ *   uint32_t parchbeetle_project_budget(const uint8_t *plan, size_t project);
+ *   void     parchbeetle_set_project_budget(uint8_t *plan, size_t project, uint64_t value);
+ *   uint32_t parchbeetle_kind_deadline(const uint8_t *plan, size_t kind);
+ *   uint32_t parchbeetle_state_clock(const uint8_t *state);
+ *   uint32_t parchbeetle_unit_left(const uint8_t *state, size_t kind);
+ *
+ * and so on. The image must be whole. A state image begins with its plan image, so
+ * the functions of plan, project and kind take either. A place that is not there
+ * reads as 0 and is not written. A value too wide for its field is stored as the
+ * widest that fits, which every call refuses.
+ */
+
+/* ---- Answers */
+
+/*
  * Every function gives back one number of 64 bits:
  *
- *   bits 0-7    number: 0 for a good answer, else 1 to 15 as below
+ *   bits 0-7    number: 0 for a good answer, else one of those below
  *   bits 8-15   place: the project (with 4) or the kind (with 5, 6, 8); else 0
  *   bits 16-31  count: bytes taken (read) or written (write, slot_table); 0 for
  *               the other functions and on a refusal
- *   bits 32-63  excess (with 8); else 0
- *
- *    1  fewer than 3 bytes, or fewer than the header's total
- *    2  m, p, n or F out of range
- *    3  a spare bit or an unused place not zero
- *    4  q or B out of range                    (place: first such project)
- *    5  kind names a project not below p       (place: that kind)
- *    6  not 1 <= C <= D <= T <= 4095           (place: that kind)
- *    7  budgets sum above mF
- *    8  not admitted                           (place: first kind with no k, with its excess)
- *    9  buffer shorter than needed
- *   10  state out of form
- *   11  clock is 1000000000
- *   12  kind not below n
- *   13  e is 0 or above C
- *   14  released before, and fewer than T slices ago
- *   15  slices of an earlier unit are left
+ *   bits 32-63  excess (with 8): the slices by which the unit is too long; else 0
  *
  * A plan or state image that is given and is shorter than its size: 9, before
  * anything else is looked at. An image or a buffer may be longer than needed; the
@@ -96,6 +118,30 @@ extern "C" {
 #define PARCHBEETLE_PLACE(answer) ((unsigned)((answer) >> 8 & 0xffu))
 #define PARCHBEETLE_COUNT(answer) ((unsigned)((answer) >> 16 & 0xffffu))
 #define PARCHBEETLE_EXCESS(answer) ((uint32_t)((answer) >> 32))
+
+/* Each number and what it says; 8 names the first kind with no k, 4 the first such project. */
+#define PARCHBEETLE_NUMBERS(number)                                             \
+    number(0, "good")                                                           \
+    number(1, "fewer bytes than a plan takes")                                  \
+    number(2, "cards, projects, kinds or frame out of range")                   \
+    number(3, "a spare bit or an unused place is not zero")                     \
+    number(4, "a project's ceiling or budget is out of range")                  \
+    number(5, "a kind names a project that is not there")                       \
+    number(6, "a kind is not 1 <= length <= deadline <= separation <= 4095")    \
+    number(7, "the budgets sum above the cards times the frame")                \
+    number(8, "not admitted: a kind's unit is too long")                        \
+    number(9, "a buffer is shorter than needed")                                \
+    number(10, "the state is out of form")                                      \
+    number(11, "the clock is at its end")                                       \
+    number(12, "there is no such kind")                                         \
+    number(13, "the unit's length is 0 or above its kind's")                    \
+    number(14, "the kind's last release was less than its separation ago")      \
+    number(15, "slices of the kind's earlier unit are left")
+
+/* A number in words, as above. */
+static inline const char *parchbeetle_words(unsigned number);
+
+/* ---- Plans */
 
 /*
  * Is this plan in order?
@@ -109,7 +155,7 @@ uint64_t parchbeetle_check(const uint8_t *plan, size_t plan_len);
  * Refusals, in order: 1 (first three bytes), 2, 1 (the total), 3, 4, then kind by
  * kind 5 and 6, 7; then 9 (plan_len below 140).
  */
-uint64_t parchbeetle_read(const uint8_t *bytes, size_t n, uint8_t *plan, size_t plan_len);
+uint64_t parchbeetle_read(const uint8_t *bytes, size_t bytes_len, uint8_t *plan, size_t plan_len);
 
 /*
  * Writes the plan's bytes to the front of `out`. The count is how many.
@@ -131,6 +177,8 @@ uint64_t parchbeetle_slot_table(const uint8_t *plan, size_t plan_len, uint8_t *o
  */
 uint64_t parchbeetle_verdict(const uint8_t *plan, size_t plan_len, uint8_t *k, size_t k_len);
 
+/* ---- Running */
+
 /*
  * A fresh start: the first 256 bytes at `state` are the plan at clock 0, with no
  * kind ever released.
@@ -151,6 +199,112 @@ uint64_t parchbeetle_release(uint8_t *state, size_t state_len, uint64_t kind, ui
  * Refusals: 9 (state_len below 256), the plan's 2 to 7, 10, 9 (row_len below m), 11.
  */
 uint64_t parchbeetle_slice(uint8_t *state, size_t state_len, uint8_t *row, size_t row_len);
+
+/* ---- What the lists above make */
+
+static inline const char *parchbeetle_words(unsigned number) {
+    switch (number) {
+#define PARCHBEETLE_WORDS_(n, words) \
+    case n:                          \
+        return words;
+        PARCHBEETLE_NUMBERS(PARCHBEETLE_WORDS_)
+#undef PARCHBEETLE_WORDS_
+    default:
+        return "no number of this version";
+    }
+}
+
+/* The images as structures of bytes, which have no gaps. */
+#define PARCHBEETLE_BYTES_(name, bytes) uint8_t name[bytes];
+struct parchbeetle_project {
+    PARCHBEETLE_PROJECT_FIELDS(PARCHBEETLE_BYTES_)
+};
+struct parchbeetle_kind {
+    PARCHBEETLE_KIND_FIELDS(PARCHBEETLE_BYTES_)
+};
+struct parchbeetle_plan {
+    PARCHBEETLE_PLAN_FIELDS(PARCHBEETLE_BYTES_)
+    struct parchbeetle_project project[8];
+    struct parchbeetle_kind kind[16];
+};
+struct parchbeetle_unit {
+    PARCHBEETLE_UNIT_FIELDS(PARCHBEETLE_BYTES_)
+};
+struct parchbeetle_state {
+    struct parchbeetle_plan plan;
+    PARCHBEETLE_STATE_FIELDS(PARCHBEETLE_BYTES_)
+    struct parchbeetle_unit unit[16];
+};
+#undef PARCHBEETLE_BYTES_
+
+/* The lists have the images' sizes, else this does not compile. */
+typedef char parchbeetle_sizes_[sizeof(struct parchbeetle_plan) == PARCHBEETLE_PLAN_IMAGE &&
+                                        sizeof(struct parchbeetle_state) == PARCHBEETLE_STATE_IMAGE
+                                    ? 1
+                                    : -1];
+
+static inline uint32_t parchbeetle_get_(const uint8_t *field, size_t bytes) {
+    uint32_t value = 0;
+    for (size_t i = 0; i < bytes; i++) {
+        value = value << 8 | field[i];
+    }
+    return value;
+}
+
+static inline void parchbeetle_put_(uint8_t *field, size_t bytes, uint64_t value) {
+    uint64_t most = ((uint64_t)1 << 8 * bytes) - 1;
+    if (value > most) {
+        value = most;
+    }
+    for (size_t i = bytes; i > 0; i--) {
+        field[i - 1] = (uint8_t)value;
+        value >>= 8;
+    }
+}
+
+/* A field that stands once, and one that stands in each of some places. */
+#define PARCHBEETLE_ONCE_(image, field, bytes)                                               \
+    static inline uint32_t parchbeetle_##image##_##field(const uint8_t *image) {             \
+        return parchbeetle_get_(image + offsetof(struct parchbeetle_##image, field), bytes); \
+    }                                                                                        \
+    static inline void parchbeetle_set_##image##_##field(uint8_t *image, uint64_t value) {   \
+        parchbeetle_put_(image + offsetof(struct parchbeetle_##image, field), bytes, value); \
+    }
+#define PARCHBEETLE_EACH_(image, part, places, field, bytes)                                     \
+    static inline size_t parchbeetle_at_##part##_##field(size_t place) {                         \
+        return offsetof(struct parchbeetle_##image, part) +                                      \
+               place * sizeof(struct parchbeetle_##part) +                                       \
+               offsetof(struct parchbeetle_##part, field);                                       \
+    }                                                                                            \
+    static inline uint32_t parchbeetle_##part##_##field(const uint8_t *image, size_t part) {     \
+        if (part >= places) {                                                                    \
+            return 0;                                                                            \
+        }                                                                                        \
+        return parchbeetle_get_(image + parchbeetle_at_##part##_##field(part), bytes);           \
+    }                                                                                            \
+    static inline void parchbeetle_set_##part##_##field(uint8_t *image, size_t part,             \
+                                                        uint64_t value) {                        \
+        if (part < places) {                                                                     \
+            parchbeetle_put_(image + parchbeetle_at_##part##_##field(part), bytes, value);       \
+        }                                                                                        \
+    }
+#define PARCHBEETLE_OF_PLAN_(field, bytes) PARCHBEETLE_ONCE_(plan, field, bytes)
+#define PARCHBEETLE_OF_PROJECT_(field, bytes) PARCHBEETLE_EACH_(plan, project, 8, field, bytes)
+#define PARCHBEETLE_OF_KIND_(field, bytes) PARCHBEETLE_EACH_(plan, kind, 16, field, bytes)
+#define PARCHBEETLE_OF_STATE_(field, bytes) PARCHBEETLE_ONCE_(state, field, bytes)
+#define PARCHBEETLE_OF_UNIT_(field, bytes) PARCHBEETLE_EACH_(state, unit, 16, field, bytes)
+PARCHBEETLE_PLAN_FIELDS(PARCHBEETLE_OF_PLAN_)
+PARCHBEETLE_PROJECT_FIELDS(PARCHBEETLE_OF_PROJECT_)
+PARCHBEETLE_KIND_FIELDS(PARCHBEETLE_OF_KIND_)
+PARCHBEETLE_STATE_FIELDS(PARCHBEETLE_OF_STATE_)
+PARCHBEETLE_UNIT_FIELDS(PARCHBEETLE_OF_UNIT_)
+#undef PARCHBEETLE_ONCE_
+#undef PARCHBEETLE_EACH_
+#undef PARCHBEETLE_OF_PLAN_
+#undef PARCHBEETLE_OF_PROJECT_
+#undef PARCHBEETLE_OF_KIND_
+#undef PARCHBEETLE_OF_STATE_
+#undef PARCHBEETLE_OF_UNIT_
 
 #ifdef __cplusplus
 }

@@ -1,41 +1,191 @@
-/* Holds the header to the library: every function is called through it, on plan A of document 01. */
+/* Holds the header to the library: every function through it, on good and refused answers, with the four
+ * parts of each answer; every field of the images by its name and its bytes; every number in words. */
 #include <stdio.h>
 #include <string.h>
 
 #include "parchbeetle.h"
 
-static const uint8_t plan_a[22] = {0x22, 0x18, 0x40, 0x10, 0x0c, 0x20, 0x14, 0x00, 0x10, 0x01, 0x00,
-                                   0x0c, 0x20, 0x08, 0x00, 0x80, 0x04, 0x20, 0x10, 0x01, 0x00, 0x04};
-static const uint8_t slots_a[8] = {1, 1, 1, 2, 2, 2, 2, 2};
-static const uint8_t widths_a[16] = {1, 1, 1};
+enum { PLAN = PARCHBEETLE_PLAN_IMAGE, STATE = PARCHBEETLE_STATE_IMAGE };
 
-static int faults = 0;
+static int checks = 0, faults = 0;
 
 static void expect(const char *what, int holds) {
+    checks++;
     if (!holds) {
         printf("header: %s\n", what);
         faults++;
     }
 }
 
-int main(void) {
-    uint8_t plan[140], state[256], bytes[22], slots[8], widths[16], row[2];
-    expect("read", parchbeetle_read(plan_a, sizeof plan_a, plan, sizeof plan) == (uint64_t)22 << 16);
-    expect("check", parchbeetle_check(plan, sizeof plan) == 0);
-    expect("write", parchbeetle_write(plan, sizeof plan, bytes, sizeof bytes) == (uint64_t)22 << 16);
-    expect("bytes", memcmp(bytes, plan_a, sizeof bytes) == 0);
-    expect("slot_table", parchbeetle_slot_table(plan, sizeof plan, slots, sizeof slots) == (uint64_t)8 << 16);
-    expect("slots", memcmp(slots, slots_a, sizeof slots) == 0);
-    expect("verdict", parchbeetle_verdict(plan, sizeof plan, widths, sizeof widths) == 0);
-    expect("widths", memcmp(widths, widths_a, sizeof widths) == 0);
-    expect("fresh", parchbeetle_fresh(plan, sizeof plan, state, sizeof state) == 0);
-    expect("release", parchbeetle_release(state, sizeof state, 0, 6) == 0);
-    expect("release too early", parchbeetle_release(state, sizeof state, 0, 6) == 14);
-    expect("slice", parchbeetle_slice(state, sizeof state, row, sizeof row) == 0);
+/* The four parts of an answer, by the header's macros. */
+static void answers(const char *what, uint64_t answer, unsigned number, unsigned place, unsigned count, uint32_t excess) {
+    expect(what, PARCHBEETLE_NUMBER(answer) == number && PARCHBEETLE_PLACE(answer) == place &&
+                     PARCHBEETLE_COUNT(answer) == count && PARCHBEETLE_EXCESS(answer) == excess);
+}
+
+/* Plan A of the rules, and what they say of it. */
+static const uint8_t bytes_a[22] = {0x22, 0x18, 0x40, 0x10, 0x0c, 0x20, 0x14, 0x00, 0x10, 0x01, 0x00,
+                                    0x0c, 0x20, 0x08, 0x00, 0x80, 0x04, 0x20, 0x10, 0x01, 0x00, 0x04};
+static const uint8_t slots_a[8] = {1, 1, 1, 2, 2, 2, 2, 2};
+static const uint8_t widths_a[16] = {1, 1, 1};
+
+static void make_plan_a(uint8_t *plan) {
+    static const unsigned kinds[3][4] = {{0, 8, 8, 6}, {1, 4, 4, 2}, {1, 8, 8, 2}};
+    memset(plan, 0, PLAN);
+    parchbeetle_set_plan_cards(plan, 2);
+    parchbeetle_set_plan_projects(plan, 2);
+    parchbeetle_set_plan_kinds(plan, 3);
+    parchbeetle_set_plan_frame(plan, 4);
+    parchbeetle_set_project_ceiling(plan, 0, 1);
+    parchbeetle_set_project_budget(plan, 0, 3);
+    parchbeetle_set_project_ceiling(plan, 1, 2);
+    parchbeetle_set_project_budget(plan, 1, 5);
+    for (size_t i = 0; i < 3; i++) {
+        parchbeetle_set_kind_project(plan, i, kinds[i][0]);
+        parchbeetle_set_kind_separation(plan, i, kinds[i][1]);
+        parchbeetle_set_kind_deadline(plan, i, kinds[i][2]);
+        parchbeetle_set_kind_length(plan, i, kinds[i][3]);
+    }
+}
+
+/* Every function, on good answers and on refusals with each part. */
+static void functions(void) {
+    uint8_t plan[PLAN], made[PLAN], wrong[PLAN], state[STATE], kept[STATE];
+    uint8_t bytes[22], slots[8], widths[16], row[2];
+
+    answers("read", parchbeetle_read(bytes_a, 22, plan, PLAN), 0, 0, 22, 0);
+    make_plan_a(made);
+    expect("plan A by its fields", memcmp(plan, made, PLAN) == 0);
+    answers("read, short", parchbeetle_read(bytes_a, 21, wrong, PLAN), 1, 0, 0, 0);
+    answers("read, no room", parchbeetle_read(bytes_a, 22, wrong, PLAN - 1), 9, 0, 0, 0);
+
+    answers("check", parchbeetle_check(plan, PLAN), 0, 0, 0, 0);
+    answers("check, short", parchbeetle_check(plan, PLAN - 1), 9, 0, 0, 0);
+    memcpy(wrong, plan, PLAN);
+    parchbeetle_set_project_ceiling(wrong, 1, 3);
+    answers("check, project 1", parchbeetle_check(wrong, PLAN), 4, 1, 0, 0);
+    answers("write, project 1", parchbeetle_write(wrong, PLAN, bytes, 22), 4, 1, 0, 0);
+    answers("slot_table, project 1", parchbeetle_slot_table(wrong, PLAN, slots, 8), 4, 1, 0, 0);
+    memcpy(wrong, plan, PLAN);
+    parchbeetle_set_kind_project(wrong, 2, 2);
+    answers("check, kind 2", parchbeetle_check(wrong, PLAN), 5, 2, 0, 0);
+    parchbeetle_set_kind_deadline(wrong, 1, 5);
+    answers("fresh, kind 1", parchbeetle_fresh(wrong, PLAN, state, STATE), 6, 1, 0, 0);
+
+    answers("write", parchbeetle_write(plan, PLAN, bytes, 22), 0, 0, 22, 0);
+    expect("bytes", memcmp(bytes, bytes_a, 22) == 0);
+    answers("write, no room", parchbeetle_write(plan, PLAN, bytes, 21), 9, 0, 0, 0);
+
+    answers("slot_table", parchbeetle_slot_table(plan, PLAN, slots, 8), 0, 0, 8, 0);
+    expect("slots", memcmp(slots, slots_a, 8) == 0);
+    answers("slot_table, no room", parchbeetle_slot_table(plan, PLAN, slots, 7), 9, 0, 0, 0);
+
+    answers("verdict", parchbeetle_verdict(plan, PLAN, widths, 16), 0, 0, 0, 0);
+    expect("widths", memcmp(widths, widths_a, 16) == 0);
+    answers("verdict, no room", parchbeetle_verdict(plan, PLAN, widths, 15), 9, 0, 0, 0);
+    memcpy(wrong, plan, PLAN);
+    parchbeetle_set_kind_length(wrong, 1, 4);
+    answers("verdict, kind 1 by 2", parchbeetle_verdict(wrong, PLAN, widths, 16), 8, 1, 0, 2);
+    answers("fresh, kind 1 by 2", parchbeetle_fresh(wrong, PLAN, state, STATE), 8, 1, 0, 2);
+
+    answers("fresh", parchbeetle_fresh(plan, PLAN, state, STATE), 0, 0, 0, 0);
+    expect("the plan in the state", memcmp(state, plan, PLAN) == 0);
+    answers("fresh, no room", parchbeetle_fresh(plan, PLAN, state, STATE - 1), 9, 0, 0, 0);
+
+    answers("release", parchbeetle_release(state, STATE, 0, 6), 0, 0, 0, 0);
+    memcpy(kept, state, STATE);
+    answers("release, too early", parchbeetle_release(state, STATE, 0, 6), 14, 0, 0, 0);
+    answers("release, no kind", parchbeetle_release(state, STATE, (uint64_t)1 << 32, 1), 12, 0, 0, 0);
+    answers("release, too long", parchbeetle_release(state, STATE, 1, ((uint64_t)1 << 32) + 1), 13, 0, 0, 0);
+    answers("release, short", parchbeetle_release(state, STATE - 1, 1, 1), 9, 0, 0, 0);
+    answers("slice, no room", parchbeetle_slice(state, STATE, row, 1), 9, 0, 0, 0);
+    expect("a refusal keeps the state", memcmp(state, kept, STATE) == 0);
+
+    answers("slice", parchbeetle_slice(state, STATE, row, 2), 0, 0, 0, 0);
     expect("row", row[0] == 1 && row[1] == 0);
-    expect("clock", state[143] == 1);
+    expect("clock", parchbeetle_state_clock(state) == 1);
+    expect("left", parchbeetle_unit_left(state, 0) == 5);
+    parchbeetle_set_state_clock(state, 1000000000);
+    answers("slice, at the end", parchbeetle_slice(state, STATE, row, 2), 11, 0, 0, 0);
+    parchbeetle_set_kind_project(state, 2, 2);
+    answers("slice, kind 2", parchbeetle_slice(state, STATE, row, 2), 5, 2, 0, 0);
+    answers("release, kind 2", parchbeetle_release(state, STATE, 0, 1), 5, 2, 0, 0);
+}
+
+/* A field that was set by its name: its bytes stand there and nothing else changed. */
+static uint8_t image[STATE];
+static size_t covered = 0;
+
+static void stands(const char *what, uint32_t found, uint32_t value, size_t at, size_t bytes) {
+    uint8_t expected[STATE] = {0};
+    for (size_t i = 0; i < bytes; i++) {
+        expected[at + i] = (uint8_t)(value >> 8 * (bytes - 1 - i));
+    }
+    expect(what, found == value && memcmp(image, expected, sizeof image) == 0);
+    memset(image, 0, sizeof image);
+    covered += bytes;
+}
+
+#define ONCE(name, value, at, bytes)                     \
+    parchbeetle_set_##name(image, value);                \
+    stands(#name, parchbeetle_##name(image), value, at, bytes)
+#define EACH(name, place, value, at, bytes)              \
+    parchbeetle_set_##name(image, place, value);         \
+    stands(#name, parchbeetle_##name(image, place), value, at, bytes)
+
+/* Where the parts of the images begin, and the bytes of each place. */
+enum { PROJECTS = 4, PROJECT = 3 };
+enum { KINDS = PROJECTS + 8 * PROJECT, KIND = 7 };
+enum { CLOCK = KINDS + 16 * KIND, UNITS = CLOCK + 4, UNIT = 7 };
+
+static void fields(void) {
+    ONCE(plan_cards, 0x12, 0, 1);
+    ONCE(plan_projects, 0x12, 1, 1);
+    ONCE(plan_kinds, 0x12, 2, 1);
+    ONCE(plan_frame, 0x12, 3, 1);
+    for (size_t j = 0; j < 8; j++) {
+        EACH(project_ceiling, j, 0x12, PROJECTS + PROJECT * j, 1);
+        EACH(project_budget, j, 0x1234, PROJECTS + PROJECT * j + 1, 2);
+    }
+    for (size_t i = 0; i < 16; i++) {
+        EACH(kind_project, i, 0x12, KINDS + KIND * i, 1);
+        EACH(kind_separation, i, 0x1234, KINDS + KIND * i + 1, 2);
+        EACH(kind_deadline, i, 0x1234, KINDS + KIND * i + 3, 2);
+        EACH(kind_length, i, 0x1234, KINDS + KIND * i + 5, 2);
+    }
+    ONCE(state_clock, 0x12345678, CLOCK, 4);
+    for (size_t i = 0; i < 16; i++) {
+        EACH(unit_released, i, 1, UNITS + UNIT * i, 1);
+        EACH(unit_at, i, 0x12345678, UNITS + UNIT * i + 1, 4);
+        EACH(unit_left, i, 0x1234, UNITS + UNIT * i + 5, 2);
+    }
+    expect("every byte of the images is some field's", covered == sizeof image);
+
+    /* A place that is not there, and values too wide. */
+    parchbeetle_set_project_budget(image, 8, 1);
+    stands("no project 8", parchbeetle_project_budget(image, 8), 0, 0, 0);
+    parchbeetle_set_unit_left(image, 16, 1);
+    stands("no kind 16", parchbeetle_unit_left(image, 16), 0, 0, 0);
+    parchbeetle_set_kind_length(image, 0, 65536 + 5);
+    stands("too wide", parchbeetle_kind_length(image, 0), 65535, KINDS + 5, 2);
+    parchbeetle_set_state_clock(image, (uint64_t)1 << 32);
+    stands("much too wide", parchbeetle_state_clock(image), 0xffffffff, CLOCK, 4);
+}
+
+static void words(void) {
+    expect("0 in words", strcmp(parchbeetle_words(0), "good") == 0);
+    for (unsigned number = 1; number < 16; number++) {
+        expect("a number in words", strcmp(parchbeetle_words(number), parchbeetle_words(16)) != 0);
+    }
+    expect("16 is no number", strcmp(parchbeetle_words(16), "no number of this version") == 0);
+}
+
+int main(void) {
+    functions();
+    fields();
+    words();
     if (faults == 0) {
-        printf("header: every function called through it\n");
+        printf("header: every function and every field through it, %d checks\n", checks);
     }
     return faults != 0;
 }

@@ -1,6 +1,6 @@
 //! The plans, states and the stream that are timed.
 
-use second::generate::limit_plans;
+use generate::limit_plans;
 use second::{fresh, release, slice, verdict, KindState, Plan, State};
 
 /// One card, one project, one kind, one slice.
@@ -33,18 +33,18 @@ pub fn typical() -> Plan {
     )
 }
 
-/// Eight cards held throughout by one project of `n` like kinds, each as long as k = 8 allows and no k below it.
-pub fn only_at_8(n: u16, frame: u8, d: u16) -> Plan {
-    // 8C + (n-1)C <= 8D, and more than at k = 7.
-    let c = (8 * u32::from(d) / u32::from(n + 7)) as u16;
+/// `q` cards held throughout by one project of `n` like kinds, each as long as k = q allows and no k below it.
+pub fn only_at(q: u8, n: u16, frame: u8, d: u16) -> Plan {
+    // qC + (n-1)C <= qD, and more than at q - 1.
+    let c = (u32::from(q) * u32::from(d) / (u32::from(q) + u32::from(n) - 1)) as u16;
     let kinds = vec![(0, d, d, c); usize::from(n)];
-    let plan = Plan::of(8, frame, &[(8, 8 * u16::from(frame))], &kinds);
+    let plan = Plan::of(8, frame, &[(q, u16::from(q) * u16::from(frame))], &kinds);
     let (answer, k) = verdict(&plan);
-    assert!(answer.is_good() && k[..usize::from(n)].iter().all(|&k| k == 8));
+    assert!(answer.is_good() && k[..usize::from(n)].iter().all(|&k| k == q));
     plan
 }
 
-/// The same project with `n` kinds that all have work, released one slice after another.
+/// Eight cards held throughout by one project with `n` kinds that all have work, released one slice after another.
 pub fn all_active(n: u16, frame: u8, d: u16) -> State {
     let kinds = vec![(0, d, d, d); usize::from(n)];
     let plan = Plan::of(8, frame, &[(8, 8 * u16::from(frame))], &kinds);

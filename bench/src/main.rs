@@ -1,26 +1,26 @@
-//! The proved library and the second program, timed in one run on the same bytes.
+//! The proved library, the second program and a tuned one, timed in one run on the same inputs.
 
 #![forbid(unsafe_code)]
 
-mod inputs;
-mod timing;
-
+use bench::inputs::{self, Command, Stream};
+use bench::timing::{medians, Row, Table, FEW_TURNS, SIDES, TURNS};
+use bench::tuned;
 use compare::interface::{number, plan_image, state_image, Case, Op, Side, PLAN_IMAGE};
 use compare::proved::Proved;
 use compare::second_side::Second;
-use inputs::{Command, Stream};
 use second::bytes::pack;
 use second::{Plan, State};
 use std::hint::black_box;
 use std::process::exit;
-use timing::{medians, Row, Table, FEW_TURNS, TURNS};
 
 fn main() {
-    println!(
-        "Same bytes in and out on both sides. Nanoseconds are medians of {TURNS} turns of 1 ms,"
-    );
-    println!("of {FEW_TURNS} turns where one call takes longer; the sides take turns. A state is copied in");
-    println!("before each single slice; no other buffer is cleared or filled.");
+    println!("proved: the static library, images in and out. second: the second program, on the same images.");
+    println!("tuned: the same rules in Rust, records in place. Nanoseconds are medians of {TURNS} turns of 1 ms,");
+    println!("of {FEW_TURNS} turns where one call takes longer; the sides take turns. A state is copied in before each");
+    println!("single slice; no other buffer is cleared or filled. All sides gave the same before they were timed.");
+    if !bindings::LINKED {
+        println!("\nTHE PROVED COLUMN SAYS NOTHING: the library cannot be linked here, an emulator makes its calls.");
+    }
 
     let mut table = Table::new("reading a plan");
     for (name, plan) in [
@@ -37,8 +37,8 @@ fn main() {
         ("smallest: m 1, p 1, n 1, F 1, D 1", inputs::smallest()),
         ("typical: m 4, p 3, n 8, F 16, D to 240", inputs::typical()),
         (
-            "largest: m 8, p 1, n 16, F 64, D 4095, q 8, k 8",
-            inputs::only_at_8(16, 64, 4095),
+            "largest: m 8, n 16, F 64, D 4095, k 8",
+            inputs::only_at(8, 16, 64, 4095),
         ),
     ] {
         table.add(verdict(name.to_string(), &plan));
@@ -46,28 +46,20 @@ fn main() {
     table.print();
 
     let mut table = Table::new(
-        "the verdict when D, F or n doubles (m 8, p 1, q 8, each kind fits only at k = 8)",
+        "the verdict by D mod F, q, F, D and n (m 8, p 1, B qF, each kind fits only at k = q)",
     );
-    for d in [1023, 2046, 4092] {
-        table.add_grown(verdict(
-            format!("n 16, F 64, D {d}"),
-            &inputs::only_at_8(16, 64, d),
-        ));
-    }
-    table.gap();
-    for frame in [16, 32, 64] {
-        table.add_grown(verdict(
-            format!("n 16, F {frame}, D 4095"),
-            &inputs::only_at_8(16, frame, 4095),
-        ));
-    }
-    table.gap();
-    for n in [4, 8, 16] {
-        table.add_grown(verdict(
-            format!("n {n}, F 64, D 4095"),
-            &inputs::only_at_8(n, 64, 4095),
-        ));
-    }
+    let judged = |q, n, frame, d| {
+        let name = format!(
+            "q {q}, n {n}, F {frame}, D {d} (mod F {})",
+            d % u16::from(frame)
+        );
+        verdict(name, &inputs::only_at(q, n, frame, d))
+    };
+    table.add_grown([4032, 4033, 4048, 4064, 4080, 4095].map(|d| judged(8, 16, 64, d)));
+    table.add_grown([1, 2, 4, 8].map(|q| judged(q, 16, 64, 4095)));
+    table.add_grown([8, 16, 32, 64].map(|frame| judged(8, 16, frame, 4095)));
+    table.add_grown([1023, 2047, 4095].map(|d| judged(8, 16, 64, d)));
+    table.add_grown([4, 8, 16].map(|n| judged(8, n, 64, 4095)));
     table.print();
 
     let mut slices = Table::new("one slice, all kinds active (m 8, p 1, q 8, B 8F)");
@@ -79,59 +71,46 @@ fn main() {
     }
     slices.print();
 
-    let mut table = Table::new("one slice when n, F or D doubles (as above)");
-    for n in [4, 8, 16] {
-        table.add_grown(slice(
-            format!("n {n}, F 64, D 4095"),
-            &inputs::all_active(n, 64, 4095),
-        ));
-    }
-    table.gap();
-    for frame in [16, 32, 64] {
-        table.add_grown(slice(
-            format!("n 16, F {frame}, D 4095"),
-            &inputs::all_active(16, frame, 4095),
-        ));
-    }
-    table.gap();
-    for d in [1023, 2046, 4092] {
-        table.add_grown(slice(
-            format!("n 16, F 64, D {d}"),
-            &inputs::all_active(16, 64, d),
-        ));
-    }
+    let mut table = Table::new("one slice by n, F and D (as above)");
+    let sliced = |n, frame, d| {
+        let name = format!("n {n}, F {frame}, D {d}");
+        slice(name, &inputs::all_active(n, frame, d))
+    };
+    table.add_grown([4, 8, 16].map(|n| sliced(n, 64, 4095)));
+    table.add_grown([16, 32, 64].map(|frame| sliced(16, frame, 4095)));
+    table.add_grown([1023, 2046, 4092].map(|d| sliced(16, 64, d)));
     table.print();
 
     let stream = inputs::stream(20_000);
     let whole = long_stream(&stream);
     let mut table =
         Table::new("a long stream (m 8, p 4, n 16, F 16; each kind released as soon as it is due)");
+    let (slices_run, releases) = (stream.slices, stream.releases);
     table.add(whole.per(
-        format!(
-            "{} slices, {} releases, per call",
-            stream.slices, stream.releases
-        ),
-        stream.slices + stream.releases,
+        format!("{slices_run} slices, {releases} releases, per call"),
+        slices_run + releases,
     ));
     table.print();
 
     println!("\nslices per second");
-    println!("{:<52} {:>12} {:>12}", "", "proved", "second");
-    let per_slice = whole.per(
-        "the long stream, its releases included".to_string(),
-        stream.slices,
+    println!(
+        "{:<42}{}",
+        "",
+        SIDES.map(|side| format!("{side:>11}")).join("")
     );
+    let per_slice = whole.per("the long stream, with its releases".to_string(), slices_run);
     for row in slices.rows().chain([&per_slice]) {
-        let [proved, second] = [row.proved, row.second].map(|ns| 1e9 / ns);
-        println!("{:<52} {proved:>12.0} {second:>12.0}", row.name);
+        let figures = row.ns.map(|ns| format!("{:>11.0}", 1e9 / ns));
+        println!("{:<42}{}", row.name, figures.join(""));
     }
 }
 
 /// Both sides must leave the same bytes, with a good answer, before they are timed.
-fn agree(case: &Case) {
+fn agree(case: &Case) -> u64 {
     let (one, other) = (case.run(&Proved), case.run(&Second));
-    stop_unless(one == other, "the sides differ", &case.line());
+    stop_unless(one == other, "proved and second differ", &case.line());
     stop_unless(number(one.word) == 0, "refused", &case.line());
+    one.word
 }
 
 fn stop_unless(good: bool, what: &str, line: &str) {
@@ -141,59 +120,125 @@ fn stop_unless(good: bool, what: &str, line: &str) {
     }
 }
 
+/// What is computed is not left out for want of a use.
+fn kept<T>(value: T) {
+    black_box(value);
+}
+
 fn read(name: &str, plan: &Plan) -> Row {
     let bytes = pack(plan);
-    agree(&Case::new(Op::Read, bytes.clone(), vec![0; PLAN_IMAGE]));
-    let mut image = [0; PLAN_IMAGE];
-    medians(name.to_string(), |side: &dyn Side| {
-        black_box(side.read(black_box(&bytes), &mut image));
-    })
+    let word = agree(&Case::new(Op::Read, bytes.clone(), vec![0; PLAN_IMAGE]));
+    let mut own = Plan::default();
+    let same = tuned::read(&bytes, &mut own) == word && own == *plan;
+    stop_unless(same, "tuned differs", name);
+
+    let (mut one, mut other) = ([0; PLAN_IMAGE], [0; PLAN_IMAGE]);
+    medians(
+        name.to_string(),
+        [
+            &mut || kept(Proved.read(black_box(&bytes), black_box(&mut one))),
+            &mut || kept(Second.read(black_box(&bytes), black_box(&mut other))),
+            &mut || kept(tuned::read(black_box(&bytes), black_box(&mut own))),
+        ],
+    )
 }
 
 fn verdict(name: String, plan: &Plan) -> Row {
     let image = plan_image(plan);
-    agree(&Case::new(Op::Verdict, image.to_vec(), vec![0; 16]));
-    let mut k = [0; 16];
-    medians(name, |side: &dyn Side| {
-        black_box(side.verdict(black_box(&image), &mut k));
-    })
+    let word = agree(&Case::new(Op::Verdict, image.to_vec(), vec![0; 16]));
+    let (mut one, mut other, mut own) = ([0; 16], [0; 16], [0; 16]);
+    let same = tuned::verdict(plan, &mut own) == word && own == second::verdict(plan).1;
+    stop_unless(same, "tuned differs", &name);
+
+    medians(
+        name,
+        [
+            &mut || kept(Proved.verdict(black_box(&image), black_box(&mut one))),
+            &mut || kept(Second.verdict(black_box(&image), black_box(&mut other))),
+            &mut || kept(tuned::verdict(black_box(plan), black_box(&mut own))),
+        ],
+    )
 }
 
 fn slice(name: String, state: &State) -> Row {
     let image = state_image(state);
-    agree(&Case::new(Op::Slice, image.to_vec(), vec![0; 8]));
-    let mut running = image;
-    let mut row = [0; 8];
-    medians(name, |side: &dyn Side| {
+    let word = agree(&Case::new(Op::Slice, image.to_vec(), vec![0; 8]));
+    let mut own = *state;
+    let (mut row, mut expected) = ([0; 8], [0; 8]);
+    let next = second::slice(state, &mut expected).1;
+    let same = tuned::slice(&mut own, &mut row) == word && (own, row) == (next, expected);
+    stop_unless(same, "tuned differs", &name);
+
+    let through = |side: &dyn Side, running: &mut [u8; 256], row: &mut [u8; 8]| {
         running.copy_from_slice(black_box(&image));
-        black_box(side.slice(&mut running, &mut row));
-    })
+        kept(side.slice(black_box(running), black_box(row)));
+    };
+    let (mut one, mut other) = (image, image);
+    let (mut one_row, mut other_row) = (row, row);
+    medians(
+        name,
+        [
+            &mut || through(&Proved, &mut one, &mut one_row),
+            &mut || through(&Second, &mut other, &mut other_row),
+            &mut || {
+                own = *black_box(state);
+                kept(tuned::slice(black_box(&mut own), black_box(&mut row)));
+            },
+        ],
+    )
 }
 
-/// The whole stream from its fresh start; every answer must be good and both ends the same.
+/// The whole stream from its fresh start; every answer must be good, all ends and all rows the same.
 fn long_stream(stream: &Stream) -> Row {
-    let play = |side: &dyn Side| {
+    let through = |side: &dyn Side| {
         let mut state = state_image(&stream.start);
-        let mut row = [0; 8];
-        let mut rows = 0u64;
-        let mut refused = false;
-        for command in &stream.commands {
-            let word = match *command {
-                Command::Release(kind, e) => side.release(&mut state, kind, e),
-                Command::Slice => {
-                    let word = side.slice(&mut state, &mut row);
-                    rows = rows.rotate_left(1) ^ u64::from_be_bytes(row);
-                    word
-                }
-            };
-            refused |= number(word) != 0;
-        }
-        (state, rows, refused)
+        let played = played(
+            stream,
+            &mut state,
+            |state, kind, e| side.release(state, kind, e),
+            |state, row| side.slice(state, row),
+        );
+        (state, played)
     };
-    let (one, other) = (play(&Proved), play(&Second));
-    stop_unless(one == other, "the sides differ", "the long stream");
-    stop_unless(!one.2, "refused", "the long stream");
-    medians("a long stream".to_string(), |side: &dyn Side| {
-        black_box(play(side));
-    })
+    let tuned = || {
+        let mut state = stream.start;
+        let played = played(stream, &mut state, tuned::release, tuned::slice);
+        (state_image(&state), played)
+    };
+    let proved = through(&Proved);
+    let same = proved == through(&Second) && proved == tuned();
+    stop_unless(same, "the sides differ", "the long stream");
+    let (_, (_, refused)) = proved;
+    stop_unless(!refused, "refused", "the long stream");
+    medians(
+        "a long stream".to_string(),
+        [
+            &mut || kept(through(&Proved)),
+            &mut || kept(through(&Second)),
+            &mut || kept(tuned()),
+        ],
+    )
+}
+
+/// Plays the stream in place: the rows in one number, and whether a call was refused.
+fn played<S>(
+    stream: &Stream,
+    state: &mut S,
+    release: impl Fn(&mut S, u64, u64) -> u64,
+    slice: impl Fn(&mut S, &mut [u8]) -> u64,
+) -> (u64, bool) {
+    let mut row = [0; 8];
+    let (mut rows, mut refused) = (0u64, false);
+    for command in &stream.commands {
+        let word = match *command {
+            Command::Release(kind, e) => release(state, kind, e),
+            Command::Slice => {
+                let word = slice(state, &mut row);
+                rows = rows.rotate_left(1) ^ u64::from_be_bytes(row);
+                word
+            }
+        };
+        refused |= number(word) != 0;
+    }
+    (rows, refused)
 }

@@ -1,8 +1,5 @@
-//! Medians of turns that alternate between the two sides, and tables of them.
+//! Medians of turns that go round the sides, and tables of them.
 
-use compare::interface::Side;
-use compare::proved::Proved;
-use compare::second_side::Second;
 use std::time::{Duration, Instant};
 
 /// Turns of each side.
@@ -12,14 +9,15 @@ pub const FEW_TURNS: usize = 7;
 /// A turn repeats its call for about so long: short, so that most turns are not interrupted.
 const TURN: Duration = Duration::from_millis(1);
 
+/// The sides, in the order of their columns.
+pub const SIDES: [&str; 3] = ["proved", "second", "tuned"];
+
 /// One line of a table: nanoseconds for each side.
 pub struct Row {
     /// What was timed.
     pub name: String,
-    /// The proved side.
-    pub proved: f64,
-    /// The second program.
-    pub second: f64,
+    /// In the order of `SIDES`.
+    pub ns: [f64; 3],
 }
 
 impl Row {
@@ -27,47 +25,51 @@ impl Row {
     pub fn per(&self, name: String, count: u64) -> Row {
         Row {
             name,
-            proved: self.proved / count as f64,
-            second: self.second / count as f64,
+            ns: self.ns.map(|ns| ns / count as f64),
         }
     }
 }
 
-/// The median time of one call on each side, the turns alternating.
-pub fn medians(name: String, mut call: impl FnMut(&dyn Side)) -> Row {
-    let sides: [&dyn Side; 2] = [&Proved, &Second];
-    let mut turn = |side: &dyn Side, calls: u32| {
+/// The median time of one call on each side; the sides take turns.
+pub fn medians(name: String, mut sides: [&mut dyn FnMut(); 3]) -> Row {
+    let turn = |side: &mut dyn FnMut(), calls: u32| {
         let start = Instant::now();
         for _ in 0..calls {
-            call(side);
+            side();
         }
         start.elapsed()
     };
     // As many calls as a turn has room for, found by doubling.
-    let calls = sides.map(|side| {
-        let mut calls = 1u32;
-        while turn(side, calls) < TURN / 2 && calls < 1 << 24 {
-            calls *= 2;
+    let mut calls = [1u32; 3];
+    for (side, calls) in sides.iter_mut().zip(&mut calls) {
+        while turn(side, *calls) < TURN / 2 && *calls < 1 << 24 {
+            *calls *= 2;
         }
-        calls
-    });
+    }
     let turns = if calls.contains(&1) { FEW_TURNS } else { TURNS };
-    let mut times = [Vec::new(), Vec::new()];
+    let mut times = [const { Vec::new() }; 3];
     for _ in 0..turns {
-        for at in 0..2 {
+        for at in 0..sides.len() {
             let elapsed = turn(sides[at], calls[at]);
             times[at].push(elapsed.as_nanos() as f64 / f64::from(calls[at]));
         }
     }
-    let [proved, second] = times.map(|mut times| {
+    let ns = times.map(|mut times| {
         times.sort_by(f64::total_cmp);
         times[turns / 2]
     });
-    Row {
-        name,
-        proved,
-        second,
-    }
+    Row { name, ns }
+}
+
+/// Three figures, however large or small.
+pub fn three_figures(value: f64) -> String {
+    let digits = match value {
+        v if v >= 100.0 => 0,
+        v if v >= 10.0 => 1,
+        v if v >= 1.0 => 2,
+        _ => 3,
+    };
+    format!("{value:.digits$}")
 }
 
 enum Line {
@@ -97,13 +99,9 @@ impl Table {
         self.lines.push(Line::Alone(row));
     }
 
-    /// A row that is told with its growth against the row before, if there is one.
-    pub fn add_grown(&mut self, row: Row) {
-        self.lines.push(Line::Grown(row));
-    }
-
-    /// The next row has no row before.
-    pub fn gap(&mut self) {
+    /// Rows that are told with their growth, each against the row before.
+    pub fn add_grown(&mut self, rows: impl IntoIterator<Item = Row>) {
+        self.lines.extend(rows.into_iter().map(Line::Grown));
         self.lines.push(Line::Gap);
     }
 
@@ -118,17 +116,11 @@ impl Table {
     /// Plain text, in columns.
     pub fn print(&self) {
         println!("\n{}", self.title);
+        let heading = SIDES.map(|name| format!("{:>11}", format!("{name} ns")));
+        print!("{:<42}{}", "", heading.join(""));
+        print!("{:>15}{:>14}", "second/proved", "proved/tuned");
         let grows = self.lines.iter().any(|line| matches!(line, Line::Grown(_)));
-        let heading = ["proved ns", "second ns", "proved/second"].map(|name| format!("{name:>13}"));
-        print!("{:<50} {}", "", heading.join(" "));
-        println!(
-            "{}",
-            if grows {
-                "  growth: proved  second"
-            } else {
-                ""
-            }
-        );
+        println!("{}", if grows { "  growth: proved tuned" } else { "" });
         let mut before: Option<&Row> = None;
         for line in &self.lines {
             let (row, grown) = match line {
@@ -139,17 +131,16 @@ impl Table {
                     continue;
                 }
             };
+            let [proved, second, tuned] = row.ns;
+            print!("{:<42}{proved:>11.0}{second:>11.0}{tuned:>11.0}", row.name);
             print!(
-                "{:<50} {:>13.0} {:>13.0} {:>13.2}",
-                row.name,
-                row.proved,
-                row.second,
-                row.proved / row.second
+                "{:>15}{:>14}",
+                three_figures(second / proved),
+                three_figures(proved / tuned)
             );
             if let (true, Some(before)) = (grown, before) {
-                let proved = row.proved / before.proved;
-                let second = row.second / before.second;
-                print!(" {proved:>15.2} {second:>7.2}");
+                let [of_proved, _, of_tuned] = [0, 1, 2].map(|at| row.ns[at] / before.ns[at]);
+                print!("{of_proved:>16.2}{of_tuned:>6.2}");
             }
             println!();
             before = Some(row);

@@ -2,16 +2,14 @@
 //!
 //! A record is one image or one string of plan bytes, with the calls made on it. A generated plan is
 //! dear (the second program's verdict is asked many times to find it), so each round takes one plan
-//! from `second::generate` and compares much that is near it: the plan with one field nudged, its
+//! from `generate` and compares much that is near it: the plan with one field nudged, its
 //! bytes whole and damaged, states on it, and a run from its fresh start, step by step.
 
 use crate::interface::{
     plan_image, plan_of, state_image, state_of, Case, Op, K_BYTES, PLAN_IMAGE, STATE_IMAGE,
 };
+use generate::{fixed_plan_records, fixed_state_records, fixed_streams, spare_bits, Generator};
 use second::bytes::{pack, plan_bytes};
-use second::generate::{
-    fixed_plan_records, fixed_state_records, fixed_streams, spare_bits, Generator,
-};
 use second::play::{command, Command};
 use second::rack::LAST_CLOCK;
 use second::{Kind, KindState, Plan, Project, State};
@@ -39,20 +37,48 @@ fn needed(op: Op, plan: &Plan) -> usize {
 
 // ---- Fixed records
 
+/// What a fixed record is made of.
+pub enum Fixed {
+    /// Every function on a plan.
+    Plan(Plan),
+    /// Releases and slices of a state.
+    State(State),
+    /// Plan bytes, read.
+    Bytes(Vec<u8>),
+    /// One call.
+    Call(Case),
+    /// A state of this plan with this byte for a kind's released.
+    Released(Plan, usize, u8),
+}
+
 /// Each refusal at each place, each length of each buffer, each released byte, and all plans and states of a small size.
-pub fn fixed() -> impl Iterator<Item = Record> {
+pub fn fixed() -> Vec<Fixed> {
     let plans = fixed_plan_records().into_iter().chain(small_plans());
     let states = fixed_state_records().into_iter().chain(small_states());
-    let bytes = fixed_streams().into_iter().map(|stream| {
-        let read = |count| Case::new(Op::Read, stream.bytes.clone(), vec![0xEE; count]);
-        vec![read(PLAN_IMAGE), read(PLAN_IMAGE - 1)]
-    });
+    let bytes = fixed_streams().into_iter().map(|stream| stream.bytes);
     plans
-        .map(|plan| on_plan(&plan))
-        .chain(states.map(|state| on_state(&state)))
-        .chain(bytes)
-        .chain(lengths().into_iter().map(|case| vec![case]))
+        .map(Fixed::Plan)
+        .chain(states.map(Fixed::State))
+        .chain(bytes.map(Fixed::Bytes))
+        .chain(lengths().into_iter().map(Fixed::Call))
         .chain(released_bytes())
+        .collect()
+}
+
+impl Fixed {
+    /// Its calls.
+    pub fn record(&self) -> Record {
+        match self {
+            Fixed::Plan(plan) => on_plan(plan),
+            Fixed::State(state) => on_state(state),
+            Fixed::Bytes(bytes) => {
+                let read = |count| Case::new(Op::Read, bytes.clone(), vec![0xEE; count]);
+                vec![read(PLAN_IMAGE), read(PLAN_IMAGE - 1)]
+            }
+            Fixed::Call(case) => vec![case.clone()],
+            Fixed::Released(plan, place, value) => on_released(plan, *place, *value),
+        }
+    }
 }
 
 /// Every function on the plan, with enough room and with one byte less.
@@ -129,27 +155,29 @@ fn lengths() -> Vec<Case> {
 }
 
 /// Each value of each released byte, on a plan in order and on one that is not.
-fn released_bytes() -> impl Iterator<Item = Record> {
+fn released_bytes() -> impl Iterator<Item = Fixed> {
     let mut wide = Plan::a();
     wide.projects[1].budget = 6;
-    let record = |plan: Plan, place: usize, value: u8| {
-        let state = State {
-            plan,
-            clock: 9,
-            ..State::default()
-        };
-        let mut image = state_image(&state).to_vec();
-        image[PLAN_IMAGE + 4 + 7 * place] = value;
-        vec![
-            Case::release(image.clone(), 0, 1),
-            Case::release(image.clone(), 12, 1),
-            Case::new(Op::Slice, image.clone(), vec![0xEE; 2]),
-            Case::new(Op::Slice, image, vec![0xEE; 1]),
-        ]
-    };
-    [Plan::a(), wide].into_iter().flat_map(move |plan| {
-        (0..16).flat_map(move |place| (0..=255).map(move |value| record(plan, place, value)))
+    [Plan::a(), wide].into_iter().flat_map(|plan| {
+        (0..16)
+            .flat_map(move |place| (0..=255).map(move |value| Fixed::Released(plan, place, value)))
     })
+}
+
+fn on_released(plan: &Plan, place: usize, value: u8) -> Record {
+    let state = State {
+        plan: *plan,
+        clock: 9,
+        ..State::default()
+    };
+    let mut image = state_image(&state).to_vec();
+    image[PLAN_IMAGE + 4 + 7 * place] = value;
+    vec![
+        Case::release(image.clone(), 0, 1),
+        Case::release(image.clone(), 12, 1),
+        Case::new(Op::Slice, image.clone(), vec![0xEE; 2]),
+        Case::new(Op::Slice, image, vec![0xEE; 1]),
+    ]
 }
 
 /// All plans with m and F at most 2, one project, one or two kinds and T at most 4.
@@ -218,6 +246,9 @@ pub struct Rounds {
 }
 
 impl Rounds {
+    /// About so many records are in a round.
+    pub const RECORDS: u64 = 60;
+
     /// The rounds of this seed.
     pub fn new(seed: u64) -> Rounds {
         Rounds { seed }
@@ -225,9 +256,7 @@ impl Rounds {
 
     /// The records of one round.
     pub fn round(&self, number: u64) -> Vec<Record> {
-        let mut g = Generator::new(self.seed.wrapping_mul(0x1_0000_0001).wrapping_add(number));
-        // Neighbouring seeds give unlike rounds.
-        let mut g = Generator::new(g.number());
+        let mut g = numbered(self.seed, number);
         let mut records = Vec::new();
 
         let plan = match g.below(8) {
@@ -277,6 +306,12 @@ impl Rounds {
         }
         records
     }
+}
+
+/// The generator of one of many parts; neighbouring seeds and numbers give unlike ones.
+pub fn numbered(seed: u64, number: u64) -> Generator {
+    let mut g = Generator::new(seed.wrapping_mul(0x1_0000_0001).wrapping_add(number));
+    Generator::new(g.number())
 }
 
 /// About how many terms the second program adds up to judge this plan.

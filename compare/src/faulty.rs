@@ -15,6 +15,8 @@ use second::rack::{in_form, LAST_CLOCK};
 use second::supply::supply;
 use second::verdict::{ceiling_of, workload};
 use second::{Answer, Plan, State};
+use std::io::{self, Read, Write};
+use std::ops::ControlFlow::{self, Break, Continue};
 
 /// One rule altered.
 #[derive(Clone, Copy, Debug, PartialEq, Eq)]
@@ -55,6 +57,9 @@ pub enum Fault {
     PlaySliceBits,
     PlayLowBits,
     PlayRefused,
+    PlayStops,
+    PlayReadEnd,
+    PlayGoesOn,
 }
 
 use Fault::*;
@@ -144,7 +149,7 @@ pub const RECORD_FAULTS: [(Fault, &str, &str); 28] = [
 ];
 
 /// Each fault that streams must show.
-pub const STREAM_FAULTS: [(Fault, &str, &str); 9] = [
+pub const STREAM_FAULTS: [(Fault, &str, &str); 12] = [
     (PlayEnd, "play-end", "no end line after a bad command"),
     (
         PlayLeftOver,
@@ -166,6 +171,17 @@ pub const STREAM_FAULTS: [(Fault, &str, &str); 9] = [
         PlayRefused,
         "play-refused",
         "an end line after a refused plan",
+    ),
+    (PlayStops, "play-stops", "silent after 45000 lines"),
+    (
+        PlayReadEnd,
+        "play-read-end",
+        "a failed read is taken for the end of the input",
+    ),
+    (
+        PlayGoesOn,
+        "play-goes-on",
+        "an output that fails is not noticed",
     ),
     (Ties, "ties", "a tie goes to the higher kind number"),
     (CutOff, "cut-off", "W without the cut-off unit"),
@@ -542,68 +558,141 @@ fn unpacked(bytes: &[u8]) -> Plan {
 }
 
 /// The player with this fault, over the copy with this fault.
-pub fn play(fault: Fault, input: &[u8]) -> String {
-    let copy = Faulty(fault);
-    let mut lines = String::new();
-    let (mut answer, plan, taken) = second::read(input);
-    let mut state = State::default();
-    if answer.is_good() {
-        (answer, state) = copy.start(&plan);
-    }
-    if !answer.is_good() {
-        lines += &format!("plan refused {} at {}\n", answer.number, answer.place);
-        if fault == PlayRefused {
-            lines += "end 0\n";
+pub fn play(fault: Fault, mut input: impl Read, mut output: impl Write) {
+    let mut player = Player {
+        copy: Faulty(fault),
+        state: None,
+        turns: 0,
+    };
+    let mut held = Vec::new();
+    let mut chunk = vec![0; 1 << 16];
+    loop {
+        let count = match input.read(&mut chunk) {
+            Ok(count) => count,
+            Err(error) if error.kind() == io::ErrorKind::Interrupted => continue,
+            Err(_) if fault == PlayReadEnd => 0,
+            Err(_) => return,
+        };
+        held.extend(&chunk[..count]);
+        let mut lines = String::new();
+        let over = player.played(&mut held, count == 0, &mut lines).is_break();
+        let written = output
+            .write_all(lines.as_bytes())
+            .and_then(|()| output.flush());
+        if over || written.is_err() && fault != PlayGoesOn {
+            return;
         }
-        return lines;
     }
-    lines += "plan ok\n";
-    for bytes in input[taken..].chunks(3) {
+}
+
+struct Player {
+    copy: Faulty,
+    /// None before the plan.
+    state: Option<State>,
+    turns: u64,
+}
+
+impl Player {
+    /// Plays what can be played of the bytes held, and takes it out of them.
+    fn played(&mut self, held: &mut Vec<u8>, last: bool, lines: &mut String) -> ControlFlow<()> {
+        if self.state.is_none() {
+            if held.len() < second::bytes::bytes_asked_for(held) && !last {
+                return Continue(());
+            }
+            let (mut answer, plan, taken) = second::read(held);
+            let mut state = State::default();
+            if answer.is_good() {
+                (answer, state) = self.copy.start(&plan);
+            }
+            if !answer.is_good() {
+                *lines += &format!("plan refused {} at {}\n", answer.number, answer.place);
+                if self.copy.is(PlayRefused) {
+                    *lines += "end 0\n";
+                }
+                return Break(());
+            }
+            *lines += "plan ok\n";
+            held.drain(..taken);
+            self.state = Some(state);
+        }
+        let whole = match last {
+            true => held.len(),
+            false => held.len() / 3 * 3,
+        };
+        let commands: Vec<u8> = held.drain(..whole).collect();
+        let mut over = last;
+        for bytes in commands.chunks(3) {
+            self.turns += 1;
+            if self.copy.is(PlayStops) && self.turns > 45_000 {
+                return Break(());
+            }
+            match self.turn(bytes) {
+                Some(line) => *lines += &line,
+                None => {
+                    over = true;
+                    break;
+                }
+            }
+            if lines.ends_with("bad command\n") {
+                if self.copy.is(PlayEnd) {
+                    return Break(());
+                }
+                over = true;
+                break;
+            }
+        }
+        if !over {
+            return Continue(());
+        }
+        let clock = self.state.map_or(0, |state| state.clock);
+        *lines += &format!("end {clock}\n");
+        Break(())
+    }
+
+    /// The line of a command; none where the bytes are passed by.
+    fn turn(&mut self, bytes: &[u8]) -> Option<String> {
+        let state = self.state.unwrap_or_default();
         let mut seen = bytes.to_vec();
-        match (fault, bytes) {
-            (PlayLeftOver, [_] | [_, _]) => break,
+        match (self.copy.0, bytes) {
+            (PlayLeftOver, [_] | [_, _]) => return None,
             (PlaySliceBits, [0..=7, _, third]) => seen = vec![0, 0, third & 0x7F],
             (PlayLowBits, [128..=255, _, third]) => seen[2] = third & 0x80,
             _ => {}
         }
-        match command(&seen) {
+        let mut line = String::new();
+        let next = match command(&seen) {
             Command::Release { kind, e } => {
-                let (answer, next) = copy.released(&state, kind, e);
-                state = next;
-                lines += &match answer.number {
-                    0 => format!("r {kind} {e} ok\n"),
-                    number => format!("r {kind} {e} refused {number}\n"),
+                let (answer, next) = self.copy.released(&state, kind, e);
+                line += &match answer.number {
+                    0 => format!("r {kind} {e} ok"),
+                    number => format!("r {kind} {e} refused {number}"),
                 };
+                next
             }
             Command::Slice => {
-                let before = state.clock;
-                let mut row = vec![0; usize::from(plan.m)];
-                let (answer, next) = copy.sliced(&state, &mut row);
-                state = next;
-                let clock = if fault == PlayClock {
-                    state.clock
-                } else {
-                    before
+                let mut row = vec![0; usize::from(state.plan.m)];
+                let (answer, next) = self.copy.sliced(&state, &mut row);
+                let clock = match self.copy.is(PlayClock) {
+                    true => next.clock,
+                    false => state.clock,
                 };
-                lines += &match answer.number {
+                line += &match answer.number {
                     0 => format!("t {clock}:"),
                     number => format!("t refused {number}"),
                 };
                 if answer.is_good() {
                     for byte in row {
-                        lines += &format!(" {byte}");
+                        line += &format!(" {byte}");
                     }
                 }
-                lines += "\n";
+                next
             }
             Command::Bad => {
-                lines += "bad command\n";
-                if fault == PlayEnd {
-                    return lines;
-                }
-                break;
+                line += "bad command";
+                state
             }
-        }
+        };
+        self.state = Some(next);
+        Some(line + "\n")
     }
-    lines + &format!("end {}\n", state.clock)
 }

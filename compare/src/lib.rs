@@ -1,16 +1,15 @@
 //! The proved side and the second program, compared byte by byte.
 //!
 //! Both sides are met through one interface on bytes (`interface`): the proved side is the static
-//! library (`proved`), the other is the second program (`second_side`). `faulty` is a copy of the
-//! second program with one rule altered, to show that the comparison can fail.
+//! library through its bindings (`proved`), the other is the second program (`second_side`).
+//! `faulty` is a copy of the second program with one rule altered, to show that the comparison can
+//! fail.
 
-#![deny(unsafe_code)]
-#![warn(missing_docs)]
+#![forbid(unsafe_code)]
 
 pub mod cases;
 pub mod faulty;
 pub mod interface;
-#[allow(unsafe_code)]
 pub mod proved;
 pub mod run;
 pub mod second_side;

@@ -7,20 +7,20 @@ use compare::interface::{image_in_words, of_hex, outcome_in_words, Case};
 use compare::proved::Proved;
 use compare::run::{records, streams, Part, StreamDifference, Tally};
 use compare::second_side::Second;
-use compare::streams::{Program, Stream};
-use std::io::{self, Read, Write};
+use compare::streams::{second_plays, Program, Stream};
+use std::io;
 use std::path::PathBuf;
 use std::process::ExitCode;
 use std::time::Instant;
 
 const USAGE: &str = "\
-usage: compare --play PATH [--seed N] [--count N] [--streams N] [--numbers]
+usage: compare --play PLAYER [--seed N] [--count N] [--streams N] [--numbers]
        compare --self-test [--seed N]
-       compare --again 'CALL' | --again 'stream HEX' --play PATH
+       compare --again 'CALL' | --again 'stream HEX' --play PLAYER
 
-  --play PATH   the proved player; not needed with --streams 0
+  --play PLAYER the words that start the proved player, an emulator's before its own; not needed with --streams 0
   --seed N      the seed of the generated cases (1)
-  --count N     generated records, beside the fixed ones (1000000)
+  --count N     about so many generated records, beside the fixed ones (1000000)
   --streams N   generated streams, beside the fixed ones (20000); 0: no streams at all
   --numbers     also shows how often each number was given back
   --self-test   compares the second program with copies that have a fault; each must be found
@@ -30,7 +30,7 @@ exit status: 0 no difference, 1 a difference (or a fault not found), 2 not run
 ";
 
 struct Arguments {
-    play: Option<PathBuf>,
+    play: Option<String>,
     seed: u64,
     count: u64,
     streams: u64,
@@ -60,7 +60,7 @@ fn arguments() -> Result<Arguments, String> {
                 .map_err(|_| format!("{name} wants a number, not {value}"))
         };
         match name.as_str() {
-            "--play" => found.play = Some(PathBuf::from(value()?)),
+            "--play" => found.play = Some(value()?),
             "--seed" => found.seed = number(value()?)?,
             "--count" => found.count = number(value()?)?,
             "--streams" => found.streams = number(value()?)?,
@@ -95,11 +95,7 @@ fn main() -> ExitCode {
 /// The exit status; an inner error is about the arguments.
 fn run(arguments: &Arguments) -> io::Result<Result<u8, String>> {
     if let Some(fault) = arguments.play_with {
-        let mut input = Vec::new();
-        io::stdin().lock().read_to_end(&mut input)?;
-        io::stdout()
-            .lock()
-            .write_all(faulty::play(fault, &input).as_bytes())?;
+        faulty::play(fault, io::stdin().lock(), io::stdout().lock());
         return Ok(Ok(0));
     }
     if arguments.self_test {
@@ -152,9 +148,10 @@ fn run(arguments: &Arguments) -> io::Result<Result<u8, String>> {
 }
 
 fn player(arguments: &Arguments) -> Option<Program> {
-    arguments.play.as_ref().map(|path| Program {
-        path: path.clone(),
-        arguments: Vec::new(),
+    let mut words = arguments.play.as_ref()?.split_whitespace();
+    Some(Program {
+        path: PathBuf::from(words.next()?),
+        arguments: words.map(str::to_string).collect(),
     })
 }
 
@@ -167,16 +164,8 @@ fn again(line: &str, arguments: &Arguments) -> io::Result<Result<u8, String>> {
         let Some(play) = player(arguments) else {
             return Ok(Err("--again: a stream wants --play".to_string()));
         };
-        let stream = Stream {
-            name: "again".to_string(),
-            input,
-            expected: None,
-            pauses: Vec::new(),
-        };
-        let (one, other) = (
-            play.play(&stream)?,
-            compare::streams::second_plays(&stream.input),
-        );
+        let stream = Stream::new("again", input);
+        let (one, other) = (play.play(&stream)?, second_plays(&stream));
         if one == other {
             print!("no difference:\n{}", String::from_utf8_lossy(&one));
         } else {

@@ -1,13 +1,15 @@
 //! The comparison itself: the first difference, and how much was compared before it.
 
-use crate::cases::{self, Rounds};
+use crate::cases::{self, Fixed, Rounds};
 use crate::interface::{hex, image_in_words, number, outcome_in_words, Case, Outcome, Side, OPS};
 use crate::second_side::Second;
 use crate::shrink::{smaller_case, smaller_stream};
-use crate::streams::{self, second_plays, Program, Stream};
+use crate::streams::{self, second_plays, End, Program, Stream};
 use crate::table::table;
-use second::generate::Generator;
 use std::io;
+use std::panic::resume_unwind;
+use std::sync::atomic::{AtomicU64, Ordering};
+use std::thread::{available_parallelism, scope};
 
 /// How much was compared.
 #[derive(Clone, Debug, Default)]
@@ -23,6 +25,9 @@ pub struct Tally {
     /// Lines that they printed.
     pub lines: u64,
 }
+
+/// The most bytes of a stream that are printed, and that are tried to be made fewer.
+const MOST_SHOWN: usize = 60_000;
 
 /// The first call that differs.
 pub struct RecordDifference {
@@ -43,14 +48,67 @@ pub struct StreamDifference {
 pub struct Part {
     /// The fixed cases, with those whose outcome document 01 gives.
     pub fixed: bool,
-    /// So many generated cases.
+    /// About so many generated records, or so many generated streams.
     pub generated: u64,
     /// The seed of the generated cases.
     pub seed: u64,
 }
 
+/// The fixed records of one part of the work.
+const RECORDS_A_PART: usize = 100;
+
+/// Works through the parts in order, on every processor, up to the first that differs; what was compared behind it is
+/// not counted, so that the same work always tells the same.
+fn in_order<T: Send>(
+    parts: u64,
+    work: impl Fn(u64, &mut Tally) -> Option<T> + Sync,
+    tally: &mut Tally,
+) -> Option<T> {
+    let next = AtomicU64::new(0);
+    let worker = || {
+        let mut done = Vec::new();
+        loop {
+            let part = next.fetch_add(1, Ordering::Relaxed);
+            if part >= parts {
+                return done;
+            }
+            let mut own = Tally::default();
+            let found = work(part, &mut own);
+            if found.is_some() {
+                // Nobody begins another part; those begun come to their end.
+                next.store(parts, Ordering::Relaxed);
+            }
+            done.push((part, own, found));
+        }
+    };
+    let workers = available_parallelism().map_or(1, usize::from);
+    let mut done = scope(|scope| {
+        let workers: Vec<_> = (0..workers).map(|_| scope.spawn(worker)).collect();
+        let mut done = Vec::new();
+        for worker in workers {
+            match worker.join() {
+                Ok(own) => done.extend(own),
+                Err(panic) => resume_unwind(panic),
+            }
+        }
+        done
+    });
+    done.sort_by_key(|&(part, ..)| part);
+    for (_, own, found) in done {
+        tally.add(&own);
+        if found.is_some() {
+            return found;
+        }
+    }
+    None
+}
+
 /// Compares records: the fixed ones, then rounds of generated ones.
-pub fn records(side: &impl Side, part: Part, tally: &mut Tally) -> Option<RecordDifference> {
+pub fn records(
+    side: &(impl Side + Sync),
+    part: Part,
+    tally: &mut Tally,
+) -> Option<RecordDifference> {
     if part.fixed {
         for row in table() {
             tally.records += 1;
@@ -62,26 +120,23 @@ pub fn records(side: &impl Side, part: Part, tally: &mut Tally) -> Option<Record
                 });
             }
         }
-        for record in cases::fixed() {
-            tally.records += 1;
-            if let Some(found) = record_differs(side, record, tally) {
-                return Some(found);
-            }
+        let fixed = cases::fixed();
+        let parts: Vec<_> = fixed.chunks(RECORDS_A_PART).collect();
+        let work = |at: u64, tally: &mut Tally| {
+            let mut records = parts[at as usize].iter().map(Fixed::record);
+            records.find_map(|record| record_differs(side, record, tally))
+        };
+        let found = in_order(parts.len() as u64, work, tally);
+        if found.is_some() {
+            return found;
         }
     }
     let rounds = Rounds::new(part.seed);
-    let (mut done, mut round) = (0, 0);
-    while done < part.generated {
-        for record in rounds.round(round) {
-            tally.records += 1;
-            done += 1;
-            if let Some(found) = record_differs(side, record, tally) {
-                return Some(found);
-            }
-        }
-        round += 1;
-    }
-    None
+    let work = |round: u64, tally: &mut Tally| {
+        let mut records = rounds.round(round).into_iter();
+        records.find_map(|record| record_differs(side, record, tally))
+    };
+    in_order(part.generated.div_ceil(Rounds::RECORDS), work, tally)
 }
 
 fn record_differs(
@@ -89,6 +144,7 @@ fn record_differs(
     record: Vec<Case>,
     tally: &mut Tally,
 ) -> Option<RecordDifference> {
+    tally.records += 1;
     for case in record {
         tally.calls += 1;
         let expected = case.run(&Second);
@@ -109,38 +165,37 @@ pub fn streams(
     part: Part,
     tally: &mut Tally,
 ) -> io::Result<Option<StreamDifference>> {
+    let work = |stream: Stream, tally: &mut Tally| match stream_differs(program, &stream, tally) {
+        Ok(false) => None,
+        Ok(true) => Some(Ok(StreamDifference { stream })),
+        Err(error) => Some(Err(error)),
+    };
     if part.fixed {
-        for stream in streams::fixed() {
-            if let Some(found) = stream_differs(program, stream, tally)? {
-                return Ok(Some(found));
-            }
+        let fixed = streams::fixed();
+        let count = fixed.len() as u64;
+        let found = in_order(
+            count,
+            |at, tally| work(fixed[at as usize].clone(), tally),
+            tally,
+        );
+        if found.is_some() {
+            return found.transpose();
         }
     }
-    let mut g = Generator::new(part.seed ^ 0x5EED_0F57_4EA3_5000);
-    for _ in 0..part.generated {
-        let stream = streams::generated(&mut g);
-        if let Some(found) = stream_differs(program, stream, tally)? {
-            return Ok(Some(found));
-        }
-    }
-    Ok(None)
+    let seed = part.seed ^ 0x5EED_0F57_4EA3_5000;
+    let stream = |at| streams::generated(&mut cases::numbered(seed, at));
+    in_order(part.generated, |at, tally| work(stream(at), tally), tally).transpose()
 }
 
-fn stream_differs(
-    program: &Program,
-    stream: Stream,
-    tally: &mut Tally,
-) -> io::Result<Option<StreamDifference>> {
+/// Whether a stream differs; an error is about starting the program.
+fn stream_differs(program: &Program, stream: &Stream, tally: &mut Tally) -> io::Result<bool> {
     tally.streams += 1;
-    let (one, other) = (program.play(&stream)?, second_plays(&stream.input));
+    let (one, other) = (program.play(stream)?, second_plays(stream));
     tally.lines += other.iter().filter(|&&byte| byte == b'\n').count() as u64;
     let as_01_says = stream
         .expected
         .is_none_or(|lines| lines.as_bytes() == other);
-    if one == other && as_01_says {
-        return Ok(None);
-    }
-    Ok(Some(StreamDifference { stream }))
+    Ok(one != other || !as_01_says)
 }
 
 impl RecordDifference {
@@ -183,28 +238,34 @@ impl RecordDifference {
 impl StreamDifference {
     /// The difference in a few lines: a shorter stream that still differs, as bytes, and the lines from the first that differs.
     pub fn in_words(&self, program: &Program, name: &str) -> io::Result<String> {
-        let with = |input: &[u8]| Stream {
-            name: self.stream.name.clone(),
-            input: input.to_vec(),
-            expected: None,
-            pauses: Vec::new(),
-        };
+        let given = &self.stream;
+        let with = |input: &[u8]| Stream::new(&given.name, input.to_vec());
         let mut differs = |input: &Vec<u8>| {
-            let other = second_plays(input);
-            program.play(&with(input)).is_ok_and(|one| one != other)
+            let stream = with(input);
+            let other = second_plays(&stream);
+            program.play(&stream).is_ok_and(|one| one != other)
         };
-        let mut text = format!("a stream differs ({}):\n", self.stream.name);
-        let mut stream = with(&self.stream.input);
-        if differs(&stream.input) {
-            stream = with(&smaller_stream(&stream.input, &mut differs));
+        let mut text = format!("a stream differs ({}):\n", given.name);
+        let mut stream = with(&given.input);
+        if given.end == End::Ended && given.input.len() <= MOST_SHOWN && differs(&given.input) {
+            stream = with(&smaller_stream(&given.input, &mut differs));
         } else {
-            // It differs from 01, or only when it is sent with pauses.
-            stream.pauses = self.stream.pauses.clone();
-            stream.expected = self.stream.expected;
-            text += &format!("  sent with pauses at {:?}\n", stream.pauses);
+            // It differs from 01, only when it is sent with pauses or fails, or is too long to be made small.
+            stream.pauses = given.pauses.clone();
+            stream.expected = given.expected;
+            stream.end = given.end;
+            text += &format!(
+                "  sent with pauses at {:?}, {:?}\n",
+                given.pauses, given.end
+            );
         }
-        let (one, other) = (program.play(&stream)?, second_plays(&stream.input));
-        text += &format!("  stream {}\n", hex(&stream.input));
+        let (one, other) = (program.play(&stream)?, second_plays(&stream));
+        let (shown, more) = stream.input.split_at(stream.input.len().min(MOST_SHOWN));
+        text += &format!("  stream {}", hex(shown));
+        text += &match more.len() {
+            0 => "\n".to_string(),
+            more => format!(" and {more} bytes more\n"),
+        };
         let (one, other) = (
             String::from_utf8_lossy(&one).into_owned(),
             String::from_utf8_lossy(&other).into_owned(),
@@ -233,6 +294,18 @@ fn first_differing_line(texts: &[&str]) -> usize {
 }
 
 impl Tally {
+    fn add(&mut self, other: &Tally) {
+        self.records += other.records;
+        self.calls += other.calls;
+        self.streams += other.streams;
+        self.lines += other.lines;
+        for (own, other) in self.numbers.iter_mut().zip(&other.numbers) {
+            for (own, other) in own.iter_mut().zip(other) {
+                *own += other;
+            }
+        }
+    }
+
     /// A table of the numbers given back, a line for each function.
     pub fn numbers_in_words(&self) -> String {
         let mut text = String::from("calls by number given back (generated and fixed):\n");

@@ -6,8 +6,8 @@
 use crate::interface::{
     plan_image, state_image, word, Case, Op, Outcome, K_BYTES, PLAN_IMAGE, STATE_IMAGE,
 };
+use generate::{release_bytes, SLICE};
 use second::bytes::pack;
-use second::generate::{release_bytes, SLICE};
 use second::{Answer, Kind, KindState, Plan, State};
 
 /// A case of document 01 and what it must give.

@@ -10,7 +10,6 @@
 
 pub mod answer;
 pub mod bytes;
-pub mod generate;
 pub mod layout;
 pub mod plan;
 pub mod play;

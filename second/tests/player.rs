@@ -1,9 +1,17 @@
 //! "The player": the example with its eleven lines, and each sentence beside it.
 
 use second::bytes::pack;
-use second::generate::{release_bytes, Generator, SLICE};
 use second::*;
 use std::io::{self, Read, Write};
+
+/// "a slice has zeros throughout".
+const SLICE: [u8; 3] = [0, 0, 0];
+
+/// "1 bit (0 slice, 1 release), kind 4 bits, e 12 bits, 7 zero bits".
+fn release_bytes(kind: u32, e: u32) -> [u8; 3] {
+    let [_, bytes @ ..] = (1 << 23 | kind << 19 | e << 7).to_be_bytes();
+    bytes
+}
 
 fn played(input: &[u8]) -> String {
     let mut output = Vec::new();
@@ -113,35 +121,6 @@ fn a_release_may_be_refused_12_13_or_14() {
     );
 }
 
-/// Gives one byte at a time, with an interruption before each.
-struct Drip<'a>(&'a [u8], bool);
-
-impl Read for Drip<'_> {
-    fn read(&mut self, into: &mut [u8]) -> io::Result<usize> {
-        self.1 = !self.1;
-        if self.1 {
-            return Err(io::ErrorKind::Interrupted.into());
-        }
-        let Some((first, rest)) = self.0.split_first() else {
-            return Ok(0);
-        };
-        into[0] = *first;
-        self.0 = rest;
-        Ok(1)
-    }
-}
-
-#[test]
-fn byte_by_byte_gives_the_same_lines() {
-    let mut generator = Generator::new(3);
-    for _ in 0..100 {
-        let bytes = generator.stream().bytes;
-        let mut output = Vec::new();
-        play(Drip(&bytes, false), &mut output);
-        assert_eq!(String::from_utf8(output).unwrap(), played(&bytes));
-    }
-}
-
 struct Failing;
 
 impl Read for Failing {
@@ -189,9 +168,15 @@ fn ends_quietly_on_a_closed_output() {
 #[test]
 fn the_program_plays_standard_input() {
     use std::process::{Command, Stdio};
-    let mut generator = Generator::new(4);
-    for _ in 0..20 {
-        let bytes = generator.stream().bytes;
+    let a = pack(&Plan::a());
+    for bytes in [
+        vec![],
+        a[..21].to_vec(),
+        [&a[..], &release_bytes(0, 6), &SLICE].concat(),
+        [&a[..], &SLICE, &[0]].concat(),
+        // More than a pipe holds, in both directions.
+        [a.clone(), SLICE.repeat(40_000)].concat(),
+    ] {
         let mut program = Command::new(env!("CARGO_BIN_EXE_second-play"))
             .stdin(Stdio::piped())
             .stdout(Stdio::piped())

@@ -1,14 +1,27 @@
 -- Document 01, "Numbers given back when we say no": an answer's number, place and excess, and refusals in an order.
 -- Assumes nothing.
 use Prim.Native.Nat.{ℕ, zero, suc}
-use mathlib.Core.Path.{_≡_}
-use mathlib.Core.Logic.{_≢_}
 use mathlib.Core.Bool.{Bool, true, false}
 use Rattle.answer.specs.declared.Answer.{Answer}
 use Rattle.answer.specs.declared.Answer.the-variants.{Good, No}
-use Rattle.answer.specs.declared.Refusal.{Refusal}
 use Rattle.answer.specs.declared.Refusal.the-variants.{Bare, ByProject, ByKind}
 pub mod Properties
+
+-- a refusal whose place is 0
+abbrev pub bare : ℕ → Answer
+bare n = No (Bare n)
+
+-- a refusal whose place is a project: "first such project"
+abbrev pub atProject : ℕ → ℕ → Answer
+atProject n j = No (ByProject n j)
+
+-- a refusal whose place is a kind: "that kind"
+abbrev pub atKind : ℕ → ℕ → Answer
+atKind n i = No (ByKind n i 0)
+
+-- 8: "first kind with no k, with its excess"
+abbrev pub notAdmitted : ℕ → ℕ → Answer
+notAdmitted i x = No (ByKind 8 i x)
 
 -- "A good answer has number and place 0"; else the number that the refusal carries
 abbrev pub number : Answer → ℕ
@@ -31,10 +44,10 @@ excess (No (Bare n)) = 0
 excess (No (ByProject n j)) = 0
 excess (No (ByKind n i x)) = x
 
--- "given exactly when": this number where the test holds
-abbrev pub refuse : Bool → Refusal → Answer
-refuse true r = No r
-refuse false r = Good
+-- "given exactly when": this refusal where the test holds
+abbrev pub refuse : Bool → Answer → Answer
+refuse true a = a
+refuse false a = Good
 
 infixr 20 _andThen_
 -- the first refusal of two, in the listed order
@@ -51,7 +64,3 @@ eachTo (suc n) f = eachTo n f andThen f n
 abbrev pub ifGood : {A : Type 0} → Answer → A → A → A
 ifGood Good x y = x
 ifGood (No r) x y = y
-
--- "Excess is 0 except with 8"
-pub record ExcessKept (a : Answer) : Type 0 where
-  pub none : number a ≢ 8 → excess a ≡ 0

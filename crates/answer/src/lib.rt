@@ -1,6 +1,9 @@
-// What an operation answers, and document 01's number, place and excess of an answer.
+// What an operation answers, document 01's number, place and excess of an answer, and the one
+// number that carries them to another language.
 ghost use mathlib.Core.Path.{_≡_};
-ghost use Rattle.answer.specs.Answer.{number, place, excess};
+ghost use Prim.Native.Nat.{_<_};
+ghost use Rattle.answer.specs.Answer.{bare, atProject, atKind, notAdmitted, number, place, excess};
+ghost use Rattle.answer.specs.Word.{told};
 
 // Why not: bare, by project, or by kind with its excess. The first field is document 01's number.
 pub enum Refusal {
@@ -14,7 +17,47 @@ pub enum Answer {
     No(Refusal),
 }
 
+fn byte(x: u8) -> u64
+    ensures { λ r. ⌜ (r ≡ x) × (r < 256) ⌝ }
+{
+    x as u64
+}
+
+fn word(x: u32) -> u64
+    ensures { λ r. ⌜ (r ≡ x) × (r < 4294967296) ⌝ }
+{
+    x as u64
+}
+
 impl Answer {
+    // A refusal with no place.
+    pub fn bare(number: u8) -> Self
+        ensures { λ r. ⌜ r ≡ bare number ⌝ }
+    {
+        Answer::No(Refusal::Bare(number))
+    }
+
+    // A refusal whose place is a project.
+    pub fn at_project(number: u8, project: u8) -> Self
+        ensures { λ r. ⌜ r ≡ atProject number project ⌝ }
+    {
+        Answer::No(Refusal::ByProject(number, project))
+    }
+
+    // A refusal whose place is a kind.
+    pub fn at_kind(number: u8, kind: u8) -> Self
+        ensures { λ r. ⌜ r ≡ atKind number kind ⌝ }
+    {
+        Answer::No(Refusal::ByKind(number, kind, 0))
+    }
+
+    // 8, with the excess of the kind.
+    pub fn not_admitted(kind: u8, excess: u32) -> Self
+        ensures { λ r. ⌜ r ≡ notAdmitted kind excess ⌝ }
+    {
+        Answer::No(Refusal::ByKind(8, kind, excess))
+    }
+
     pub fn number(self) -> u8
         ensures { λ r. ⌜ r ≡ number self ⌝ }
     {
@@ -52,5 +95,15 @@ impl Answer {
             Refusal::ByProject(_, _) => 0,
             Refusal::ByKind(_, _, excess) => excess,
         }
+    }
+
+    // The answer and a count of bytes as one number.
+    pub fn told(self, count: u16) -> u64
+        ensures { λ r. ⌜ r ≡ told self count ⌝ }
+    {
+        byte(self.number())
+            + byte(self.place()) * 256
+            + count as u64 * 65536
+            + word(self.excess()) * 4294967296
     }
 }

@@ -5,8 +5,8 @@ use mathlib.Core.Bool.{cond, _&&_}
 use mathlib.Core.List.{List, [], _∷_}
 use lib.Dec.{ltb, eqb}
 use lib.ListN.{length, getD}
-use Rattle.plan_bytes.specs.Pack.{unpack}
-use Rattle.plan_bytes.specs.Bytes.{numberTo}
+use Rattle.codec.specs.Pack.{unpack}
+use Rattle.codec.specs.Bytes.{numberTo}
 use Rattle.commands.specs.declared.command.Command.{Command}
 use Rattle.commands.specs.declared.command.Command.the-variants.{Slice, Release, Bad}
 pub mod Properties
@@ -25,4 +25,6 @@ fieldsSay which kind e zeros = cond (eqb zeros 0) (cond (eqb which 1) (Release k
 
 -- the command at the front of s; "one or two left over" are bad
 unfoldable pub commandOf : List ℕ → Command
-commandOf s = cond (ltb (length s) 3) Bad (fieldsSay (getD (commandFields s) 0 0) (getD (commandFields s) 1 0) (getD (commandFields s) 2 0) (getD (commandFields s) 3 0))
+commandOf s =
+    cond (ltb (length s) 3) Bad (fieldsSay (getD (commandFields s) 0 0) (getD (commandFields s) 1 0) (getD (commandFields s) 2 0)
+    (getD (commandFields s) 3 0))

@@ -10,6 +10,14 @@ pub enum Command {
     Bad,
 }
 
+// The three bytes as one number: 1 bit for which command, 4 for the kind and 12 for e, above 7
+// zeros.
+const WHICH: u32 = 8388608;
+
+const KIND: u32 = 524288;
+
+const E: u32 = 128;
+
 fn wide(x: u8) -> u32
     ensures { λ r. ⌜ (r ≡ x) × (r < 256) ⌝ }
 {
@@ -27,13 +35,10 @@ impl Command {
         if which == 1 {
             return Command::Release(kind, e);
         }
-        if kind != 0 {
-            return Command::Bad;
+        if kind == 0 && e == 0 {
+            return Command::Slice;
         }
-        if e != 0 {
-            return Command::Bad;
-        }
-        Command::Slice
+        Command::Bad
     }
 
     // The command at the front of bytes.
@@ -44,8 +49,8 @@ impl Command {
             return Command::Bad;
         }
         let fields = wide(bytes[0]) * 65536 + wide(bytes[1]) * 256 + wide(bytes[2]);
-        let kind = (fields / 524288 % 16) as u8;
-        let e = (fields / 128 % 4096) as u16;
-        Command::of_fields(fields / 8388608, kind, e, fields % 128)
+        let kind = (fields / KIND % 16) as u8;
+        let e = (fields / E % 4096) as u16;
+        Command::of_fields(fields / WHICH, kind, e, fields % E)
     }
 }

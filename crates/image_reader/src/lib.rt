@@ -1,151 +1,170 @@
 // A plan or a state found in an image. Offsets and widths are those that crate `images` states. Every
 // buffer is answered, whatever its length and its bytes.
 ghost use mathlib.Core.Path.{_≡_};
-ghost use Prim.Native.Nat.{_+_, _≤_, _<_};
-ghost use lib.ListN.{length};
+ghost use Prim.Native.Nat.{_+_, _≤_};
+ghost use lib.ListN.{length, drop};
+ghost use Rattle.codec.specs.Bytes.{numberTo};
 ghost use Rattle.answer.specs.declared.Answer.the-variants.{No};
-ghost use Rattle.answer.specs.declared.Refusal.the-variants.{Bare};
-ghost use Rattle.answer.specs.Answer.{_andThen_};
+ghost use Rattle.answer.specs.Answer.{bare, _andThen_};
 ghost use Rattle.plan.specs.Order.{checked};
-ghost use Rattle.images.specs.Image.{numberAt, projectFrom, kindFrom, unitFrom, projectsFrom, kindsFrom, unitsFrom, planFrom, stateFrom, releasedTold};
+ghost use Rattle.images.specs.Image.{planSize, stateSize, clockPlace, unitWidths, field, projectFrom, kindFrom, clockFrom, unitFrom};
+ghost use Rattle.images.specs.Image.{projectsFrom, kindsFrom, unitsFrom, planFrom, stateFrom, releasedTold};
 ghost use Rattle.images.specs.Lent.{planFound, stateFound};
 use answer::Answer;
-use answer::Refusal;
+use images::BITS_8;
+use images::BITS_16;
+use images::BITS_24;
+use images::BITS_32;
+use images::BITS_48;
+use images::CLOCK;
+use images::CLOCK_AT;
+use images::COUNTS;
+use images::KIND;
+use images::KINDS_AT;
+use images::PLAN;
+use images::PROJECT;
+use images::PROJECTS_AT;
 use images::PlanFound;
+use images::STATE;
 use images::StateFound;
+use images::UNIT;
+use images::UNITS_AT;
 use plan::Kind;
 use plan::Plan;
 use plan::Project;
 use rack::State;
 use unit::Unit;
 
-fn wide(x: u8) -> u16
-    ensures { λ r. ⌜ (r ≡ x) × (r < 256) ⌝ }
+// The number that so many bytes of an image say. The part handed on ends with them, so that the
+// compiler knows the length of the loop over it.
+fn fields(s: &[u8], at: usize, count: usize) -> u64
+    requires { ⌜ (at + count ≤ length (now s)) × (count ≤ 8) ⌝ }
+    ensures { λ r. ⌜ r ≡ numberTo count (drop at (now (s .entry))) ⌝ }
 {
-    x as u16
-}
-
-fn wider(x: u8) -> u32
-    ensures { λ r. ⌜ (r ≡ x) × (r < 256) ⌝ }
-{
-    x as u32
-}
-
-fn two(s: &[u8], at: usize) -> u16
-    requires { ⌜ at + 2 ≤ length (now s) ⌝ }
-    ensures { λ r. ⌜ r ≡ numberAt 2 (now (s .entry)) at ⌝ }
-{
-    wide(s[at]) * 256 + wide(s[at + 1])
-}
-
-fn four(s: &[u8], at: usize) -> u32
-    requires { ⌜ at + 4 ≤ length (now s) ⌝ }
-    ensures { λ r. ⌜ r ≡ numberAt 4 (now (s .entry)) at ⌝ }
-{
-    ((wider(s[at]) * 256 + wider(s[at + 1])) * 256 + wider(s[at + 2])) * 256 + wider(s[at + 3])
+    let end = at + count;
+    codec::number(&s[at..end], count)
 }
 
 fn project_from(s: &[u8], at: usize) -> Project
     requires { ⌜ at + 3 ≤ length (now s) ⌝ }
-    ensures { λ r. ⌜ r ≡ projectFrom (now (s .entry)) at ⌝ }
+    ensures { λ r. ⌜ r ≡ projectFrom (drop at (now (s .entry))) ⌝ }
 {
+    let fields = fields(s, at, PROJECT);
     Project {
-        ceiling: s[at],
-        budget: two(s, at + 1),
+        ceiling: (fields / BITS_16 % BITS_8) as u8,
+        budget: (fields % BITS_16) as u16,
     }
 }
 
 fn kind_from(s: &[u8], at: usize) -> Kind
     requires { ⌜ at + 7 ≤ length (now s) ⌝ }
-    ensures { λ r. ⌜ r ≡ kindFrom (now (s .entry)) at ⌝ }
+    ensures { λ r. ⌜ r ≡ kindFrom (drop at (now (s .entry))) ⌝ }
 {
+    let fields = fields(s, at, KIND);
     Kind {
-        project: s[at],
-        separation: two(s, at + 1),
-        deadline: two(s, at + 3),
-        length: two(s, at + 5),
+        project: (fields / BITS_48 % BITS_8) as u8,
+        separation: (fields / BITS_32 % BITS_16) as u16,
+        deadline: (fields / BITS_16 % BITS_16) as u16,
+        length: (fields % BITS_16) as u16,
     }
 }
 
-fn projects_from(s: &[u8]) -> [Project; 8]
-    requires { ⌜ 140 ≤ length (now s) ⌝ }
+fn projects_from(s: &[u8]) -> [Project; Plan::PROJECTS]
+    requires { ⌜ planSize ≤ length (now s) ⌝ }
     ensures { λ r. ⌜ r ≡ projectsFrom 8 (now (s .entry)) ⌝ }
 {
     let none = Plan::empty();
     let mut project = none.project;
-    for j in 0..8 {
-        project[j] = project_from(s, 4 + 3 * j);
+    for j in 0..Plan::PROJECTS {
+        project[j] = project_from(s, PROJECTS_AT + PROJECT * j);
     }
     project
 }
 
-fn kinds_from(s: &[u8]) -> [Kind; 16]
-    requires { ⌜ 140 ≤ length (now s) ⌝ }
+fn kinds_from(s: &[u8]) -> [Kind; Plan::KINDS]
+    requires { ⌜ planSize ≤ length (now s) ⌝ }
     ensures { λ r. ⌜ r ≡ kindsFrom 16 (now (s .entry)) ⌝ }
 {
     let none = Plan::empty();
     let mut kind = none.kind;
-    for i in 0..16 {
-        kind[i] = kind_from(s, 28 + 7 * i);
+    for i in 0..Plan::KINDS {
+        kind[i] = kind_from(s, KINDS_AT + KIND * i);
     }
     kind
 }
 
 fn plan_from(s: &[u8]) -> Plan
-    requires { ⌜ 140 ≤ length (now s) ⌝ }
+    requires { ⌜ planSize ≤ length (now s) ⌝ }
     ensures { λ r. ⌜ r ≡ planFrom (now (s .entry)) ⌝ }
 {
+    let counts = fields(s, 0, COUNTS);
     let project = projects_from(s);
     let kind = kinds_from(s);
     Plan {
-        cards: s[0],
-        projects: s[1],
-        kinds: s[2],
-        frame: s[3],
+        cards: (counts / BITS_24 % BITS_8) as u8,
+        projects: (counts / BITS_16 % BITS_8) as u8,
+        kinds: (counts / BITS_8 % BITS_8) as u8,
+        frame: (counts % BITS_8) as u8,
         project,
         kind,
     }
 }
 
+fn clock_from(s: &[u8]) -> u32
+    requires { ⌜ stateSize ≤ length (now s) ⌝ }
+    ensures { λ r. ⌜ r ≡ clockFrom (drop clockPlace (now (s .entry))) ⌝ }
+{
+    (fields(s, CLOCK_AT, CLOCK) % BITS_32) as u32
+}
+
 fn unit_from(s: &[u8], at: usize) -> Unit
     requires { ⌜ at + 7 ≤ length (now s) ⌝ }
-    ensures { λ r. ⌜ r ≡ unitFrom (now (s .entry)) at ⌝ }
+    ensures { λ r. ⌜ r ≡ unitFrom (drop at (now (s .entry))) ⌝ }
 {
+    let fields = fields(s, at, UNIT);
     Unit {
-        released: s[at] == 1,
-        at: four(s, at + 1),
-        left: two(s, at + 5),
+        at: (fields / BITS_16 % BITS_32) as u32,
+        left: (fields % BITS_16) as u16,
+        released: fields / BITS_48 % BITS_8 == 1,
     }
 }
 
-fn units_from(s: &[u8]) -> [Unit; 16]
-    requires { ⌜ 256 ≤ length (now s) ⌝ }
+fn units_from(s: &[u8]) -> [Unit; Plan::KINDS]
+    requires { ⌜ stateSize ≤ length (now s) ⌝ }
     ensures { λ r. ⌜ r ≡ unitsFrom 16 (now (s .entry)) ⌝ }
 {
-    let mut unit = [Unit::empty(); 16];
-    for i in 0..16 {
-        unit[i] = unit_from(s, 144 + 7 * i);
+    let mut unit = [Unit::empty(); Plan::KINDS];
+    for i in 0..Plan::KINDS {
+        unit[i] = unit_from(s, UNITS_AT + UNIT * i);
     }
     unit
 }
 
 fn state_from(s: &[u8]) -> State
-    requires { ⌜ 256 ≤ length (now s) ⌝ }
+    requires { ⌜ stateSize ≤ length (now s) ⌝ }
     ensures { λ r. ⌜ r ≡ stateFrom (now (s .entry)) ⌝ }
 {
     let plan = plan_from(s);
-    let clock = four(s, 140);
+    let clock = clock_from(s);
     let unit = units_from(s);
     State { plan, clock, unit }
 }
 
+// A unit's released byte.
+fn released_at(s: &[u8], at: usize) -> u64
+    requires { ⌜ at + 7 ≤ length (now s) ⌝ }
+    ensures { λ r. ⌜ r ≡ field unitWidths (drop at (now (s .entry))) 0 ⌝ }
+{
+    fields(s, at, UNIT) / BITS_48 % BITS_8
+}
+
 // Whether every released byte is 0 or 1.
 fn released_told(s: &[u8]) -> bool
-    requires { ⌜ 256 ≤ length (now s) ⌝ }
+    requires { ⌜ stateSize ≤ length (now s) ⌝ }
     ensures { λ r. ⌜ r ≡ releasedTold (now (s .entry)) ⌝ }
 {
-    for i in 0..16 {
-        if 1 < s[144 + 7 * i] {
+    for i in 0..Plan::KINDS {
+        if 1 < released_at(s, UNITS_AT + UNIT * i) {
             return false;
         }
     }
@@ -154,22 +173,22 @@ fn released_told(s: &[u8]) -> bool
 
 // Of an image with some other released byte: the record order, 10.
 fn no_state(plan: Plan) -> Answer
-    ensures { λ r. ⌜ r ≡ (checked plan andThen No (Bare 10)) ⌝ }
+    ensures { λ r. ⌜ r ≡ (checked plan andThen bare 10) ⌝ }
 {
     let checked = plan.check();
     let Answer::Good = checked else {
         return checked;
     };
-    Answer::No(Refusal::Bare(10))
+    Answer::bare(10)
 }
 
 // The plan that an image says, whatever its fields hold: 9.
 pub fn plan_of(image: &[u8]) -> PlanFound
     ensures { λ r. ⌜ r ≡ planFound (now (image .entry)) ⌝ }
 {
-    if image.len() < 140 {
+    if image.len() < PLAN {
         return PlanFound {
-            answer: Answer::No(Refusal::Bare(9)),
+            answer: Answer::bare(9),
             plan: Plan::empty(),
         };
     }
@@ -184,9 +203,9 @@ pub fn plan_of(image: &[u8]) -> PlanFound
 pub fn state_of(image: &[u8]) -> StateFound
     ensures { λ r. ⌜ r ≡ stateFound (now (image .entry)) ⌝ }
 {
-    if image.len() < 256 {
+    if image.len() < STATE {
         return StateFound {
-            answer: Answer::No(Refusal::Bare(9)),
+            answer: Answer::bare(9),
             state: State::empty(),
         };
     }

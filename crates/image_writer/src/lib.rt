@@ -2,36 +2,60 @@
 // Every buffer is answered, whatever its length.
 ghost use mathlib.Core.Path.{_≡_};
 ghost use mathlib.Core.Bool.{cond};
-ghost use mathlib.Core.List.{_++_};
-ghost use Prim.Native.Nat.{_+_, _/_, _%_, _≤_};
+ghost use mathlib.Core.List.{[], _∷_, _++_};
+ghost use Prim.Native.Nat.{_+_, _≤_, _<_};
 ghost use lib.ListN.{length, drop};
 ghost use lib.Seq.{sets};
-ghost use Rattle.plan_bytes.specs.Bytes.{bytesOf};
-ghost use Rattle.plan_bytes.specs.Put.{putTo};
-ghost use Rattle.images.specs.Image.{projectBytes, kindBytes, unitBytes, countBytes, projectBytesAt, kindBytesAt, unitBytesAt, planImage, stateImage};
+ghost use Rattle.codec.specs.Bytes.{bytesOf};
+ghost use Rattle.codec.specs.Place.{sizeOf, placed};
+ghost use Rattle.codec.specs.Places.{putTo};
+ghost use Rattle.images.specs.Image.{countWidths, projectWidths, kindWidths, clockWidths, unitWidths, planSize, stateSize, projectPlace};
+ghost use Rattle.images.specs.Image.{kindPlace, clockPlace, unitPlace, countFields, projectFields, kindFields, unitFields, projectBytesAt};
+ghost use Rattle.images.specs.Image.{kindBytesAt, unitBytesAt, planImage, stateImage};
 ghost use Rattle.images.specs.Lent.{StoresPlan, StoresState};
 use answer::Answer;
-use answer::Refusal;
+use images::BITS_8;
+use images::BITS_16;
+use images::BITS_24;
+use images::BITS_32;
+use images::BITS_48;
+use images::CLOCK;
+use images::CLOCK_AT;
+use images::COUNTS;
+use images::KIND;
+use images::KINDS_AT;
+use images::PLAN;
+use images::PROJECT;
+use images::PROJECTS_AT;
+use images::STATE;
+use images::UNIT;
+use images::UNITS_AT;
 use plan::Kind;
 use plan::Plan;
 use plan::Project;
 use rack::State;
 use unit::Unit;
 
-fn high(x: u16) -> u8
-    ensures { λ r. ⌜ r ≡ x / 256 % 256 ⌝ }
+fn wide(x: u8) -> u64
+    ensures { λ r. ⌜ (r ≡ x) × (r < 256) ⌝ }
 {
-    (x / 256 % 256) as u8
+    x as u64
 }
 
-fn low(x: u16) -> u8
-    ensures { λ r. ⌜ r ≡ x % 256 ⌝ }
+fn wider(x: u16) -> u64
+    ensures { λ r. ⌜ (r ≡ x) × (r < 65536) ⌝ }
 {
-    (x % 256) as u8
+    x as u64
 }
 
-fn flag(told: bool) -> u8
-    ensures { λ r. ⌜ r ≡ cond told 1 0 ⌝ }
+fn widest(x: u32) -> u64
+    ensures { λ r. ⌜ (r ≡ x) × (r < 4294967296) ⌝ }
+{
+    x as u64
+}
+
+fn flag(told: bool) -> u64
+    ensures { λ r. ⌜ (r ≡ cond told 1 0) × (r ≤ 1) ⌝ }
 {
     if told {
         return 1;
@@ -39,94 +63,93 @@ fn flag(told: bool) -> u8
     0
 }
 
-fn put_counts(plan: Plan, out: &mut [u8])
-    requires { ⌜ 4 ≤ length (now out) ⌝ }
-    ensures { λ _. ⌜ now (out .exit) ≡ sets (now (out .entry)) 0 (countBytes plan) ⌝ }
+// Stores a number in so many bytes of an image.
+fn put_fields(fields: u64, count: usize, out: &mut [u8], at: usize)
+    requires { ⌜ at + count ≤ length (now out) ⌝ }
+    ensures { λ _. ⌜ now (out .exit) ≡ sets (now (out .entry)) at (bytesOf count fields) ⌝ }
 {
-    out[0] = plan.cards;
-    out[1] = plan.projects;
-    out[2] = plan.kinds;
-    out[3] = plan.frame;
+    let end = at + count;
+    codec::put_number(fields, &mut out[at..end]);
+}
+
+fn put_counts(plan: Plan, out: &mut [u8])
+    requires { ⌜ planSize ≤ length (now out) ⌝ }
+    ensures { λ _. ⌜ now (out .exit) ≡ sets (now (out .entry)) 0 (placed countWidths (countFields plan)) ⌝ }
+{
+    let fields = wide(plan.cards) * BITS_24
+        + wide(plan.projects) * BITS_16
+        + wide(plan.kinds) * BITS_8
+        + wide(plan.frame);
+    put_fields(fields, COUNTS, out, 0);
 }
 
 fn put_project(project: Project, out: &mut [u8], at: usize)
     requires { ⌜ at + 3 ≤ length (now out) ⌝ }
-    ensures { λ _. ⌜ now (out .exit) ≡ sets (now (out .entry)) at (projectBytes project) ⌝ }
+    ensures { λ _. ⌜ now (out .exit) ≡ sets (now (out .entry)) at (placed projectWidths (projectFields project)) ⌝ }
 {
-    out[at] = project.ceiling;
-    out[at + 1] = high(project.budget);
-    out[at + 2] = low(project.budget);
+    let fields = wide(project.ceiling) * BITS_16 + wider(project.budget);
+    put_fields(fields, PROJECT, out, at);
 }
 
 fn put_kind(kind: Kind, out: &mut [u8], at: usize)
     requires { ⌜ at + 7 ≤ length (now out) ⌝ }
-    ensures { λ _. ⌜ now (out .exit) ≡ sets (now (out .entry)) at (kindBytes kind) ⌝ }
+    ensures { λ _. ⌜ now (out .exit) ≡ sets (now (out .entry)) at (placed kindWidths (kindFields kind)) ⌝ }
 {
-    out[at] = kind.project;
-    out[at + 1] = high(kind.separation);
-    out[at + 2] = low(kind.separation);
-    out[at + 3] = high(kind.deadline);
-    out[at + 4] = low(kind.deadline);
-    out[at + 5] = high(kind.length);
-    out[at + 6] = low(kind.length);
+    let fields = wide(kind.project) * BITS_48
+        + wider(kind.separation) * BITS_32
+        + wider(kind.deadline) * BITS_16
+        + wider(kind.length);
+    put_fields(fields, KIND, out, at);
 }
 
 fn put_unit(unit: Unit, out: &mut [u8], at: usize)
     requires { ⌜ at + 7 ≤ length (now out) ⌝ }
-    ensures { λ _. ⌜ now (out .exit) ≡ sets (now (out .entry)) at (unitBytes unit) ⌝ }
+    ensures { λ _. ⌜ now (out .exit) ≡ sets (now (out .entry)) at (placed unitWidths (unitFields unit)) ⌝ }
 {
-    out[at] = flag(unit.released);
-    out[at + 1] = (unit.at / 16777216 % 256) as u8;
-    out[at + 2] = (unit.at / 65536 % 256) as u8;
-    out[at + 3] = (unit.at / 256 % 256) as u8;
-    out[at + 4] = (unit.at % 256) as u8;
-    out[at + 5] = high(unit.left);
-    out[at + 6] = low(unit.left);
+    let fields = flag(unit.released) * BITS_48 + widest(unit.at) * BITS_16 + wider(unit.left);
+    put_fields(fields, UNIT, out, at);
 }
 
 fn put_clock(clock: u32, out: &mut [u8])
-    requires { ⌜ 144 ≤ length (now out) ⌝ }
-    ensures { λ _. ⌜ now (out .exit) ≡ sets (now (out .entry)) 140 (bytesOf 4 clock) ⌝ }
+    requires { ⌜ stateSize ≤ length (now out) ⌝ }
+    ensures { λ _. ⌜ now (out .exit) ≡ sets (now (out .entry)) clockPlace (placed clockWidths (clock ∷ [])) ⌝ }
 {
-    out[140] = (clock / 16777216 % 256) as u8;
-    out[141] = (clock / 65536 % 256) as u8;
-    out[142] = (clock / 256 % 256) as u8;
-    out[143] = (clock % 256) as u8;
+    put_fields(widest(clock), CLOCK, out, CLOCK_AT);
 }
 
 fn put_projects(plan: Plan, out: &mut [u8])
-    requires { ⌜ 140 ≤ length (now out) ⌝ }
-    ensures { λ _. ⌜ now (out .exit) ≡ putTo 8 (projectBytesAt plan) 4 3 (now (out .entry)) ⌝ }
+    requires { ⌜ planSize ≤ length (now out) ⌝ }
+    ensures { λ _. ⌜ now (out .exit) ≡ putTo 8 (projectBytesAt plan) (projectPlace 0) (sizeOf projectWidths) (now (out .entry)) ⌝ }
 {
-    for j in 0..8 {
+    for j in 0..Plan::PROJECTS {
         let project = plan.project[j];
-        put_project(project, out, 4 + 3 * j);
+        put_project(project, out, PROJECTS_AT + PROJECT * j);
     }
 }
 
 fn put_kinds(plan: Plan, out: &mut [u8])
-    requires { ⌜ 140 ≤ length (now out) ⌝ }
-    ensures { λ _. ⌜ now (out .exit) ≡ putTo 16 (kindBytesAt plan) 28 7 (now (out .entry)) ⌝ }
+    requires { ⌜ planSize ≤ length (now out) ⌝ }
+    ensures { λ _. ⌜ now (out .exit) ≡ putTo 16 (kindBytesAt plan) (kindPlace 0) (sizeOf kindWidths) (now (out .entry)) ⌝ }
 {
-    for i in 0..16 {
+    for i in 0..Plan::KINDS {
         let kind = plan.kind[i];
-        put_kind(kind, out, 28 + 7 * i);
+        put_kind(kind, out, KINDS_AT + KIND * i);
     }
 }
 
 fn put_units(state: State, out: &mut [u8])
-    requires { ⌜ 256 ≤ length (now out) ⌝ }
-    ensures { λ _. ⌜ now (out .exit) ≡ putTo 16 (unitBytesAt state) 144 7 (now (out .entry)) ⌝ }
+    requires { ⌜ stateSize ≤ length (now out) ⌝ }
+    ensures { λ _. ⌜ now (out .exit) ≡ putTo 16 (unitBytesAt state) (unitPlace 0) (sizeOf unitWidths) (now (out .entry)) ⌝ }
 {
-    for i in 0..16 {
+    for i in 0..Plan::KINDS {
         let unit = state.unit[i];
-        put_unit(unit, out, 144 + 7 * i);
+        put_unit(unit, out, UNITS_AT + UNIT * i);
     }
 }
 
 fn store_plan(plan: Plan, out: &mut [u8])
-    requires { ⌜ 140 ≤ length (now out) ⌝ }
-    ensures { λ _. ⌜ now (out .exit) ≡ planImage plan ++ drop 140 (now (out .entry)) ⌝ }
+    requires { ⌜ planSize ≤ length (now out) ⌝ }
+    ensures { λ _. ⌜ now (out .exit) ≡ planImage plan ++ drop planSize (now (out .entry)) ⌝ }
 {
     put_counts(plan, out);
     put_projects(plan, out);
@@ -134,8 +157,8 @@ fn store_plan(plan: Plan, out: &mut [u8])
 }
 
 fn store_state(state: State, out: &mut [u8])
-    requires { ⌜ 256 ≤ length (now out) ⌝ }
-    ensures { λ _. ⌜ now (out .exit) ≡ stateImage state ++ drop 256 (now (out .entry)) ⌝ }
+    requires { ⌜ stateSize ≤ length (now out) ⌝ }
+    ensures { λ _. ⌜ now (out .exit) ≡ stateImage state ++ drop stateSize (now (out .entry)) ⌝ }
 {
     store_plan(state.plan, out);
     put_clock(state.clock, out);
@@ -146,8 +169,8 @@ fn store_state(state: State, out: &mut [u8])
 pub fn put_plan(plan: Plan, image: &mut [u8]) -> Answer
     ensures { λ r. ⌜ StoresPlan plan (now (image .entry)) r (now (image .exit)) ⌝ }
 {
-    if image.len() < 140 {
-        return Answer::No(Refusal::Bare(9));
+    if image.len() < PLAN {
+        return Answer::bare(9);
     }
     store_plan(plan, image);
     Answer::Good
@@ -157,8 +180,8 @@ pub fn put_plan(plan: Plan, image: &mut [u8]) -> Answer
 pub fn put_state(state: State, image: &mut [u8]) -> Answer
     ensures { λ r. ⌜ StoresState state (now (image .entry)) r (now (image .exit)) ⌝ }
 {
-    if image.len() < 256 {
-        return Answer::No(Refusal::Bare(9));
+    if image.len() < STATE {
+        return Answer::bare(9);
     }
     store_state(state, image);
     Answer::Good

@@ -1,92 +1,140 @@
--- The images of a plan and of a state: fixed sizes, fixed offsets, every number big-endian.
+-- The images of a plan and of a state: rows of places of fixed widths, each number big-endian. Where a row starts follows from the widths.
 -- Assumes nothing.
-use Prim.Native.Nat.{ℕ, _+_, _*_}
+use Prim.Native.Nat.{ℕ}
 use mathlib.Core.Bool.{Bool, cond}
 use mathlib.Core.List.{List, [], _∷_, _++_}
 use lib.Dec.{leb, eqb}
 use lib.ListN.{getD, drop, replicate}
 use Rattle.laws.specs.All.{allTo}
 use Rattle.laws.specs.Written.{written}
+use Rattle.codec.specs.Place.{placed, fieldsOf}
+use Rattle.codec.specs.Rows.{Row, row, rowsSize, placeAt, Values, rowsBytes}
 use Rattle.plan.specs.declared.Project.{Project}
 use Rattle.plan.specs.declared.Kind.{Kind}
 use Rattle.plan.specs.declared.Plan.{Plan}
 use Rattle.plan.specs.Record.{noProject, noKind}
 use Rattle.plan.specs.Order.{projectOf, kindOf}
-use Rattle.plan_bytes.specs.Bytes.{numberTo, bytesOf}
-use Rattle.plan_bytes.specs.Parts.{partsTo}
 use Rattle.unit.specs.declared.Unit.{Unit}
 use Rattle.rack.specs.declared.State.{State}
 use Rattle.unit.specs.Unit.{noUnit}
 use Rattle.rack.specs.State.{unitOf}
 pub mod Properties
 
--- ---- the offsets
+-- ---- the widths of the fields of a place, in bits
 
--- project j of 8, 3 bytes each
+-- cards u8, projects u8, kinds u8, frame u8
+abbrev pub countWidths : List ℕ
+countWidths = 8 ∷ 8 ∷ 8 ∷ 8 ∷ []
+
+-- ceiling u8, budget u16
+abbrev pub projectWidths : List ℕ
+projectWidths = 8 ∷ 16 ∷ []
+
+-- project u8, separation u16, deadline u16, length u16
+abbrev pub kindWidths : List ℕ
+kindWidths = 8 ∷ 16 ∷ 16 ∷ 16 ∷ []
+
+-- clock u32
+abbrev pub clockWidths : List ℕ
+clockWidths = 32 ∷ []
+
+-- released u8, release clock u32, left u16
+abbrev pub unitWidths : List ℕ
+unitWidths = 8 ∷ 32 ∷ 16 ∷ []
+
+-- ---- the rows
+
+-- a plan's: its counts, 8 projects, 16 unit kinds
+abbrev pub planRows : List Row
+planRows = row 1 countWidths ∷ row 8 projectWidths ∷ row 16 kindWidths ∷ []
+
+-- a state's: its plan's, the clock, 16 units
+abbrev pub stateRows : List Row
+stateRows = planRows ++ (row 1 clockWidths ∷ row 16 unitWidths ∷ [])
+
+-- the bytes of a plan's image
+abbrev pub planSize : ℕ
+planSize = rowsSize planRows
+
+-- the bytes of a state's image
+abbrev pub stateSize : ℕ
+stateSize = rowsSize stateRows
+
+-- where project j starts
 abbrev pub projectPlace : ℕ → ℕ
-projectPlace j = 4 + 3 * j
+projectPlace j = placeAt stateRows 1 j
 
--- unit kind i of 16, 7 bytes each
+-- where unit kind i starts
 abbrev pub kindPlace : ℕ → ℕ
-kindPlace i = 28 + 7 * i
+kindPlace i = placeAt stateRows 2 i
 
--- the unit of kind i of 16, 7 bytes each
+-- where the clock starts
+abbrev pub clockPlace : ℕ
+clockPlace = placeAt stateRows 3 0
+
+-- where the unit of kind i starts
 abbrev pub unitPlace : ℕ → ℕ
-unitPlace i = 144 + 7 * i
+unitPlace i = placeAt stateRows 4 i
 
 -- ---- what stands in an image
 
--- the byte there
-abbrev pub byteAt : List ℕ → ℕ → ℕ
-byteAt s at = getD s at 0
+-- field k of a place of these widths at the front of s
+abbrev pub field : List ℕ → List ℕ → ℕ → ℕ
+field ws s k = getD (fieldsOf ws s) k 0
 
--- n bytes from there on as one number, big-endian
-abbrev pub numberAt : ℕ → List ℕ → ℕ → ℕ
-numberAt n s at = numberTo n (drop at s)
+-- the project at the front of s
+unfoldable pub projectFrom : List ℕ → Project
+projectFrom s = record { ceiling = field projectWidths s 0; budget = field projectWidths s 1 }
 
--- ceiling u8, budget u16
-unfoldable pub projectFrom : List ℕ → ℕ → Project
-projectFrom s at = record { ceiling = byteAt s at; budget = numberAt 2 s (at + 1) }
+-- the unit kind at the front of s
+unfoldable pub kindFrom : List ℕ → Kind
+kindFrom s =
+    record {
+      project = field kindWidths s 0;
+      separation = field kindWidths s 1;
+      deadline = field kindWidths s 2;
+      length = field kindWidths s 3;
+    }
 
--- project u8, separation u16, deadline u16, length u16
-unfoldable pub kindFrom : List ℕ → ℕ → Kind
-kindFrom s at = record { project = byteAt s at; separation = numberAt 2 s (at + 1); deadline = numberAt 2 s (at + 3); length = numberAt 2 s (at + 5) }
+-- the clock at the front of s
+unfoldable pub clockFrom : List ℕ → ℕ
+clockFrom s = field clockWidths s 0
 
--- released u8, release clock u32, left u16
-unfoldable pub unitFrom : List ℕ → ℕ → Unit
-unitFrom s at = record { released = eqb (byteAt s at) 1; at = numberAt 4 s (at + 1); left = numberAt 2 s (at + 5) }
+-- the unit at the front of s
+unfoldable pub unitFrom : List ℕ → Unit
+unitFrom s = record { released = eqb (field unitWidths s 0) 1; at = field unitWidths s 1; left = field unitWidths s 2 }
 
 -- the first n projects
-unfoldable pub projectsFrom : ℕ → List ℕ → List Project
-projectsFrom n s = written n (λ j. projectFrom s (projectPlace j)) (replicate 8 noProject)
+abbrev pub projectsFrom : ℕ → List ℕ → List Project
+projectsFrom n s = written n (λ j. projectFrom (drop (projectPlace j) s)) (replicate 8 noProject)
 
 -- the first n unit kinds
-unfoldable pub kindsFrom : ℕ → List ℕ → List Kind
-kindsFrom n s = written n (λ i. kindFrom s (kindPlace i)) (replicate 16 noKind)
+abbrev pub kindsFrom : ℕ → List ℕ → List Kind
+kindsFrom n s = written n (λ i. kindFrom (drop (kindPlace i) s)) (replicate 16 noKind)
 
 -- the first n units
-unfoldable pub unitsFrom : ℕ → List ℕ → List Unit
-unitsFrom n s = written n (λ i. unitFrom s (unitPlace i)) (replicate 16 noUnit)
+abbrev pub unitsFrom : ℕ → List ℕ → List Unit
+unitsFrom n s = written n (λ i. unitFrom (drop (unitPlace i) s)) (replicate 16 noUnit)
 
--- 140 bytes: 0 cards, 1 projects, 2 kinds, 3 frame, 4 the projects, 28 the unit kinds
+-- the plan that an image says
 unfoldable pub planFrom : List ℕ → Plan
 planFrom s =
     record {
-      cards = byteAt s 0;
-      projects = byteAt s 1;
-      kinds = byteAt s 2;
-      frame = byteAt s 3;
+      cards = field countWidths s 0;
+      projects = field countWidths s 1;
+      kinds = field countWidths s 2;
+      frame = field countWidths s 3;
       project = projectsFrom 8 s;
       kind = kindsFrom 16 s;
     }
 
--- 256 bytes: 0 the plan, 140 the clock u32, 144 the units
+-- the state that an image says
 unfoldable pub stateFrom : List ℕ → State
-stateFrom s = record { plan = planFrom s; clock = numberAt 4 s 140; unit = unitsFrom 16 s }
+stateFrom s = record { plan = planFrom s; clock = clockFrom (drop clockPlace s); unit = unitsFrom 16 s }
 
 -- "what is no state is refused": a released byte is 0 or 1
 abbrev pub releasedAt : List ℕ → ℕ → Bool
-releasedAt s i = leb (byteAt s (unitPlace i)) 1
+releasedAt s i = leb (field unitWidths (drop (unitPlace i) s) 0) 1
 
 -- every released byte is
 unfoldable pub releasedTold : List ℕ → Bool
@@ -94,38 +142,46 @@ releasedTold s = allTo 16 (releasedAt s)
 
 -- ---- the images
 
--- ceiling u8, budget u16
-unfoldable pub projectBytes : Project → List ℕ
-projectBytes v = v .ceiling ∷ bytesOf 2 (v .budget)
+-- a plan's counts
+abbrev pub countFields : Plan → List ℕ
+countFields p = p .cards ∷ p .projects ∷ p .kinds ∷ p .frame ∷ []
 
--- project u8, separation u16, deadline u16, length u16
-unfoldable pub kindBytes : Kind → List ℕ
-kindBytes v = v .project ∷ (bytesOf 2 (v .separation) ++ (bytesOf 2 (v .deadline) ++ bytesOf 2 (v .length)))
+-- a project's fields
+abbrev pub projectFields : Project → List ℕ
+projectFields v = v .ceiling ∷ v .budget ∷ []
 
--- released u8, release clock u32, left u16
-unfoldable pub unitBytes : Unit → List ℕ
-unitBytes v = cond (v .released) 1 0 ∷ (bytesOf 4 (v .at) ++ bytesOf 2 (v .left))
+-- a unit kind's fields
+abbrev pub kindFields : Kind → List ℕ
+kindFields v = v .project ∷ v .separation ∷ v .deadline ∷ v .length ∷ []
 
--- cards, projects, kinds, frame
-unfoldable pub countBytes : Plan → List ℕ
-countBytes p = p .cards ∷ p .projects ∷ p .kinds ∷ p .frame ∷ []
+-- a unit's fields
+abbrev pub unitFields : Unit → List ℕ
+unitFields v = cond (v .released) 1 0 ∷ v .at ∷ v .left ∷ []
 
 -- project j's bytes
 abbrev pub projectBytesAt : Plan → ℕ → List ℕ
-projectBytesAt p j = projectBytes (projectOf p j)
+projectBytesAt p j = placed projectWidths (projectFields (projectOf p j))
 
 -- unit kind i's bytes
 abbrev pub kindBytesAt : Plan → ℕ → List ℕ
-kindBytesAt p i = kindBytes (kindOf p i)
+kindBytesAt p i = placed kindWidths (kindFields (kindOf p i))
 
 -- the bytes of kind i's unit
 abbrev pub unitBytesAt : State → ℕ → List ℕ
-unitBytesAt s i = unitBytes (unitOf s i)
+unitBytesAt s i = placed unitWidths (unitFields (unitOf s i))
 
--- a plan's 140 bytes
+-- the values of a plan's rows
+abbrev pub planValues : Plan → List Values
+planValues p = (λ i. countFields p) ∷ (λ j. projectFields (projectOf p j)) ∷ (λ i. kindFields (kindOf p i)) ∷ []
+
+-- the values of a state's rows
+abbrev pub stateValues : State → List Values
+stateValues s = planValues (s .plan) ++ ((λ i. s .clock ∷ []) ∷ (λ i. unitFields (unitOf s i)) ∷ [])
+
+-- a plan's image
 unfoldable pub planImage : Plan → List ℕ
-planImage p = countBytes p ++ partsTo 8 (projectBytesAt p) ++ partsTo 16 (kindBytesAt p)
+planImage p = rowsBytes planRows (planValues p)
 
--- a state's 256 bytes
+-- a state's image
 unfoldable pub stateImage : State → List ℕ
-stateImage s = planImage (s .plan) ++ bytesOf 4 (s .clock) ++ partsTo 16 (unitBytesAt s)
+stateImage s = rowsBytes stateRows (stateValues s)

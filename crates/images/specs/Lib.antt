@@ -2,4 +2,5 @@
 -- Assumes nothing.
 pub mod Image
 pub mod Lent
+pub mod Typed
 pub mod RoundTrip

@@ -31,7 +31,15 @@ and-goes true b r x e t q = q
 and-goes false b true x e t q = absurd (true≢false e)
 and-goes false b false x e t q = absurd (true≢false t)
 
-pub ruleset conjunction = (and-stops, and-goes)
+-- the same where the code has `&&` between them
+
+pub and-false : (a b r x : Bool) → r ≡ a → r ≡ false → x ≡ false → x ≡ (a && b)
+and-false a b r x e t q = rw (← e, t) q
+
+pub and-true : (a b r x : Bool) → r ≡ a → r ≡ true → x ≡ b → x ≡ (a && b)
+and-true a b r x e t q = rw (← e, t) q
+
+pub ruleset conjunction = (and-stops, and-goes, and-false, and-true)
 
 -- ---- a branch of the code, as the `cond` or the conjunction that a definition makes of the same test
 

@@ -9,7 +9,6 @@ ghost use Rattle.layout.specs.Layout.{cellAt, slotOf};
 ghost use Rattle.layout.specs.Table.{tableLength, tableOver, Tabled};
 ghost use Rattle.layout.specs.Walk.{firstCells, slotAfter, rowOf};
 use answer::Answer;
-use answer::Refusal;
 use plan::Plan;
 
 // What writing a table answers: the record order, then 9; and the count of bytes written.
@@ -48,11 +47,11 @@ fn first_cells(plan: Plan) -> [u16; 9]
 }
 
 // A card's slots. `before` is the slot of the cell before its first.
-fn row(plan: Plan, first: &[u16; 9], card: u8, before: u8) -> [u8; 64]
+fn row(plan: Plan, first: &[u16; 9], card: u8, before: u8) -> [u8; Plan::FRAME]
     requires { ⌜ (InOrder plan) × (now first ≡ firstCells plan) × (card < plan .cards) × (before ≡ slotOf plan (cellAt (plan .frame) card 0 - 1)) ⌝ }
     ensures { λ r. ⌜ r ≡ rowOf plan card ⌝ }
 {
-    let mut slots = [0u8; 64];
+    let mut slots = [0u8; Plan::FRAME];
     let mut slot = before;
     let mut cell = card as u16 * plan.frame as u16;
     for s in 0..plan.frame {
@@ -69,7 +68,7 @@ fn write_slots(plan: Plan, out: &mut [u8])
     ensures { λ r. ⌜ now (out .exit) ≡ tableOver plan (now (out .entry)) ⌝ }
 {
     let first = first_cells(plan);
-    let mut rows = [[0u8; 64]; 8];
+    let mut rows = [[0u8; Plan::FRAME]; Plan::CARDS];
     // Cell 0 is project 0's.
     let mut before: u8 = 1;
     for c in 0..plan.cards {
@@ -88,7 +87,7 @@ fn write_slots(plan: Plan, out: &mut [u8])
 
 // Writes the slot table, whatever the record holds and however long the buffer is.
 pub fn slot_table(plan: Plan, out: &mut [u8]) -> TableWritten
-    ensures { λ r. ⌜ Tabled plan (now (out .entry)) (now (out .exit)) r ⌝ }
+    ensures { λ r. ⌜ Tabled plan (now (out .entry)) r (now (out .exit)) ⌝ }
 {
     let answer = plan.check();
     let Answer::Good = answer else {
@@ -100,7 +99,7 @@ pub fn slot_table(plan: Plan, out: &mut [u8]) -> TableWritten
     let needed = plan.cards as usize * plan.frame as usize;
     if out.len() < needed {
         return TableWritten {
-            answer: Answer::No(Refusal::Bare(9)),
+            answer: Answer::bare(9),
             count: 0,
         };
     }

@@ -8,9 +8,9 @@ use lib.ListN.{length, getD}
 use Rattle.answer.specs.declared.Answer.{Answer}
 use Rattle.answer.specs.declared.Answer.the-variants.{Good, No}
 use Rattle.answer.specs.Answer.{number, place}
-use Rattle.plan_bytes.specs.Parts.{partsTo}
+use Rattle.codec.specs.Places.{partsTo}
 use Rattle.lines.specs.declared.line.Line.{Line}
-use Rattle.lines.specs.declared.line.Line.the-variants.{Plan, Release, Slice, Bad, End}
+use Rattle.lines.specs.declared.line.Line.the-variants.{Plan, Release, Slice, Bad, End, Nothing}
 use Rattle.lines.specs.Ascii.{ascii}
 use Rattle.lines.specs.Text.{decimal, Puts}
 pub mod Properties
@@ -33,6 +33,10 @@ releaseLine kind e a = (ascii "r " ++ decimal kind) ++ (ascii " " ++ decimal e) 
 unfoldable pub rowText : ℕ → (ℕ → ℕ) → List ℕ
 rowText cards row = partsTo cards (λ card. ascii " " ++ decimal (row card))
 
+-- the byte of a card in a row
+abbrev pub cardByte : List ℕ → ℕ → ℕ
+cardByte row card = getD row card 0
+
 -- "a slice prints `t CLOCK:` with the clock before it and the row's bytes, or `t refused N`"
 unfoldable pub sliceLine : Answer → ℕ → ℕ → (ℕ → ℕ) → List ℕ
 sliceLine Good clock cards row = (ascii "t " ++ decimal clock) ++ ascii ":" ++ rowText cards row ++ ascii "\n"
@@ -52,13 +56,18 @@ endLine clock = (ascii "end " ++ decimal clock) ++ ascii "\n"
 unfoldable pub lineText : Line → List ℕ → List ℕ
 lineText (Plan a) row = planLine a
 lineText (Release kind e a) row = releaseLine kind e a
-lineText (Slice a clock cards) row = sliceLine a clock (min cards 8) (λ card. getD row card 0)
+lineText (Slice a clock cards) row = sliceLine a clock (min cards 8) (cardByte row)
 lineText (Bad clock) row = badLine ++ endLine clock
 lineText (End clock) row = endLine clock
+lineText Nothing row = []
 
 -- what a line may take of a buffer
 abbrev pub lineRoom : ℕ
 lineRoom = 128
+
+-- what a line's last words may take of it
+abbrev pub endRoom : ℕ
+endRoom = 64
 
 -- the line, or nothing where a line may not have room behind `at`
 unfoldable pub printed : Line → List ℕ → List ℕ → ℕ → List ℕ

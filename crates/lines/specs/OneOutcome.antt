@@ -3,9 +3,12 @@
 use mathlib.Core.Path.{_≡_, sym, _∙_}
 use mathlib.Core.List.{List}
 use Prim.Native.Nat.{ℕ}
+use Rattle.answer.specs.Outcome.{Lent}
 use Rattle.lines.specs.declared.line.Line.{Line}
 use Rattle.lines.specs.Line.{Prints}
 
--- `Line::put`
-pub put-one-outcome : (line : Line) (row out : List ℕ) (at a b : ℕ) (after later : List ℕ) → Prints line row out at a after → Prints line row out at b later → (a ≡ b) × (after ≡ later)
-put-one-outcome line row out at a b after later x y = (x .text .end ∙ sym (y .text .end), x .text .buffer ∙ sym (y .text .buffer))
+-- `Line::put`: one at most, for a line has room for the numbers of its types and not for every number; that there is one is the contract's own proof
+pub put-one-outcome : (self : Line) (row out : List ℕ) (at : ℕ) (o p : Lent ℕ)
+    → Prints self row out at (o .result) (o .buffer) → Prints self row out at (p .result) (p .buffer) → o ≡ p
+put-one-outcome self row out at o p a b =
+    λ i. record { result = (a .text .end ∙ sym (b .text .end)) i; buffer = (a .text .buffer ∙ sym (b .text .buffer)) i }

@@ -5,7 +5,8 @@ ghost use Prim.Native.Nat.{ℕ, _+_, _*_, _≤_, min};
 ghost use mathlib.Core.List.{_++_};
 ghost use lib.ListN.{length, getD};
 ghost use Rattle.lines.specs.Text.{decimal, Puts};
-ghost use Rattle.lines.specs.Line.{planLine, outcome, releaseLine, rowText, sliceLine, badLine, endLine, Prints};
+ghost use Rattle.lines.specs.Line.{planLine, outcome, releaseLine, rowText, cardByte, sliceLine, badLine, endLine, lineRoom, endRoom};
+ghost use Rattle.lines.specs.Line.{Prints};
 use crate::text::put;
 use crate::text::put_number;
 use answer::Answer;
@@ -22,12 +23,15 @@ pub enum Line {
     Bad(u32),
     // The last line, at this clock.
     End(u32),
+    // No line.
+    Nothing,
 }
 
 // A word, and then a number.
 fn put_both(out: &mut [u8], at: usize, word: &[u8], n: u32) -> usize
     requires { ⌜ at + length (now word) + 10 ≤ length (now out) ⌝ }
-    ensures { λ r. ⌜ (Puts (now (out .entry)) at (now (word .entry) ++ decimal n) r (now (out .exit))) × (r ≤ at + length (now (word .entry)) + 10) ⌝ }
+    ensures { λ r. ⌜ (Puts (now (out .entry)) at (now (word .entry) ++ decimal n) r (now (out .exit)))
+        × (r ≤ at + length (now (word .entry)) + 10) ⌝ }
 {
     let at = put(out, at, word);
     put_number(out, at, n)
@@ -35,8 +39,8 @@ fn put_both(out: &mut [u8], at: usize, word: &[u8], n: u32) -> usize
 
 // `plan ok` or `plan refused N at P`.
 fn put_plan(out: &mut [u8], at: usize, answer: Answer) -> usize
-    requires { ⌜ at + 128 ≤ length (now out) ⌝ }
-    ensures { λ r. ⌜ (Puts (now (out .entry)) at (planLine answer) r (now (out .exit))) × (r ≤ at + 128) ⌝ }
+    requires { ⌜ at + lineRoom ≤ length (now out) ⌝ }
+    ensures { λ r. ⌜ (Puts (now (out .entry)) at (planLine answer) r (now (out .exit))) × (r ≤ at + lineRoom) ⌝ }
 {
     let Answer::No(_) = answer else {
         return put(out, at, b"plan ok\n");
@@ -48,8 +52,8 @@ fn put_plan(out: &mut [u8], at: usize, answer: Answer) -> usize
 
 // ` ok` or ` refused N`, with the line's end.
 fn put_outcome(out: &mut [u8], at: usize, answer: Answer) -> usize
-    requires { ⌜ at + 64 ≤ length (now out) ⌝ }
-    ensures { λ r. ⌜ (Puts (now (out .entry)) at (outcome answer) r (now (out .exit))) × (r ≤ at + 64) ⌝ }
+    requires { ⌜ at + endRoom ≤ length (now out) ⌝ }
+    ensures { λ r. ⌜ (Puts (now (out .entry)) at (outcome answer) r (now (out .exit))) × (r ≤ at + endRoom) ⌝ }
 {
     let Answer::No(_) = answer else {
         return put(out, at, b" ok\n");
@@ -60,8 +64,8 @@ fn put_outcome(out: &mut [u8], at: usize, answer: Answer) -> usize
 
 // `r KIND E ok` or `r KIND E refused N`.
 fn put_release(out: &mut [u8], at: usize, kind: u8, e: u16, answer: Answer) -> usize
-    requires { ⌜ at + 128 ≤ length (now out) ⌝ }
-    ensures { λ r. ⌜ (Puts (now (out .entry)) at (releaseLine kind e answer) r (now (out .exit))) × (r ≤ at + 128) ⌝ }
+    requires { ⌜ at + lineRoom ≤ length (now out) ⌝ }
+    ensures { λ r. ⌜ (Puts (now (out .entry)) at (releaseLine kind e answer) r (now (out .exit))) × (r ≤ at + lineRoom) ⌝ }
 {
     let at = put_both(out, at, b"r ", kind as u32);
     let at = put_both(out, at, b" ", e as u32);
@@ -71,7 +75,8 @@ fn put_release(out: &mut [u8], at: usize, kind: u8, e: u16, answer: Answer) -> u
 // The bytes of a row, a space before each.
 fn put_row(out: &mut [u8], at: usize, row: [u8; 8], cards: u8) -> usize
     requires { ⌜ (cards ≤ 8) × (at + 11 * cards ≤ length (now out)) ⌝ }
-    ensures { λ r. ⌜ (Puts (now (out .entry)) at (rowText cards (λ (card : ℕ). getD row card 0)) r (now (out .exit))) × (r ≤ at + 11 * cards) ⌝ }
+    ensures { λ r. ⌜ (Puts (now (out .entry)) at (rowText cards (cardByte row)) r (now (out .exit)))
+        × (r ≤ at + 11 * cards) ⌝ }
 {
     let mut next = at;
     for card in 0..cards as usize {
@@ -82,8 +87,9 @@ fn put_row(out: &mut [u8], at: usize, row: [u8; 8], cards: u8) -> usize
 
 // `t CLOCK:` and the row's bytes.
 fn put_served(out: &mut [u8], at: usize, clock: u32, row: &[u8; 8], cards: u8) -> usize
-    requires { ⌜ (cards ≤ 8) × (at + 128 ≤ length (now out)) ⌝ }
-    ensures { λ r. ⌜ (Puts (now (out .entry)) at (sliceLine Answer.Good clock cards (λ (card : ℕ). getD (now (row .entry)) card 0)) r (now (out .exit))) × (r ≤ at + 128) ⌝ }
+    requires { ⌜ (cards ≤ 8) × (at + lineRoom ≤ length (now out)) ⌝ }
+    ensures { λ r. ⌜ (Puts (now (out .entry)) at (sliceLine Answer.Good clock cards (cardByte (now (row .entry)))) r (now (out .exit)))
+        × (r ≤ at + lineRoom) ⌝ }
 {
     let at = put_both(out, at, b"t ", clock);
     let at = put(out, at, b":");
@@ -95,8 +101,8 @@ fn put_served(out: &mut [u8], at: usize, clock: u32, row: &[u8; 8], cards: u8) -
 fn row_cards(cards: u8) -> u8
     ensures { λ r. ⌜ (r ≡ min cards 8) × (r ≤ 8) ⌝ }
 {
-    if 8 < cards {
-        return 8;
+    if Line::CARDS < cards {
+        return Line::CARDS;
     }
     cards
 }
@@ -110,8 +116,9 @@ fn put_slice(
     row: &[u8; 8],
     cards: u8,
 ) -> usize
-    requires { ⌜ at + 128 ≤ length (now out) ⌝ }
-    ensures { λ r. ⌜ (Puts (now (out .entry)) at (sliceLine answer clock (min cards 8) (λ (card : ℕ). getD (now (row .entry)) card 0)) r (now (out .exit))) × (r ≤ at + 128) ⌝ }
+    requires { ⌜ at + lineRoom ≤ length (now out) ⌝ }
+    ensures { λ r. ⌜ (Puts (now (out .entry)) at (sliceLine answer clock (min cards 8) (cardByte (now (row .entry)))) r (now (out .exit)))
+        × (r ≤ at + lineRoom) ⌝ }
 {
     let Answer::No(_) = answer else {
         return put_served(out, at, clock, row, row_cards(cards));
@@ -122,8 +129,8 @@ fn put_slice(
 
 // `end CLOCK`.
 fn put_end(out: &mut [u8], at: usize, clock: u32) -> usize
-    requires { ⌜ at + 64 ≤ length (now out) ⌝ }
-    ensures { λ r. ⌜ (Puts (now (out .entry)) at (endLine clock) r (now (out .exit))) × (r ≤ at + 64) ⌝ }
+    requires { ⌜ at + endRoom ≤ length (now out) ⌝ }
+    ensures { λ r. ⌜ (Puts (now (out .entry)) at (endLine clock) r (now (out .exit))) × (r ≤ at + endRoom) ⌝ }
 {
     let at = put_both(out, at, b"end ", clock);
     put(out, at, b"\n")
@@ -131,23 +138,29 @@ fn put_end(out: &mut [u8], at: usize, clock: u32) -> usize
 
 // `bad command`, and then the last line.
 fn put_bad(out: &mut [u8], at: usize, clock: u32) -> usize
-    requires { ⌜ at + 128 ≤ length (now out) ⌝ }
-    ensures { λ r. ⌜ (Puts (now (out .entry)) at (badLine ++ endLine clock) r (now (out .exit))) × (r ≤ at + 128) ⌝ }
+    requires { ⌜ at + lineRoom ≤ length (now out) ⌝ }
+    ensures { λ r. ⌜ (Puts (now (out .entry)) at (badLine ++ endLine clock) r (now (out .exit))) × (r ≤ at + lineRoom) ⌝ }
 {
     let at = put(out, at, b"bad command\n");
     put_end(out, at, clock)
 }
 
 impl Line {
+    // What a line may take of a buffer: every line fits in it.
+    pub const ROOM: usize = 128;
+
+    // The bytes of the longest row.
+    pub(crate) const CARDS: u8 = 8;
+
     // The line's bytes, from index at on; its row's bytes stand in row. Answers the index after
-    // it. Where fewer than 128 bytes stand behind at, nothing is written.
+    // it. Where less than a line's room stands behind at, nothing is written.
     pub fn put(self, row: &[u8; 8], out: &mut [u8], at: usize) -> usize
         ensures { λ r. ⌜ Prints self (now (row .entry)) (now (out .entry)) at r (now (out .exit)) ⌝ }
     {
-        if out.len() < 128 {
+        if out.len() < Line::ROOM {
             return at;
         }
-        if out.len() - 128 < at {
+        if out.len() - Line::ROOM < at {
             return at;
         }
         match self {
@@ -156,6 +169,7 @@ impl Line {
             Line::Slice(answer, clock, cards) => put_slice(out, at, answer, clock, row, cards),
             Line::Bad(clock) => put_bad(out, at, clock),
             Line::End(clock) => put_end(out, at, clock),
+            Line::Nothing => at,
         }
     }
 }

@@ -4,7 +4,7 @@ ghost use lib.ListN.{length};
 ghost use Rattle.lines.specs.Text.{decimal, Puts};
 
 // The bytes of a word, from index at on.
-pub fn put(out: &mut [u8], at: usize, word: &[u8]) -> usize
+pub(crate) fn put(out: &mut [u8], at: usize, word: &[u8]) -> usize
     requires { ⌜ at + length (now word) ≤ length (now out) ⌝ }
     ensures { λ r. ⌜ Puts (now (out .entry)) at (now (word .entry)) r (now (out .exit)) ⌝ }
 {
@@ -29,7 +29,7 @@ fn put_digits(out: &mut [u8], at: usize, n: u32) -> usize
 }
 
 // A number in decimal, from index at on. Ten digits are enough for 32 bits.
-pub fn put_number(out: &mut [u8], at: usize, n: u32) -> usize
+pub(crate) fn put_number(out: &mut [u8], at: usize, n: u32) -> usize
     requires { ⌜ at + 10 ≤ length (now out) ⌝ }
     ensures { λ r. ⌜ (Puts (now (out .entry)) at (decimal n) r (now (out .exit))) × (r ≤ at + 10) ⌝ }
 {

@@ -2,4 +2,5 @@
 -- Assumes nothing.
 pub mod Record
 pub mod Order
+pub mod Example
 pub mod OneOutcome

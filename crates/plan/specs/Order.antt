@@ -11,9 +11,8 @@ use Rattle.plan.specs.declared.Project.{Project}
 use Rattle.plan.specs.declared.Kind.{Kind}
 use Rattle.plan.specs.declared.Plan.{Plan}
 use Rattle.answer.specs.declared.Answer.{Answer}
-use Rattle.answer.specs.declared.Refusal.the-variants.{Bare, ByProject, ByKind}
 use Rattle.plan.specs.Record.{noProject, noKind}
-use Rattle.answer.specs.Answer.{refuse, _andThen_, eachTo}
+use Rattle.answer.specs.Answer.{bare, atProject, atKind, refuse, _andThen_, eachTo}
 pub mod Properties
 
 -- ---- the plan's places
@@ -80,15 +79,15 @@ budgets p = sumTo (p .projects) (budgetOf p)
 
 -- "2: m, p, n or F out of range"
 unfoldable pub sizes : Plan → Answer
-sizes p = refuse (not (sized p)) (Bare 2)
+sizes p = refuse (not (sized p)) (bare 2)
 
 -- "3: .. an unused place not zero"
 unfoldable pub unused : Plan → Answer
-unused p = refuse (not (tidyProjects p)) (Bare 3) andThen refuse (not (tidyKinds p)) (Bare 3)
+unused p = refuse (not (tidyProjects p && tidyKinds p)) (bare 3)
 
 -- "4: q or B out of range", of project j
 abbrev pub projectInRange : Plan → ℕ → Answer
-projectInRange p j = refuse (not (inRange (p .cards) (p .frame) (projectOf p j))) (ByProject 4 j)
+projectInRange p j = refuse (not (inRange (p .cards) (p .frame) (projectOf p j))) (atProject 4 j)
 
 -- "4: q or B out of range", at the first such project
 unfoldable pub projectsInRange : Plan → Answer
@@ -96,7 +95,7 @@ projectsInRange p = eachTo (p .projects) (projectInRange p)
 
 -- "5: kind names a project not below p", "6: not 1 <= C <= D <= T <= 4095", of kind i, 5 before 6
 unfoldable pub kindInRange : ℕ → Kind → ℕ → Answer
-kindInRange projects v i = refuse (not (ltb (v .project) projects)) (ByKind 5 i 0) andThen refuse (not (timed v)) (ByKind 6 i 0)
+kindInRange projects v i = refuse (not (ltb (v .project) projects)) (atKind 5 i) andThen refuse (not (timed v)) (atKind 6 i)
 
 -- the plan's kind i
 abbrev pub kindInRangeAt : Plan → ℕ → Answer
@@ -108,7 +107,7 @@ kindsInRange p = eachTo (p .kinds) (kindInRangeAt p)
 
 -- "7: budgets sum above mF"
 unfoldable pub budgetsFit : Plan → Answer
-budgetsFit p = refuse (not (leb (budgets p) (p .cards * p .frame))) (Bare 7)
+budgetsFit p = refuse (not (leb (budgets p) (p .cards * p .frame))) (bare 7)
 
 -- ".. 4, 5/6, 7"
 unfoldable pub ranges : Plan → Answer

@@ -1,32 +1,27 @@
 // The record check: 2, 3, 4, 5/6, 7, in that order. It answers any record, whatever its fields
 // hold. Each stage's answer is opened with `let .. else`, and a refusal leaves at once.
 ghost use mathlib.Core.Path.{_≡_};
+ghost use mathlib.Core.Bool.{_&&_};
 ghost use Prim.Native.Nat.{_≤_, _<_, _*_};
 ghost use lib.ListN.{length};
-ghost use Rattle.plan.specs.Order.{within, emptyProject, emptyKind, inRange, timed, tidyProjects, tidyKinds, sized, sizes, unused, projectsInRange, kindInRange, kindsInRange, budgets, budgetsFit, ranges, checked};
+ghost use Rattle.plan.specs.Order.{within, emptyProject, emptyKind, inRange, timed, tidyProjects, tidyKinds, sized, budgets};
+ghost use Rattle.plan.specs.Order.{sizes, unused, projectsInRange, kindInRange, kindsInRange, budgetsFit, ranges, checked};
 use crate::Kind;
 use crate::Plan;
 use crate::Project;
 use answer::Answer;
-use answer::Refusal;
 
 fn within(x: u16, most: u16) -> bool
     ensures { λ r. ⌜ r ≡ within most x ⌝ }
 {
-    if x == 0 {
-        return false;
-    }
-    x <= most
+    x != 0 && x <= most
 }
 
 impl Project {
     fn is_empty(self) -> bool
         ensures { λ r. ⌜ r ≡ emptyProject self ⌝ }
     {
-        if self.ceiling != 0 {
-            return false;
-        }
-        self.budget == 0
+        self.ceiling == 0 && self.budget == 0
     }
 
     fn cells(self) -> u32
@@ -38,10 +33,8 @@ impl Project {
     fn in_range(self, cards: u8, frame: u8) -> bool
         ensures { λ r. ⌜ r ≡ inRange cards frame self ⌝ }
     {
-        if !within(self.ceiling as u16, cards as u16) {
-            return false;
-        }
-        within(self.budget, self.ceiling as u16 * frame as u16)
+        within(self.ceiling as u16, cards as u16)
+            && within(self.budget, self.ceiling as u16 * frame as u16)
     }
 }
 
@@ -80,10 +73,10 @@ impl Kind {
         ensures { λ r. ⌜ r ≡ kindInRange projects self place ⌝ }
     {
         if projects <= self.project {
-            return Answer::No(Refusal::ByKind(5, place, 0));
+            return Answer::at_kind(5, place);
         }
         if !self.timed() {
-            return Answer::No(Refusal::ByKind(6, place, 0));
+            return Answer::at_kind(6, place);
         }
         Answer::Good
     }
@@ -110,7 +103,7 @@ impl Plan {
         ensures { λ r. ⌜ r ≡ tidyProjects self ⌝ }
     {
         let used = self.projects as usize;
-        for j in 0..8 {
+        for j in 0..Plan::PROJECTS {
             if j < used {
                 continue;
             }
@@ -126,7 +119,7 @@ impl Plan {
         ensures { λ r. ⌜ r ≡ tidyKinds self ⌝ }
     {
         let used = self.kinds as usize;
-        for i in 0..16 {
+        for i in 0..Plan::KINDS {
             if i < used {
                 continue;
             }
@@ -142,19 +135,22 @@ impl Plan {
         ensures { λ r. ⌜ r ≡ sizes self ⌝ }
     {
         if !self.sized() {
-            return Answer::No(Refusal::Bare(2));
+            return Answer::bare(2);
         }
         Answer::Good
+    }
+
+    fn tidy(self) -> bool
+        ensures { λ r. ⌜ r ≡ (tidyProjects self && tidyKinds self) ⌝ }
+    {
+        self.projects_tidy() && self.kinds_tidy()
     }
 
     fn unused(self) -> Answer
         ensures { λ r. ⌜ r ≡ unused self ⌝ }
     {
-        if !self.projects_tidy() {
-            return Answer::No(Refusal::Bare(3));
-        }
-        if !self.kinds_tidy() {
-            return Answer::No(Refusal::Bare(3));
+        if !self.tidy() {
+            return Answer::bare(3);
         }
         Answer::Good
     }
@@ -165,7 +161,7 @@ impl Plan {
     {
         for j in 0..self.projects {
             if !self.project[j as usize].in_range(self.cards, self.frame) {
-                return Answer::No(Refusal::ByProject(4, j));
+                return Answer::at_project(4, j);
             }
         }
         Answer::Good
@@ -200,7 +196,7 @@ impl Plan {
         ensures { λ r. ⌜ r ≡ budgetsFit self ⌝ }
     {
         if (self.cards as u32) * (self.frame as u32) < self.budgets() {
-            return Answer::No(Refusal::Bare(7));
+            return Answer::bare(7);
         }
         Answer::Good
     }

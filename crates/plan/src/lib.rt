@@ -28,8 +28,8 @@ pub struct Plan {
     pub projects: u8,
     pub kinds: u8,
     pub frame: u8,
-    pub project: [Project; 8],
-    pub kind: [Kind; 16],
+    pub project: [Project; Plan::PROJECTS],
+    pub kind: [Kind; Plan::KINDS],
 }
 
 impl Project {
@@ -59,13 +59,13 @@ impl Kind {
 }
 
 impl Plan {
-    pub const CARDS: u8 = 8;
+    pub const CARDS: usize = 8;
 
-    pub const PROJECTS: u8 = 8;
+    pub const PROJECTS: usize = 8;
 
-    pub const KINDS: u8 = 16;
+    pub const KINDS: usize = 16;
 
-    pub const FRAME: u8 = 64;
+    pub const FRAME: usize = 64;
 
     // The all-zero plan.
     pub fn empty() -> Self
@@ -76,8 +76,8 @@ impl Plan {
             projects: 0,
             kinds: 0,
             frame: 0,
-            project: [Project::empty(); 8],
-            kind: [Kind::empty(); 16],
+            project: [Project::empty(); Plan::PROJECTS],
+            kind: [Kind::empty(); Plan::KINDS],
         }
     }
 }

@@ -1,6 +1,6 @@
 -- Document 01, "Plan bytes", the table: the one layout from which both reading and writing are stated.
 -- Assumes nothing.
-use Prim.Native.Nat.{ℕ, zero, suc, _+_, _*_}
+use Prim.Native.Nat.{ℕ, _+_, _*_}
 use mathlib.Core.List.{List, [], _∷_, _++_}
 use mathlib.Core.Path.{_≡_}
 use lib.ListN.{length, getD, drop, replicate}
@@ -10,8 +10,9 @@ use Rattle.plan.specs.declared.Kind.{Kind}
 use Rattle.plan.specs.declared.Plan.{Plan}
 use Rattle.plan.specs.Record.{noProject, noKind}
 use Rattle.plan.specs.Order.{projectOf, kindOf}
-use Rattle.plan_bytes.specs.Pack.{pack, unpack}
-use Rattle.plan_bytes.specs.Bytes.{numberTo, bytesOf}
+use Rattle.codec.specs.Pack.{pack, unpack}
+use Rattle.codec.specs.Bytes.{numberTo, bytesOf}
+use Rattle.codec.specs.Places.{partsTo}
 pub mod Properties
 
 -- ---- "fields in order (bits)"
@@ -53,11 +54,6 @@ projectBytes v = bytesOf 2 (pack projectWidths (v .ceiling ∷ v .budget ∷ 0 �
 unfoldable pub kindBytes : Kind → List ℕ
 kindBytes v = bytesOf 5 (pack kindWidths (v .project ∷ v .separation ∷ v .deadline ∷ v .length ∷ 0 ∷ []))
 
--- the parts 0..n-1, one after the other
-unfoldable pub partsTo : ℕ → (ℕ → List ℕ) → List ℕ
-partsTo zero f = []
-partsTo (suc n) f = partsTo n f ++ f n
-
 -- project j's bytes
 abbrev pub projectBytesAt : Plan → ℕ → List ℕ
 projectBytesAt p j = projectBytes (projectOf p j)
@@ -90,7 +86,14 @@ projectFrom s = record { ceiling = getD (projectFields s) 0 0; budget = getD (pr
 
 -- the unit kind whose fields stand at the front of s
 unfoldable pub kindFrom : List ℕ → Kind
-kindFrom s = record { project = getD (kindFields s) 0 0; separation = getD (kindFields s) 1 0; deadline = getD (kindFields s) 2 0; length = getD (kindFields s) 3 0 }
+kindFrom s =
+    record {
+      project = getD (kindFields s) 0 0;
+      separation = getD (kindFields s) 1 0;
+      deadline = getD (kindFields s) 2 0;
+      length =
+          getD (kindFields s) 3 0;
+    }
 
 -- ---- where each part starts
 

@@ -8,12 +8,12 @@ use lib.ListN.{length, getD}
 use Rattle.laws.specs.All.{allTo}
 use Rattle.plan.specs.declared.Plan.{Plan}
 use Rattle.answer.specs.declared.Answer.{Answer}
-use Rattle.answer.specs.declared.Refusal.the-variants.{Bare}
 use Rattle.plan.specs.Record.{noPlan}
-use Rattle.answer.specs.Answer.{refuse, _andThen_, ifGood}
+use Rattle.answer.specs.Answer.{bare, refuse, _andThen_, ifGood}
 use Rattle.plan.specs.Order.{sizes, ranges}
 use Rattle.plan_bytes.specs.declared.Reading.{Reading}
-use Rattle.plan_bytes.specs.Parts.{headerFields, projectFields, kindFields, projectAt, kindAt, afterHeader, afterProjects, headed, decoded, size}
+use Rattle.plan_bytes.specs.Parts.{headerFields, projectFields, kindFields, projectAt, kindAt, afterHeader, afterProjects, headed}
+use Rattle.plan_bytes.specs.Parts.{decoded, size}
 pub mod Properties
 
 -- ---- the spare bits, "which are zero"
@@ -50,11 +50,11 @@ spareZero s = eqb (headerSpare s) 0 && placesSpare s
 
 -- ".. 1 for the total, 3, all projects for 4, then kind by kind 5 before 6, then 7"
 unfoldable pub bodyAnswer : List ℕ → Answer
-bodyAnswer s = refuse (ltb (length s) (size (headed s))) (Bare 1) andThen (refuse (not (spareZero s)) (Bare 3) andThen ranges (decoded s))
+bodyAnswer s = refuse (ltb (length s) (size (headed s))) (bare 1) andThen (refuse (not (spareZero s)) (bare 3) andThen ranges (decoded s))
 
 -- "Bytes: 1 for the first three bytes, 2, .."
 unfoldable pub readAnswer : List ℕ → Answer
-readAnswer s = refuse (ltb (length s) 3) (Bare 1) andThen (sizes (headed s) andThen bodyAnswer s)
+readAnswer s = refuse (ltb (length s) 3) (bare 1) andThen (sizes (headed s) andThen bodyAnswer s)
 
 -- "A refused read gives an all-zero plan and 0 bytes taken"; a good one the plan and "how many bytes it took"
 abbrev pub reading : Answer → Plan → ℕ → Reading

@@ -11,10 +11,12 @@ ghost use Rattle.plan.specs.Record.{noPlan};
 ghost use Rattle.plan_bytes.specs.Parts.{projectsFrom, kindsFrom, headed, decoded, size};
 ghost use Rattle.plan_bytes.specs.Reading.{projectsSpare, kindsSpare, placesSpare, headerSpare, bodyAnswer, readOf, reading};
 use answer::Answer;
-use answer::Refusal;
 use plan::Kind;
 use plan::Plan;
 use plan::Project;
+use plan_bytes::HEADER;
+use plan_bytes::KIND;
+use plan_bytes::PROJECT;
 use plan_bytes::Reading;
 use plan_bytes::size;
 
@@ -39,10 +41,7 @@ struct Placed {
 fn both(a: bool, b: bool) -> bool
     ensures { λ r. ⌜ r ≡ (a && b) ⌝ }
 {
-    if !a {
-        return false;
-    }
-    b
+    a && b
 }
 
 // The projects, from the bytes that start after the header.
@@ -54,7 +53,7 @@ fn projects_from(s: &[u8], count: u8) -> Projects
     let mut project = none.project;
     let mut clean = true;
     for j in 0..count as usize {
-        let at = 2 * j;
+        let at = PROJECT * j;
         let part = part::project_from(&s[at..]);
         let read = part.project;
         project[j] = read;
@@ -72,7 +71,7 @@ fn kinds_from(s: &[u8], count: u8) -> Kinds
     let mut kind = none.kind;
     let mut clean = true;
     for i in 0..count as usize {
-        let at = 5 * i;
+        let at = KIND * i;
         let part = part::kind_from(&s[at..]);
         let read = part.kind;
         kind[i] = read;
@@ -97,9 +96,9 @@ fn places(bytes: &[u8], plan: Plan) -> Placed
     requires { ⌜ (plan ≡ headed (now bytes)) × (plan .projects ≤ 8) × (plan .kinds ≤ 16) × (size plan ≤ length (now bytes)) ⌝ }
     ensures { λ r. ⌜ (r .plan ≡ decoded (now (bytes .entry))) × (r .clean ≡ placesSpare (now (bytes .entry))) ⌝ }
 {
-    let first = 3;
+    let first = HEADER;
     let projects = projects_from(&bytes[first..], plan.projects);
-    let next = 3 + 2 * plan.projects as usize;
+    let next = HEADER + PROJECT * plan.projects as usize;
     let kinds = kinds_from(&bytes[next..], plan.kinds);
     let project = projects.project;
     let kind = kinds.kind;
@@ -123,11 +122,11 @@ fn body(bytes: &[u8], plan: Plan, spare: u8) -> Reading
 {
     let total = size(plan);
     if bytes.len() < total {
-        return refused(Answer::No(Refusal::Bare(1)));
+        return refused(Answer::bare(1));
     }
     let placed = places(bytes, plan);
     if !both(spare == 0, placed.clean) {
-        return refused(Answer::No(Refusal::Bare(3)));
+        return refused(Answer::bare(3));
     }
     let plan = placed.plan;
     let checked = plan.check();
@@ -145,8 +144,8 @@ fn body(bytes: &[u8], plan: Plan, spare: u8) -> Reading
 pub fn read(bytes: &[u8]) -> Reading
     ensures { λ r. ⌜ r ≡ readOf (now (bytes .entry)) ⌝ }
 {
-    if bytes.len() < 3 {
-        return refused(Answer::No(Refusal::Bare(1)));
+    if bytes.len() < HEADER {
+        return refused(Answer::bare(1));
     }
     let header = part::header_from(bytes);
     let plan = header.plan;

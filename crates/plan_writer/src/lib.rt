@@ -7,11 +7,13 @@ ghost use Prim.Native.Nat.{_+_, _*_, _≤_};
 ghost use mathlib.Core.List.{_++_};
 ghost use lib.ListN.{length, drop};
 ghost use Rattle.plan_bytes.specs.Parts.{size, encoded, projectBytesAt, kindBytesAt};
-ghost use Rattle.plan_bytes.specs.Put.{putTo};
+ghost use Rattle.codec.specs.Places.{putTo};
 ghost use Rattle.plan_bytes.specs.Writing.{Writes};
 use answer::Answer;
-use answer::Refusal;
 use plan::Plan;
+use plan_bytes::HEADER;
+use plan_bytes::KIND;
+use plan_bytes::PROJECT;
 use plan_bytes::Written;
 use plan_bytes::size;
 
@@ -22,7 +24,7 @@ fn put_projects(plan: Plan, out: &mut [u8])
 {
     for j in 0..plan.projects as usize {
         let project = plan.project[j];
-        part::put_project(project, out, 3 + 2 * j);
+        part::put_project(project, out, HEADER + PROJECT * j);
     }
 }
 
@@ -31,10 +33,10 @@ fn put_kinds(plan: Plan, out: &mut [u8])
     requires { ⌜ (plan .kinds ≤ 16) × (3 + 2 * plan .projects + 5 * plan .kinds ≤ length (now out)) ⌝ }
     ensures { λ _. ⌜ now (out .exit) ≡ putTo (plan .kinds) (kindBytesAt plan) (3 + 2 * plan .projects) 5 (now (out .entry)) ⌝ }
 {
-    let start = 3 + 2 * plan.projects as usize;
+    let start = HEADER + PROJECT * plan.projects as usize;
     for i in 0..plan.kinds as usize {
         let kind = plan.kind[i];
-        part::put_kind(kind, out, start + 5 * i);
+        part::put_kind(kind, out, start + KIND * i);
     }
 }
 
@@ -62,7 +64,7 @@ pub fn write(plan: Plan, out: &mut [u8]) -> Written
     let count = size(plan);
     if out.len() < count {
         return Written {
-            answer: Answer::No(Refusal::Bare(9)),
+            answer: Answer::bare(9),
             count: 0,
         };
     }

@@ -37,4 +37,5 @@ opening input = readOf input .answer andThen startOf (readOf input .plan) .answe
 
 -- "reads a plan from standard input, then commands"; "First line: `plan ok` or `plan refused N at P`, and then it stops"
 unfoldable pub played : List ℕ → List ℕ
-played input = planLine (opening input) ++ ifGood (opening input) (turns (startOf (readOf input .plan) .state) (drop (readOf input .taken) input)) []
+played input =
+    planLine (opening input) ++ ifGood (opening input) (turns (startOf (readOf input .plan) .state) (drop (readOf input .taken) input)) []

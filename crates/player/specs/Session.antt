@@ -2,7 +2,7 @@
 -- Assumes nothing.
 use Prim.Native.Nat.{ℕ, zero, suc, _+_, _-_, _≤_}
 use mathlib.Core.Path.{_≡_}
-use mathlib.Core.Bool.{Bool, cond, not, _&&_, _||_}
+use mathlib.Core.Bool.{Bool, true, false, cond, not, _&&_, _||_}
 use mathlib.Core.List.{List, [], _++_}
 use lib.Dec.{ltb, eqb}
 use lib.ListN.{length, drop}
@@ -19,8 +19,7 @@ use Rattle.player.specs.declared.session.Stage.the-variants.{Opening, Ru
 use Rattle.player.specs.declared.session.Session.{Session}
 use Rattle.player.specs.declared.session.Step.{Step}
 use Rattle.player.specs.declared.session.Progress.{Progress}
-use Rattle.lines.specs.Text.{Puts}
-use Rattle.lines.specs.Line.{planLine, badLine, endLine, lineRoom}
+use Rattle.lines.specs.Line.{planLine, badLine, endLine, lineText, lineRoom}
 use Rattle.commands.specs.Command.{commandOf}
 use Rattle.player.specs.Turn.{lineOf, after}
 use Rattle.player.specs.Played.{opening, turns, played}
@@ -46,6 +45,10 @@ atStage Opening a b c = a
 atStage Running a b c = b
 atStage Over a b c = c
 
+-- whether the last line was printed
+abbrev pub isOver : Session → Bool
+isOver x = atStage (x .stage) false false true
+
 -- what is still to be printed, of all the input that is still to be taken
 unfoldable pub remaining : Session → List ℕ → List ℕ
 remaining x input = atStage (x .stage) (played input) (turns (x .state) input) []
@@ -64,7 +67,12 @@ stay x = record { session = x; taken = 0; text = [] }
 
 -- "First line: `plan ok` or `plan refused N at P`, and then it stops"
 abbrev pub firstLine : Answer → State → ℕ → Move
-firstLine a s n = record { session = record { stage = ifGood a Running Over; state = ifGood a s noState }; taken = ifGood a n 0; text = planLine a }
+firstLine a s n =
+    record { session = record { stage = ifGood a Running Over; state = ifGood a s noState }; taken = ifGood a n 0; text = planLine a }
+
+-- "`plan refused N at P`, and then it stops"
+abbrev pub refusedAt : Answer → Move
+refusedAt a = record { session = over noState; taken = 0; text = planLine a }
 
 -- the first line, unless the plan is cut short and the input has not ended with these bytes
 unfoldable pub openOf : Session → Bool → List ℕ → Move
@@ -92,12 +100,11 @@ runOf x last bytes =
 unfoldable pub stepOf : Session → Bool → List ℕ → Move
 stepOf x last bytes = atStage (x .stage) (openOf x last bytes) (runOf x last bytes) (stay x)
 
--- a line behind what is in the buffer
-pub record Steps (m : Move) (out : List ℕ) (at : ℕ) (r : Step) (held : List ℕ) : Type 0 where
+-- a step that makes this move: its line is the text
+pub record Makes (m : Move) (r : Step) : Type 0 where
   pub session : r .session ≡ m .session
   pub taken : r .taken ≡ m .taken
-  pub text : Puts out at (m .text) (r .next) held
-  pub room : r .next ≤ at + lineRoom
+  pub text : lineText (r .line) (r .row) ≡ m .text
 
 -- ---- as many lines as there are, while there is room
 

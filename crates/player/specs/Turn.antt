@@ -1,6 +1,6 @@
 -- Document 01, "The player": what a command prints, and the state that follows it.
 -- Assumes nothing.
-use Prim.Native.Nat.{ℕ, _+_, _≤_}
+use Prim.Native.Nat.{ℕ}
 use mathlib.Core.Path.{_≡_}
 use mathlib.Core.List.{List}
 use Rattle.rack.specs.declared.State.{State}
@@ -10,15 +10,15 @@ use Rattle.rack.specs.Row.{rowByte}
 use Rattle.commands.specs.declared.command.Command.{Command}
 use Rattle.commands.specs.declared.command.Command.the-variants.{Slice, Release, Bad}
 use Rattle.player.specs.declared.turn.Turn.{Turn}
-use Rattle.lines.specs.Text.{Puts}
-use Rattle.lines.specs.Line.{releaseLine, sliceLine, badLine, lineRoom}
+use Rattle.lines.specs.Line.{releaseLine, sliceLine, badLine, lineText}
 pub mod Properties
 
 -- the bytes that a slice is lent for its row: as many as a plan can have cards
 abbrev pub rowRoom : ℕ
 rowRoom = 8
 
--- "A release prints ..; a slice prints `t CLOCK:` with the clock before it and the row's bytes ..; Any other three bytes .. print `bad command`"
+-- "A release prints ..; a slice prints `t CLOCK:` with the clock before it and the row's bytes ..; Any other three bytes .. print `bad
+-- command`"
 unfoldable pub lineOf : State → Command → List ℕ
 lineOf s Slice = sliceLine (sliceOf s rowRoom .answer) (s .clock) (s .plan .cards) (rowByte s)
 lineOf s (Release kind e) = releaseLine kind e (releaseOf s kind e .answer)
@@ -30,8 +30,7 @@ after s Slice = sliceOf s rowRoom .state
 after s (Release kind e) = releaseOf s kind e .state
 after s Bad = s
 
--- the line of a command behind what is in the buffer, and the state after it
-pub record Turns (s : State) (k : Command) (out : List ℕ) (at : ℕ) (r : Turn) (held : List ℕ) : Type 0 where
+-- the line of a command, with its row, and the state after it
+pub record Turns (s : State) (k : Command) (r : Turn) : Type 0 where
   pub state : r .state ≡ after s k
-  pub line : Puts out at (lineOf s k) (r .next) held
-  pub room : r .next ≤ at + lineRoom
+  pub line : lineText (r .line) (r .row) ≡ lineOf s k

@@ -1,13 +1,13 @@
 // A play, line by line: the plan's line, one for each command, and the last.
 ghost use mathlib.Core.Path.{_≡_};
-ghost use mathlib.Core.Bool.{not, _&&_, true, false};
-ghost use Prim.Native.Nat.{_+_, _≤_};
+ghost use mathlib.Core.Bool.{not, _&&_};
 ghost use lib.Dec.{eqb};
-ghost use lib.ListN.{length};
 ghost use Rattle.answer.specs.Answer.{number};
 ghost use Rattle.rack.specs.Start.{startOf};
-ghost use Rattle.player.specs.Session.{unopened, running, over, atStage, firstLine, openOf, commandMove, runOf, stepOf, Steps, Plays};
+ghost use Rattle.player.specs.Session.{unopened, running, over, isOver, stay, firstLine, refusedAt, openOf, commandMove, runOf};
+ghost use Rattle.player.specs.Session.{stepOf, Makes, Plays};
 use crate::turn;
+use crate::turn::Turn;
 use answer::Answer;
 use commands::Command;
 use lines::Line;
@@ -27,11 +27,13 @@ pub struct Session {
     pub state: State,
 }
 
-// What a line leaves: the session, the bytes that it took, and the index after it.
-pub struct Step {
-    pub session: Session,
-    pub taken: usize,
-    pub next: usize,
+// What the next line leaves: the session, the bytes that it took, and the line with the row that it
+// shows; no line where more input has to come first, or the play is over.
+struct Step {
+    session: Session,
+    taken: usize,
+    line: Line,
+    row: [u8; 8],
 }
 
 // What playing leaves: the session, the bytes taken, and the count of bytes printed.
@@ -45,32 +47,53 @@ pub struct Progress {
 fn waits(answer: Answer, last: bool) -> bool
     ensures { λ r. ⌜ r ≡ (not last && eqb (number answer) 1) ⌝ }
 {
-    if last {
-        return false;
+    !last && answer.number() == 1
+}
+
+// A step whose line shows no row.
+fn step_of(session: Session, taken: usize, line: Line) -> Step
+    ensures { λ r. ⌜ (r .session ≡ session) × (r .taken ≡ taken) × (r .line ≡ line) ⌝ }
+{
+    Step {
+        session,
+        taken,
+        line,
+        row: [0u8; 8],
     }
-    answer.number() == 1
+}
+
+// The line of a refused plan is the last.
+fn refused(answer: Answer) -> Step
+    ensures { λ r. ⌜ Makes (refusedAt answer) r ⌝ }
+{
+    step_of(Session::over(State::empty()), 0, Line::Plan(answer))
 }
 
 // The line of a plan that was read, and its fresh start.
-fn start(plan: Plan, taken: usize, out: &mut [u8], at: usize) -> Step
-    requires { ⌜ at + 128 ≤ length (now out) ⌝ }
-    ensures { λ r. ⌜ Steps (firstLine (startOf plan .answer) (startOf plan .state) taken) (now (out .entry)) at r (now (out .exit)) ⌝ }
+fn start(plan: Plan, taken: usize) -> Step
+    ensures { λ r. ⌜ Makes (firstLine (startOf plan .answer) (startOf plan .state) taken) r ⌝ }
 {
     let start = State::start(plan);
     let answer = start.answer;
     let state = start.state;
-    let next = Line::Plan(answer).put(&[0u8; 8], out, at);
     let Answer::Good = answer else {
-        return Step {
-            session: Session::over(State::empty()),
-            taken: 0,
-            next,
-        };
+        return refused(answer);
     };
+    step_of(Session::running(state), taken, Line::Plan(answer))
+}
+
+// A command's line.
+fn after_turn(turn: Turn) -> Step
+    ensures { λ r. ⌜ (r .session ≡ running (turn .state)) × (r .taken ≡ 3) × (r .line ≡ turn .line) × (r .row ≡ turn .row) ⌝ }
+{
+    let state = turn.state;
+    let line = turn.line;
+    let row = turn.row;
     Step {
         session: Session::running(state),
-        taken,
-        next,
+        taken: 3,
+        line,
+        row,
     }
 }
 
@@ -105,7 +128,7 @@ impl Session {
 
     // Whether the last line was printed.
     pub fn is_over(self) -> bool
-        ensures { λ r. ⌜ r ≡ atStage (self .stage) false false true ⌝ }
+        ensures { λ r. ⌜ r ≡ isOver self ⌝ }
     {
         let stage = self.stage;
         match stage {
@@ -115,109 +138,67 @@ impl Session {
         }
     }
 
+    // More input has to come first, or there is nothing more to print.
+    fn stay(self) -> Step
+        ensures { λ r. ⌜ Makes (stay self) r ⌝ }
+    {
+        step_of(self, 0, Line::Nothing)
+    }
+
     // The first line.
-    fn open(self, bytes: &[u8], last: bool, out: &mut [u8], at: usize) -> Step
-        requires { ⌜ at + 128 ≤ length (now out) ⌝ }
-        ensures { λ r. ⌜ Steps (openOf self last (now (bytes .entry))) (now (out .entry)) at r (now (out .exit)) ⌝ }
+    fn open(self, bytes: &[u8], last: bool) -> Step
+        ensures { λ r. ⌜ Makes (openOf self last (now (bytes .entry))) r ⌝ }
     {
         let reading = plan_reader::read(bytes);
         let answer = reading.answer;
         if waits(answer, last) {
-            return Step {
-                session: self,
-                taken: 0,
-                next: at,
-            };
+            return self.stay();
         }
         let Answer::Good = answer else {
-            let next = Line::Plan(answer).put(&[0u8; 8], out, at);
-            return Step {
-                session: Session::over(State::empty()),
-                taken: 0,
-                next,
-            };
+            return refused(answer);
         };
         let plan = reading.plan;
-        start(plan, reading.taken, out, at)
+        start(plan, reading.taken)
     }
 
     // A command's line.
-    fn obey(self, command: Command, out: &mut [u8], at: usize) -> Step
-        requires { ⌜ at + 128 ≤ length (now out) ⌝ }
-        ensures { λ r. ⌜ Steps (commandMove (self .state) command) (now (out .entry)) at r (now (out .exit)) ⌝ }
+    fn obey(self, command: Command) -> Step
+        ensures { λ r. ⌜ Makes (commandMove (self .state) command) r ⌝ }
     {
         let state = self.state;
         match command {
-            Command::Slice => {
-                let turn = turn::slice(state, out, at);
-                let after = turn.state;
-                Step {
-                    session: Session::running(after),
-                    taken: 3,
-                    next: turn.next,
-                }
-            }
-            Command::Release(kind, e) => {
-                let turn = turn::release(state, kind, e, out, at);
-                let after = turn.state;
-                Step {
-                    session: Session::running(after),
-                    taken: 3,
-                    next: turn.next,
-                }
-            }
-            Command::Bad => {
-                let next = Line::Bad(state.clock).put(&[0u8; 8], out, at);
-                Step {
-                    session: Session::over(state),
-                    taken: 0,
-                    next,
-                }
-            }
+            Command::Slice => after_turn(turn::slice(state)),
+            Command::Release(kind, e) => after_turn(turn::release(state, kind, e)),
+            Command::Bad => step_of(Session::over(state), 0, Line::Bad(state.clock)),
         }
     }
 
     // The line of the next command, or the last line.
-    fn run(self, bytes: &[u8], last: bool, out: &mut [u8], at: usize) -> Step
-        requires { ⌜ at + 128 ≤ length (now out) ⌝ }
-        ensures { λ r. ⌜ Steps (runOf self last (now (bytes .entry))) (now (out .entry)) at r (now (out .exit)) ⌝ }
+    fn run(self, bytes: &[u8], last: bool) -> Step
+        ensures { λ r. ⌜ Makes (runOf self last (now (bytes .entry))) r ⌝ }
     {
         if last {
             if bytes.len() == 0 {
                 let state = self.state;
-                let next = Line::End(state.clock).put(&[0u8; 8], out, at);
-                return Step {
-                    session: Session::over(state),
-                    taken: 0,
-                    next,
-                };
+                return step_of(Session::over(state), 0, Line::End(state.clock));
             }
-            return self.obey(Command::decode(bytes), out, at);
+            return self.obey(Command::decode(bytes));
         }
         if bytes.len() < 3 {
-            return Step {
-                session: self,
-                taken: 0,
-                next: at,
-            };
+            return self.stay();
         }
-        self.obey(Command::decode(bytes), out, at)
+        self.obey(Command::decode(bytes))
     }
 
     // The next line.
-    fn step(self, bytes: &[u8], last: bool, out: &mut [u8], at: usize) -> Step
-        requires { ⌜ at + 128 ≤ length (now out) ⌝ }
-        ensures { λ r. ⌜ Steps (stepOf self last (now (bytes .entry))) (now (out .entry)) at r (now (out .exit)) ⌝ }
+    fn step(self, bytes: &[u8], last: bool) -> Step
+        ensures { λ r. ⌜ Makes (stepOf self last (now (bytes .entry))) r ⌝ }
     {
         let stage = self.stage;
         match stage {
-            Stage::Opening => self.open(bytes, last, out, at),
-            Stage::Running => self.run(bytes, last, out, at),
-            Stage::Over => Step {
-                session: self,
-                taken: 0,
-                next: at,
-            },
+            Stage::Opening => self.open(bytes, last),
+            Stage::Running => self.run(bytes, last),
+            Stage::Over => self.stay(),
         }
     }
 
@@ -231,15 +212,18 @@ impl Session {
         let mut count = 0;
         let mut lines = out.len();
         while 0 < lines {
-            if out.len() - count < 128 {
+            if out.len() - count < Line::ROOM {
                 return Progress {
                     session,
                     taken,
                     count,
                 };
             }
-            let step = session.step(&bytes[taken..], last, out, count);
-            if step.next == count {
+            let step = session.step(&bytes[taken..], last);
+            let line = step.line;
+            let row = step.row;
+            let next = line.put(&row, out, count);
+            if next == count {
                 return Progress {
                     session,
                     taken,
@@ -248,7 +232,7 @@ impl Session {
             }
             session = step.session;
             taken += step.taken;
-            count = step.next;
+            count = next;
             lines -= 1;
         }
         Progress {

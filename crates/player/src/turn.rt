@@ -1,45 +1,42 @@
 // One command: its line, and the state that follows.
-ghost use Prim.Native.Nat.{_+_, _≤_};
-ghost use lib.ListN.{length};
 ghost use Rattle.player.specs.Turn.{Turns};
 use commands::Command;
 use lines::Line;
 use rack::State;
 
-// The state after a command, and the index after its line.
-pub struct Turn {
-    pub state: State,
-    pub next: usize,
+// The state after a command, and its line with the row that it shows.
+pub(crate) struct Turn {
+    pub(crate) state: State,
+    pub(crate) line: Line,
+    pub(crate) row: [u8; 8],
 }
 
-// Runs a slice and prints its row.
-pub fn slice(state: State, out: &mut [u8], at: usize) -> Turn
-    requires { ⌜ at + 128 ≤ length (now out) ⌝ }
-    ensures { λ r. ⌜ Turns state Command.Slice (now (out .entry)) at r (now (out .exit)) ⌝ }
+// Runs a slice: its line shows the row.
+pub(crate) fn slice(state: State) -> Turn
+    ensures { λ r. ⌜ Turns state Command.Slice r ⌝ }
 {
     let mut row = [0u8; 8];
     let run = state.slice(&mut row);
     let answer = run.answer;
     let after = run.state;
     let plan = state.plan;
-    let line = Line::Slice(answer, state.clock, plan.cards);
     Turn {
         state: after,
-        next: line.put(&row, out, at),
+        line: Line::Slice(answer, state.clock, plan.cards),
+        row,
     }
 }
 
-// Releases a unit and prints the answer.
-pub fn release(state: State, kind: u8, e: u16, out: &mut [u8], at: usize) -> Turn
-    requires { ⌜ at + 128 ≤ length (now out) ⌝ }
-    ensures { λ r. ⌜ Turns state (Command.Release kind e) (now (out .entry)) at r (now (out .exit)) ⌝ }
+// Releases a unit: its line has the answer.
+pub(crate) fn release(state: State, kind: u8, e: u16) -> Turn
+    ensures { λ r. ⌜ Turns state (Command.Release kind e) r ⌝ }
 {
     let run = state.release(kind as usize, e as u32);
     let answer = run.answer;
     let after = run.state;
-    let line = Line::Release(kind, e, answer);
     Turn {
         state: after,
-        next: line.put(&[0u8; 8], out, at),
+        line: Line::Release(kind, e, answer),
+        row: [0u8; 8],
     }
 }

@@ -2,10 +2,13 @@
 -- Assumes nothing.
 pub mod State
 pub mod Form
+pub mod View
 pub mod Rank
 pub mod Row
 pub mod Release
+pub mod Advance
 pub mod Slice
 pub mod Start
+pub mod Alike
 pub mod OneOutcome
 pub mod Seat

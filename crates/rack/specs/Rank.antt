@@ -1,13 +1,16 @@
--- Document 01, "Running": who has work, who outranks whom, and who is served. Times are differences of clocks, but for the key that 01 names.
+-- Document 01, "Running": who has work, who outranks whom, and who is served. Times are differences of clocks, but for the key that
+-- 01 names.
 -- Assumes nothing.
-use Prim.Native.Nat.{ℕ, _+_, _-_}
+use Prim.Native.Nat.{ℕ, _+_, _-_, _%_}
 use mathlib.Core.Bool.{Bool, not, _&&_}
 use lib.Dec.{eqb}
 use Rattle.laws.specs.Count.{countTo}
-use Rattle.laws.specs.Ranking.{rankIn, firstIn, sooner}
-use Rattle.layout.specs.Layout.{held}
+use Rattle.laws.specs.Ranking.{sooner}
+use Rattle.plan.specs.Order.{budgetOf}
+use Rattle.layout.specs.Layout.{firstCell}
 use Rattle.rack.specs.declared.State.{State}
-use Rattle.rack.specs.State.{unitOf, kindAt}
+use Rattle.rack.specs.State.{unitOf, kindAt, kindPlaces}
+use Rattle.rack.specs.View.{View, rankOf, chosen}
 pub mod Properties
 
 -- slices since kind i's last release
@@ -32,16 +35,32 @@ active s j i = eqb (kindAt s i .project) j && working s i
 
 -- how many kinds of project j have slices left
 unfoldable pub activeKinds : State → ℕ → ℕ
-activeKinds s j = countTo (s .plan .kinds) (active s j)
+activeKinds s j = countTo (kindPlaces s) (active s j)
 
 -- "ranked by release clock plus D, then by lower kind number": kind k goes before kind i
 unfoldable pub outranks : State → ℕ → ℕ → Bool
 outranks s k i = sooner (due s) k i
 
+-- project j's view
+unfoldable pub viewOf : State → ℕ → View
+viewOf s j = record {
+  places = kindPlaces s;
+  active = active s j;
+  above = outranks s;
+  first = firstCell (s .plan) j;
+  budget = budgetOf (s .plan) j;
+  frame = s .plan .frame;
+  slice = s .clock % s .plan .frame;
+}
+
+-- that of kind i's project
+abbrev pub ownView : State → ℕ → View
+ownView s i = viewOf s (kindAt s i .project)
+
 -- how many kinds of kind i's project with slices left outrank it
 unfoldable pub rank : State → ℕ → ℕ
-rank s i = rankIn (s .plan .kinds) (active s (kindAt s i .project)) (outranks s) i
+rank s i = rankOf (ownView s i) i
 
 -- "the first h of them": kind i has slices left, and its rank is below the cards that its project holds
 unfoldable pub served : State → ℕ → Bool
-served s i = firstIn (s .plan .kinds) (active s (kindAt s i .project)) (outranks s) (held (s .plan) (kindAt s i .project) (s .clock)) i
+served s i = chosen (ownView s i) i

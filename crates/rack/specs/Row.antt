@@ -1,38 +1,44 @@
--- Document 01, "Running": the row that a state shows.
+-- Document 01, "Running": the row that a state shows, put together from the projects' views.
 -- Assumes nothing.
-use Prim.Native.Nat.{ℕ, _%_, pred}
+use Prim.Native.Nat.{ℕ, zero, suc, _%_, pred}
 use mathlib.Core.Bool.{Bool, not, _&&_}
-use mathlib.Core.List.{List}
+use mathlib.Core.List.{List, _++_}
 use lib.Dec.{eqb}
+use lib.ListN.{drop, replicate}
 use Rattle.laws.specs.Count.{countTo}
-use Rattle.laws.specs.First.{firstTo}
 use Rattle.laws.specs.Written.{written}
 use Rattle.plan.specs.declared.Plan.{Plan}
-use Rattle.layout.specs.Layout.{cellAt, owns}
+use Rattle.layout.specs.Layout.{cellAt, owns, slotOf}
 use Rattle.rack.specs.declared.State.{State}
 use Rattle.rack.specs.State.{kindAt}
-use Rattle.rack.specs.Rank.{working, rank}
+use Rattle.rack.specs.View.{takesCard, byteOn}
+use Rattle.rack.specs.Rank.{viewOf, ownView}
 pub mod Properties
 
 -- whether project j holds a card at slice s, "taken modulo F"
 unfoldable pub holds : Plan → ℕ → ℕ → ℕ → Bool
 holds p j s card = owns p j (cellAt (p .frame) card (s % p .frame))
 
--- how many lower cards the project holds then
-unfoldable pub cardsBefore : Plan → ℕ → ℕ → ℕ → ℕ
-cardsBefore p j s card = countTo card (holds p j s)
+-- ".. take that project's cards in ascending card order": kind i takes the card
+abbrev pub takes : State → ℕ → ℕ → Bool
+takes s i card = takesCard (ownView s i) i card
 
--- ".. take that project's cards in ascending card order": kind i has slices left, and the card is its project's, with as many lower ones as kinds outrank it
-unfoldable pub takes : State → ℕ → ℕ → Bool
-takes s i card = working s i && (holds (s .plan) (kindAt s i .project) (s .clock) card && eqb (rank s i) (cardsBefore (s .plan) (kindAt s i .project) (s .clock) card))
+-- what a slot's project says of a card, and 0 of a free one
+unfoldable pub byteBy : State → ℕ → ℕ → ℕ
+byteBy s zero card = 0
+byteBy s (suc j) card = byteOn (viewOf s j) card
 
--- "kind number plus 1, or 0"
+-- "kind number plus 1, or 0": as the project says that holds the card, "nobody else gets it"
 unfoldable pub rowByte : State → ℕ → ℕ
-rowByte s card = firstTo (s .plan .kinds) (λ number. takes s (pred number) card)
+rowByte s card = byteBy s (slotOf (s .plan) (cellAt (s .plan .frame) card (s .clock % s .plan .frame))) card
 
--- "The row written has m bytes", and what stands past them is kept
+-- "The row written has m bytes"
+unfoldable pub rowOf : State → List ℕ
+rowOf s = written (s .plan .cards) (rowByte s) (replicate (s .plan .cards) 0)
+
+-- a lent row with it written: "bytes past those needed keep their value"
 unfoldable pub rowOver : State → List ℕ → List ℕ
-rowOver s bytes = written (s .plan .cards) (rowByte s) bytes
+rowOver s bytes = rowOf s ++ drop (s .plan .cards) bytes
 
 -- ---- what the promises about a row speak of
 

@@ -1,5 +1,6 @@
 -- How a slice finds its row: for each kind the card that it takes, plus 1, or 0 where it is not served. Row.antt says what the row is.
 -- Assumes nothing.
+use mathlib.Core.Path.{_≡_}
 use Prim.Native.Nat.{ℕ, zero, suc, _+_, _-_, _%_}
 use mathlib.Core.Bool.{cond}
 use mathlib.Core.List.{List}
@@ -8,29 +9,27 @@ use lib.ListN.{set, replicate}
 use Rattle.laws.specs.Written.{written}
 use Rattle.plan.specs.declared.Plan.{Plan}
 use Rattle.plan.specs.declared.Kind.{Kind}
+use Rattle.plan.specs.Order.{budgetOf}
 use Rattle.layout.specs.Cards.{cardsBelow}
 use Rattle.layout.specs.Layout.{firstCell}
 use Rattle.unit.specs.declared.Unit.{Unit}
 use Rattle.rack.specs.declared.State.{State}
-use Rattle.rack.specs.State.{unitOf, kindAt}
-use Rattle.rack.specs.Rank.{rank, served}
+use Rattle.rack.specs.State.{unitOf, kindAt, kindPlaces}
+use Rattle.rack.specs.View.{lowestCard}
+use Rattle.rack.specs.Rank.{ownView, rank, served}
 pub mod Properties
 
--- ---- of a state
-
--- the card from which project j's cards at slice s go on
-unfoldable pub lowest : Plan → ℕ → ℕ → ℕ
-lowest p s j = cardsBelow (p .frame) (firstCell p j) (s % p .frame)
+-- ---- the seats
 
 -- the card that kind i takes, plus 1, or 0
 unfoldable pub seatOf : State → ℕ → ℕ
-seatOf s i = cond (served s i) (lowest (s .plan) (s .clock) (kindAt s i .project) + rank s i + 1) 0
+seatOf s i = cond (served s i) (lowestCard (ownView s i) + rank s i + 1) 0
 
 -- each kind's
 unfoldable pub seatsOf : State → List ℕ
-seatsOf s = written (s .plan .kinds) (seatOf s) (replicate 16 0)
+seatsOf s = written (kindPlaces s) (seatOf s) (replicate 16 0)
 
--- ---- what the seats are found from
+-- ---- what they are found from
 
 -- of a kind with slices left, its project plus 1; else 0
 unfoldable pub worksFor : Unit → Kind → ℕ
@@ -39,6 +38,19 @@ worksFor v k = cond (eqb (v .left) 0) 0 (k .project + 1)
 -- kind i's
 abbrev pub worksOf : State → ℕ → ℕ
 worksOf s i = worksFor (unitOf s i) (kindAt s i)
+
+-- project j's lowest card at a clock
+unfoldable pub lowestAt : Plan → ℕ → ℕ → ℕ
+lowestAt p clock j = cardsBelow (p .frame) (firstCell p j) (clock % p .frame)
+
+-- the card after its last
+unfoldable pub endAt : Plan → ℕ → ℕ → ℕ
+endAt p clock j = cardsBelow (p .frame) (firstCell p j + budgetOf p j) (clock % p .frame)
+
+-- each project's
+pub record ProjectCards (p : Plan) (clock : ℕ) (low end : List ℕ) : Type 0 where
+  pub lowest : low ≡ written (p .projects) (lowestAt p clock) (replicate 8 0)
+  pub past : end ≡ written (p .projects) (endAt p clock) (replicate 8 0)
 
 -- ---- the row from the seats
 

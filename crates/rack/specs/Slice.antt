@@ -1,45 +1,27 @@
--- Document 01, "Slice", and the refusals 9 and 11: the row that a state shows, and the state that follows.
+-- Document 01, "Slice", and the refusal 9: the row that a state shows goes into a lent row, and the state that follows is handed back.
 -- Assumes nothing.
-use mathlib.Core.Path.{_≡_}
-use Prim.Native.Nat.{ℕ, _+_, _-_, _≤_, _<_}
-use mathlib.Core.Bool.{cond}
+use Prim.Native.Nat.{ℕ, _≤_}
 use mathlib.Core.List.{List}
-use lib.Dec.{ltb, eqb}
+use lib.Dec.{ltb}
 use lib.ListN.{length}
-use Rattle.laws.specs.Written.{written}
 use Rattle.answer.specs.declared.Answer.{Answer}
-use Rattle.answer.specs.declared.Refusal.the-variants.{Bare}
-use Rattle.answer.specs.Answer.{refuse, _andThen_, ifGood}
-use Rattle.unit.specs.declared.Unit.{Unit}
+use Rattle.answer.specs.Answer.{bare, refuse, _andThen_, ifGood}
+use Rattle.answer.specs.Outcome.{Leaves}
 use Rattle.rack.specs.declared.State.{State}
 use Rattle.rack.specs.declared.Next.{Next}
-use Rattle.rack.specs.State.{unitOf, nextOf}
-use Rattle.rack.specs.Form.{Ready, ready}
-use Rattle.rack.specs.Rank.{served}
+use Rattle.rack.specs.State.{nextOf}
+use Rattle.rack.specs.Form.{ready}
 use Rattle.rack.specs.Row.{rowOver}
+use Rattle.rack.specs.Advance.{Advanceable, advanced, timeLeft}
 pub mod Properties
 
--- ---- the state that follows
+-- "9: buffer shorter than needed", for a lent row of that many bytes
+unfoldable pub roomFor : State → ℕ → Answer
+roomFor s room = refuse (ltb room (s .plan .cards)) (bare 9)
 
--- "Each chosen kind's left falls by one"
-unfoldable pub unitAfter : State → ℕ → Unit
-unitAfter s i = record { released = unitOf s i .released; at = unitOf s i .at; left = unitOf s i .left - cond (served s i) 1 0 }
-
--- ".. the clock rises by one"
-unfoldable pub advanced : State → State
-advanced s = record { plan = s .plan; clock = s .clock + 1; unit = written (s .plan .kinds) (unitAfter s) (s .unit) }
-
--- ---- the answer
-
--- "9: buffer shorter than needed", "11: clock is 1,000,000,000"
-unfoldable pub roomAndTime : State → ℕ → Answer
-roomAndTime s room = refuse (ltb room (s .plan .cards)) (Bare 9) andThen refuse (eqb (s .clock) 1000000000) (Bare 11)
-
--- "Slice: the record order, 10, 9, 11", with a buffer of that many bytes
+-- "Slice: the record order, 10, 9, 11"
 unfoldable pub sliceAnswer : State → ℕ → Answer
-sliceAnswer s room = ready s andThen roomAndTime s room
-
--- ---- both
+sliceAnswer s room = ready s andThen (roomFor s room andThen timeLeft s)
 
 -- what a slice answers and hands back
 unfoldable pub sliceOf : State → ℕ → Next
@@ -49,15 +31,13 @@ sliceOf s room = nextOf (sliceAnswer s room) (advanced s) s
 unfoldable pub bufferAfter : State → List ℕ → List ℕ
 bufferAfter s bytes = ifGood (sliceAnswer s (length bytes)) (rowOver s bytes) bytes
 
--- a slice's whole outcome: what it hands back, and the buffer as it leaves it
-pub record Sliced (s : State) (bytes : List ℕ) (next : Next) (after : List ℕ) : Type 0 where
-  pub result : next ≡ sliceOf s (length bytes)
-  pub buffer : after ≡ bufferAfter s bytes
+-- a slice's whole outcome: what it hands back, and the lent row as it leaves it
+abbrev pub Sliced : State → List ℕ → Next → List ℕ → Type 0
+Sliced s bytes next after = Leaves (sliceOf s (length bytes)) (bufferAfter s bytes) next after
 
 -- ---- what a good answer says
 
--- none of the record order, 10, 9 and 11
+-- none of the record order, 10, 9 and 11: what advancing needs, and the room of a row
 pub record Sliceable (s : State) (room : ℕ) : Type 0 where
-  pub ready : Ready s
+  pub advance : Advanceable s
   pub enough : s .plan .cards ≤ room
-  pub time : s .clock < 1000000000

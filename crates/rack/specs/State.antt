@@ -1,6 +1,8 @@
 -- Document 01, "Running": the state and its places, and what a call that may be refused hands back.
 -- Assumes nothing.
-use Prim.Native.Nat.{ℕ}
+use Prim.Native.Nat.{ℕ, _<_}
+use mathlib.Core.Bool.{Bool}
+use lib.Dec.{ltb}
 use lib.ListN.{getD, replicate}
 use Rattle.plan.specs.declared.Plan.{Plan}
 use Rattle.plan.specs.declared.Kind.{Kind}
@@ -13,6 +15,10 @@ use Rattle.unit.specs.Unit.{noUnit}
 use Rattle.rack.specs.declared.State.{State}
 use Rattle.rack.specs.declared.Next.{Next}
 pub mod Properties
+
+-- "a clock (0..1,000,000,000)": where it ends
+abbrev pub lastClock : ℕ
+lastClock = 1000000000
 
 -- the plan at clock 0, with no kind ever released
 abbrev pub freshOf : Plan → State
@@ -29,6 +35,30 @@ unitOf s i = getD (s .unit) i noUnit
 -- kind i of the state's plan
 abbrev pub kindAt : State → ℕ → Kind
 kindAt s i = kindOf (s .plan) i
+
+-- ---- which places are in use
+
+-- how many places of kinds are looked through
+abbrev pub kindPlaces : State → ℕ
+kindPlaces s = s .plan .kinds
+
+-- place i is a kind's: "places beyond .. n hold zeros"
+abbrev pub InUse : State → ℕ → Type 0
+InUse s i = i < s .plan .kinds
+
+-- the same, as a test
+abbrev pub used : State → ℕ → Bool
+used s i = ltb i (s .plan .kinds)
+
+-- how many places of projects are looked through
+abbrev pub projectPlaces : State → ℕ
+projectPlaces s = s .plan .projects
+
+-- place j is a project's: "places beyond p .. hold zeros"
+abbrev pub ProjectInUse : State → ℕ → Type 0
+ProjectInUse s j = j < s .plan .projects
+
+-- ---- what a call hands back
 
 -- "a refused slice or release gives back the state handed in"
 abbrev pub nextOf : Answer → State → State → Next

@@ -3,7 +3,7 @@ ghost use mathlib.Core.Path.{_≡_};
 ghost use Rattle.rack.specs.Form.{inForm, ready};
 use crate::State;
 use answer::Answer;
-use answer::Refusal;
+use plan::Plan;
 
 impl State {
     fn in_form(self) -> bool
@@ -13,10 +13,9 @@ impl State {
             return false;
         }
         let plan = self.plan;
-        let used = plan.kinds as usize;
-        for i in 0..16 {
+        for i in 0..Plan::KINDS {
             if !self.unit[i]
-                .fits_place(i < used, self.clock, plan.kind[i].length) {
+                .fits_place(self.in_use(i), self.clock, plan.kind[i].length) {
                 return false;
             }
         }
@@ -33,7 +32,7 @@ impl State {
             return checked;
         };
         if !self.in_form() {
-            return Answer::No(Refusal::Bare(10));
+            return Answer::bare(10);
         }
         Answer::Good
     }

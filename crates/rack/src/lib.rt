@@ -3,12 +3,14 @@
 // Document 01, "Running", and the refusals 8 to 15 of "Numbers given back when we say no". A state
 // goes in by value and the next one is handed back. Every record is answered, whatever its fields
 // hold.
+mod advance;
 mod form;
 mod release;
+mod row;
 mod slice;
 
 ghost use mathlib.Core.Path.{_≡_};
-ghost use Rattle.rack.specs.State.{freshOf, noState};
+ghost use Rattle.rack.specs.State.{freshOf, noState, kindPlaces, used};
 ghost use Rattle.rack.specs.Start.{startOf};
 use answer::Answer;
 use plan::Plan;
@@ -20,7 +22,7 @@ use verdict::judge;
 pub struct State {
     pub plan: Plan,
     pub clock: u32,
-    pub unit: [Unit; 16],
+    pub unit: [Unit; Plan::KINDS],
 }
 
 // What a call answers, and the state that it hands back.
@@ -33,6 +35,20 @@ impl State {
     // Where the clock ends.
     pub const LAST: u32 = 1000000000;
 
+    // How many places of kinds are looked through.
+    pub(crate) fn places(self) -> usize
+        ensures { λ r. ⌜ r ≡ kindPlaces self ⌝ }
+    {
+        self.plan.kinds as usize
+    }
+
+    // Whether a place is a kind's.
+    pub(crate) fn in_use(self, place: usize) -> bool
+        ensures { λ r. ⌜ r ≡ used self place ⌝ }
+    {
+        place < self.plan.kinds as usize
+    }
+
     // The plan at clock 0, with no kind ever released.
     pub(crate) fn fresh(plan: Plan) -> Self
         ensures { λ r. ⌜ r ≡ freshOf plan ⌝ }
@@ -40,7 +56,7 @@ impl State {
         State {
             plan,
             clock: 0,
-            unit: [Unit::empty(); 16],
+            unit: [Unit::empty(); Plan::KINDS],
         }
     }
 

@@ -4,7 +4,6 @@ ghost use Rattle.rack.specs.Release.{releaseAnswer, releaseOf};
 use crate::Next;
 use crate::State;
 use answer::Answer;
-use answer::Refusal;
 use unit::Unit;
 
 impl State {
@@ -16,10 +15,10 @@ impl State {
         let Answer::Good = checked else {
             return checked;
         };
-        let plan = self.plan;
-        if plan.kinds as usize <= kind {
-            return Answer::No(Refusal::Bare(12));
+        if !self.in_use(kind) {
+            return Answer::bare(12);
         }
+        let plan = self.plan;
         let unit = self.unit[kind];
         unit.may_start(plan.kind[kind], self.clock - unit.at, length)
     }

@@ -1,10 +1,12 @@
 -- Each public operation's contract admits one outcome.
 -- Assumes nothing.
-use mathlib.Core.Path.{_≡_, sym, _∙_}
+use mathlib.Core.Path.{_≡_}
 use mathlib.Core.List.{List}
 use Prim.Native.Nat.{ℕ}
+use Rattle.answer.specs.Outcome.{One}
+use Rattle.answer.specs.Outcome.Properties.{is-one}
 use Rattle.seats.specs.Seats.{seatsBy}
 
 -- `seats`
-pub seats-one-outcome : (works due low : List ℕ) (kinds : ℕ) (a b : List ℕ) → a ≡ seatsBy works due low kinds → b ≡ seatsBy works due low kinds → a ≡ b
-seats-one-outcome works due low kinds a b p q = p ∙ sym q
+pub seats-one-outcome : (works due low end : List ℕ) (kinds : ℕ) → One (λ r. r ≡ seatsBy works due low end kinds)
+seats-one-outcome works due low end kinds = is-one _

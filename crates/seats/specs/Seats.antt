@@ -1,4 +1,5 @@
--- Document 01, "Running": where each kind sits, from arrays that say for each kind its project plus 1, or 0 where nothing is left, and its due clock; and for each project the card from which its own go on.
+-- Document 01, "Running": where each kind sits, from arrays that say for each kind its project plus 1, or 0 where nothing is left, and
+-- its due clock; and for each project its lowest card and the card after its last.
 -- Assumes nothing.
 use Prim.Native.Nat.{ℕ, _+_, _-_}
 use mathlib.Core.Bool.{Bool, cond, _&&_}
@@ -26,9 +27,11 @@ unfoldable pub seatAt : ℕ → ℕ → ℕ
 seatAt card end = cond (ltb card end) (card + 1) 0
 
 -- where kind i sits: its project's card of its rank, or nowhere; there are eight projects at most
-unfoldable pub seatBy : List ℕ → List ℕ → List ℕ → ℕ → ℕ → ℕ
-seatBy works due low n i = cond (eqb (at works i) 0) 0 (cond (ltb 8 (at works i)) 0 (seatAt (at low (at works i - 1) + rankBy works due n i) (at low (at works i))))
+unfoldable pub seatBy : List ℕ → List ℕ → List ℕ → List ℕ → ℕ → ℕ → ℕ
+seatBy works due low end n i =
+    let project = at works i - 1 in
+    cond (eqb (at works i) 0) 0 (cond (ltb 8 (at works i)) 0 (seatAt (at low project + rankBy works due n i) (at end project)))
 
 -- where each of n kinds sits; there are sixteen at most
-unfoldable pub seatsBy : List ℕ → List ℕ → List ℕ → ℕ → List ℕ
-seatsBy works due low n = cond (ltb 16 n) (replicate 16 0) (written n (seatBy works due low n) (replicate 16 0))
+unfoldable pub seatsBy : List ℕ → List ℕ → List ℕ → List ℕ → ℕ → List ℕ
+seatsBy works due low end n = cond (ltb 16 n) (replicate 16 0) (written n (seatBy works due low end n) (replicate 16 0))

@@ -41,7 +41,11 @@ unfoldable pub fitOf : ℕ → List ℕ → ℕ → ℕ → ℕ → ℕ → Fit
 fitOf frame held ceiling length workload deadline =
     cond (noFrame frame)
     (record { width = 0; excess = 0 })
-    (record { width = leastWidth frame (heldAt frame held) length workload deadline ceiling; excess = leastExcess frame (heldAt frame held) length workload deadline ceiling })
+    (record {
+      width = leastWidth frame (heldAt frame held) length workload deadline ceiling;
+      excess = leastExcess frame (heldAt frame held)
+          length workload deadline ceiling;
+    })
 
 -- ---- the steps of the search
 

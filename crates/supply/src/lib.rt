@@ -14,6 +14,11 @@ pub struct Fit {
     pub excess: u64,
 }
 
+impl Fit {
+    // The most slices of a frame.
+    pub const FRAME: u8 = 64;
+}
+
 fn lesser(a: usize, b: usize) -> usize
     ensures { λ r. ⌜ r ≡ min a b ⌝ }
 {
@@ -101,7 +106,7 @@ pub fn least_fit(
             excess: 0,
         };
     }
-    if 64 < frame {
+    if Fit::FRAME < frame {
         return Fit {
             width: 0,
             excess: 0,

@@ -1,5 +1,6 @@
 // Runs document 01's table P1 to P11 and prints what comes out; the gate compares. The same table
 // is one proved claim, specs/Table.antt.
+ghost use Prim.Native.Nat.{_≤_};
 use answer::Answer;
 use plan::Kind;
 use plan::Plan;
@@ -105,13 +106,21 @@ fn supply(held: [u8; 64], k: u8, length: u16) {
     }
 }
 
-// The cards that plan A's projects hold at each of the four slices.
-fn held(first: u8, second: u8, third: u8, fourth: u8) -> [u8; 64] {
+// 1 where a slot holds that project's number plus 1, and else 0.
+fn owned(slot: u8, number: u8) -> u8
+    ensures { λ r. ⌜ r ≤ 1 ⌝ }
+{
+    if slot == number { 1 } else { 0 }
+}
+
+// The cards that a project holds at each of the four slices: those whose slot is the project's, card
+// 0's slots before card 1's.
+fn held(slots: [u8; 8], number: u8) -> [u8; 64] {
     let mut cards = [0u8; 64];
-    cards[0] = first;
-    cards[1] = second;
-    cards[2] = third;
-    cards[3] = fourth;
+    cards[0] = owned(slots[0], number) + owned(slots[4], number);
+    cards[1] = owned(slots[1], number) + owned(slots[5], number);
+    cards[2] = owned(slots[2], number) + owned(slots[6], number);
+    cards[3] = owned(slots[3], number) + owned(slots[7], number);
     cards
 }
 
@@ -132,15 +141,8 @@ fn bytes_of_a() {
     print_bytes(&out);
 }
 
-fn slots_of_a() {
-    let mut out = [0u8; 8];
-    layout::slot_table(like_a(3, 5, kind(0, 8, 8, 6)), &mut out);
-    io::write_all(1, b"P2");
-    print_decimals(&out);
-}
-
-fn supplies_of_a() {
-    let one = held(1, 1, 1, 0);
+fn supplies_of_a(slots: [u8; 8]) {
+    let one = held(slots, 1);
     io::write_all(1, b"P3");
     supply(one, 1, 0);
     supply(one, 1, 1);
@@ -148,7 +150,7 @@ fn supplies_of_a() {
     supply(one, 1, 4);
     supply(one, 1, 8);
     end_line();
-    let two = held(1, 1, 1, 2);
+    let two = held(slots, 2);
     io::write_all(1, b"P4");
     supply(two, 1, 4);
     supply(two, 2, 4);
@@ -157,10 +159,24 @@ fn supplies_of_a() {
     end_line();
 }
 
+// The slot table's answer, count and bytes, and the supplies of the cards that it gives each project.
+fn layout_of_a() {
+    let mut slots = [0u8; 8];
+    let written = layout::slot_table(like_a(3, 5, kind(0, 8, 8, 6)), &mut slots);
+    let answer = written.answer;
+    io::write_all(1, b"P2 answer");
+    print_answer(answer);
+    io::write_all(1, b" count");
+    space(written.count as u64);
+    end_line();
+    io::write_all(1, b"P2 table");
+    print_decimals(&slots);
+    supplies_of_a(slots);
+}
+
 fn main() {
     bytes_of_a();
-    slots_of_a();
-    supplies_of_a();
+    layout_of_a();
     verdict(b"P5", like_a(3, 5, kind(0, 8, 8, 6)));
     verdict(b"P6", like_a(3, 5, kind(0, 8, 8, 7)));
     verdict(b"P7", like_a(3, 5, kind(0, 4, 3, 2)));

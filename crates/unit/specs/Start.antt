@@ -5,8 +5,7 @@ use mathlib.Core.Path.{_≡_}
 use mathlib.Core.Bool.{Bool, true, not, _&&_}
 use lib.Dec.{ltb, eqb}
 use Rattle.answer.specs.declared.Answer.{Answer}
-use Rattle.answer.specs.declared.Refusal.the-variants.{Bare}
-use Rattle.answer.specs.Answer.{refuse, _andThen_}
+use Rattle.answer.specs.Answer.{bare, refuse, _andThen_}
 use Rattle.plan.specs.declared.Kind.{Kind}
 use Rattle.plan.specs.Order.{within}
 use Rattle.unit.specs.declared.Unit.{Unit}
@@ -18,7 +17,9 @@ early separation v ago = v .released && ltb ago separation
 
 -- "13: e is 0 or above C", "14", "15: slices of an earlier unit are left"
 unfoldable pub startable : Kind → Unit → ℕ → ℕ → Answer
-startable k v ago e = refuse (not (within (k .length) e)) (Bare 13) andThen (refuse (early (k .separation) v ago) (Bare 14) andThen refuse (not (eqb (v .left) 0)) (Bare 15))
+startable k v ago e =
+    refuse (not (within (k .length) e)) (bare 13) andThen
+    (refuse (early (k .separation) v ago) (bare 14) andThen refuse (not (eqb (v .left) 0)) (bare 15))
 
 -- ---- what a good answer says
 

@@ -7,19 +7,13 @@ impl Unit {
     fn is_untouched(self) -> bool
         ensures { λ r. ⌜ r ≡ untouched self ⌝ }
     {
-        if self.at != 0 {
-            return false;
-        }
-        self.left == 0
+        self.at == 0 && self.left == 0
     }
 
     fn is_underway(self, clock: u32, length: u16) -> bool
         ensures { λ r. ⌜ r ≡ underway clock length self ⌝ }
     {
-        if clock < self.at {
-            return false;
-        }
-        self.left <= length
+        self.at <= clock && self.left <= length
     }
 
     fn in_form(self, clock: u32, length: u16) -> bool
@@ -34,10 +28,7 @@ impl Unit {
     fn is_empty(self) -> bool
         ensures { λ r. ⌜ r ≡ emptyUnit self ⌝ }
     {
-        if self.released {
-            return false;
-        }
-        self.is_untouched()
+        !self.released && self.is_untouched()
     }
 
     // Whether it may stand at its place: in form where the plan has that kind, zeros where not.

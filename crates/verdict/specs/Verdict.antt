@@ -7,8 +7,7 @@ use lib.ListN.{replicate}
 use Rattle.laws.specs.Written.{written}
 use Rattle.plan.specs.declared.Plan.{Plan}
 use Rattle.answer.specs.declared.Answer.{Answer}
-use Rattle.answer.specs.declared.Refusal.the-variants.{ByKind}
-use Rattle.answer.specs.Answer.{refuse, _andThen_, eachTo, ifGood}
+use Rattle.answer.specs.Answer.{notAdmitted, refuse, _andThen_, eachTo, ifGood}
 use Rattle.plan.specs.Order.{projectOf, kindOf, checked}
 use Rattle.layout.specs.Layout.{held}
 use Rattle.supply.specs.Supply.{supply}
@@ -42,7 +41,7 @@ excessOf p i = leastExcess (p .frame) (heldOn p i) (kindOf p i .length) (workloa
 
 -- "If a kind has none, the plan is not admitted": 8 for a kind with no k, with its excess
 unfoldable pub fitted : Plan → ℕ → Answer
-fitted p i = refuse (eqb (widthOf p i) 0) (ByKind 8 i (excessOf p i))
+fitted p i = refuse (eqb (widthOf p i) 0) (notAdmitted i (excessOf p i))
 
 -- "8: not admitted", at the "first kind with no k"
 unfoldable pub admitted : Plan → Answer

@@ -3,14 +3,12 @@
 ghost use mathlib.Core.Path.{_≡_};
 ghost use Prim.Native.Nat.{_+_, _*_, _≤_, _<_};
 ghost use lib.Dec.{eqb};
-ghost use Rattle.answer.specs.declared.Refusal.the-variants.{ByKind};
-ghost use Rattle.answer.specs.Answer.{refuse};
+ghost use Rattle.answer.specs.Answer.{notAdmitted, refuse};
 ghost use Rattle.plan.specs.Order.{kindOf, InOrder};
 ghost use Rattle.verdict.specs.Workload.{workload};
 ghost use Rattle.verdict.specs.Verdict.{admitted, verdictOf, judged};
 ghost use Rattle.verdict.specs.Steps.{runCards, projectCards, allCards, fitOn};
 use answer::Answer;
-use answer::Refusal;
 use plan::Plan;
 use supply::Fit;
 
@@ -18,16 +16,16 @@ use supply::Fit;
 // slice, hence a width. Places beyond the kinds hold 0, and on a refusal every place does.
 pub struct Verdict {
     pub answer: Answer,
-    pub width: [u8; 16],
+    pub width: [u8; Plan::KINDS],
 }
 
 // The cards that a run of cells holds at each slice of the frame.
-fn run_cards(first: u16, budget: u16, frame: u8) -> [u8; 64]
+fn run_cards(first: u16, budget: u16, frame: u8) -> [u8; Plan::FRAME]
     requires { ⌜ (0 < frame) × (frame ≤ 64) × (first ≤ 512) × (budget ≤ 8 * frame) ⌝ }
     ensures { λ r. ⌜ r ≡ runCards first budget frame ⌝ }
 {
     let end = first + budget;
-    let mut cards = [0u8; 64];
+    let mut cards = [0u8; Plan::FRAME];
     for s in 0..frame {
         let below = layout::cards_below(first, frame, s);
         cards[s as usize] = (layout::cards_below(end, frame, s) - below) as u8;
@@ -36,11 +34,11 @@ fn run_cards(first: u16, budget: u16, frame: u8) -> [u8; 64]
 }
 
 // The cards that each project holds at each slice of the frame.
-fn all_cards(plan: Plan) -> [[u8; 64]; 8]
+fn all_cards(plan: Plan) -> [[u8; Plan::FRAME]; Plan::PROJECTS]
     requires { ⌜ InOrder plan ⌝ }
     ensures { λ r. ⌜ r ≡ allCards plan ⌝ }
 {
-    let mut cards = [[0u8; 64]; 8];
+    let mut cards = [[0u8; Plan::FRAME]; Plan::PROJECTS];
     let mut first: u16 = 0;
     for j in 0..plan.projects {
         let budget = plan.project[j as usize].budget;
@@ -71,7 +69,7 @@ fn workload(plan: Plan, i: u8) -> u32
 }
 
 // The k and the excess of a kind, from the cards that its project holds.
-fn fit_on(plan: Plan, cards: [u8; 64], i: u8) -> Fit
+fn fit_on(plan: Plan, cards: [u8; Plan::FRAME], i: u8) -> Fit
     requires { ⌜ (InOrder plan) × (i < plan .kinds) × (cards ≡ projectCards plan (kindOf plan i .project)) ⌝ }
     ensures { λ r. ⌜ r ≡ fitOn plan i ⌝ }
 {
@@ -91,10 +89,10 @@ fn fit_on(plan: Plan, cards: [u8; 64], i: u8) -> Fit
 // 8 for a kind with no k.
 fn told(fit: Fit, place: u8) -> Answer
     requires { ⌜ fit .excess ≤ 4294967295 ⌝ }
-    ensures { λ r. ⌜ r ≡ refuse (eqb (fit .width) 0) (ByKind 8 place (fit .excess)) ⌝ }
+    ensures { λ r. ⌜ r ≡ refuse (eqb (fit .width) 0) (notAdmitted place (fit .excess)) ⌝ }
 {
     if fit.width == 0 {
-        return Answer::No(Refusal::ByKind(8, place, fit.excess as u32));
+        return Answer::not_admitted(place, fit.excess as u32);
     }
     Answer::Good
 }
@@ -105,7 +103,7 @@ fn fits(plan: Plan) -> Verdict
     ensures { λ r. ⌜ r ≡ verdictOf plan (admitted plan) ⌝ }
 {
     let cards = all_cards(plan);
-    let mut width = [0u8; 16];
+    let mut width = [0u8; Plan::KINDS];
     for i in 0..plan.kinds {
         let project = plan.kind[i as usize].project as usize;
         let fit = fit_on(plan, cards[project], i);
@@ -113,7 +111,7 @@ fn fits(plan: Plan) -> Verdict
         let Answer::Good = answer else {
             return Verdict {
                 answer,
-                width: [0u8; 16],
+                width: [0u8; Plan::KINDS],
             };
         };
         width[i as usize] = fit.width;
@@ -132,7 +130,7 @@ pub fn judge(plan: Plan) -> Verdict
     let Answer::Good = order else {
         return Verdict {
             answer: order,
-            width: [0u8; 16],
+            width: [0u8; Plan::KINDS],
         };
     };
     fits(plan)

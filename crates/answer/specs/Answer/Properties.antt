@@ -8,11 +8,11 @@ use native.Mathlib.Numerals.{add-one}
 use native.Mathlib.Omega.{arith}
 use lib.Dec.{leb}
 use borrow.Author.Tests.{le-leb, lt-leb}
+use Rattle.laws.specs.Loops.{stop}
 use Rattle.answer.specs.declared.Answer.{Answer}
 use Rattle.answer.specs.declared.Answer.the-variants.{Good, No}
 use Rattle.answer.specs.declared.Refusal.{Refusal}
-use Rattle.answer.specs.declared.Refusal.the-variants.{Bare, ByProject, ByKind}
-use Rattle.answer.specs.Answer.{_andThen_, eachTo, refuse, ExcessKept}
+use Rattle.answer.specs.Answer.{_andThen_, eachTo, refuse}
 
 -- ---- a stage that is good hands on to the next; one that is not is the answer
 
@@ -30,43 +30,38 @@ pub andThen-right : (a b : Answer) → (a andThen b) ≡ Good → b ≡ Good
 andThen-right Good b e = e
 andThen-right (No r) b e = cc
 
-pub refuse-good : (t : Bool) (r : Refusal) → refuse t r ≡ Good → t ≡ false
-refuse-good true r e = cc
-refuse-good false r e = refl
+pub refuse-good : (t : Bool) (w : Refusal) → refuse t (No w) ≡ Good → t ≡ false
+refuse-good true w e = cc
+refuse-good false w e = refl
 
--- ---- a refusal that the code gives: r is what a test answered, and a what it should
+-- ---- a refusal that the code gives: r is what a test answered, and a what it should; x is the refusal that was made
 
-pub refused : (a r : Bool) (w : Refusal) → r ≡ a → not r ≡ true → No w ≡ refuse (not a) w
-refused true true w e t = absurd (true≢false (sym t))
-refused true false w e t = absurd (true≢false (sym e))
-refused false r w e t = refl
+pub refused : (a r : Bool) (w x : Answer) → r ≡ a → not r ≡ true → x ≡ w → x ≡ refuse (not a) w
+refused true true w x e t q = absurd (true≢false (sym t))
+refused true false w x e t q = absurd (true≢false (sym e))
+refused false r w x e t q = q
 
-pub passed : (a r : Bool) (w : Refusal) → r ≡ a → not r ≡ false → Good ≡ refuse (not a) w
+pub passed : (a r : Bool) (w : Answer) → r ≡ a → not r ≡ false → Good ≡ refuse (not a) w
 passed true r w e t = refl
 passed false true w e t = absurd (true≢false e)
 passed false false w e t = absurd (true≢false t)
 
-pub refused-where : (a r : Bool) (w : Refusal) → r ≡ a → r ≡ true → No w ≡ refuse a w
-refused-where a r w e t = rw (← e, t)
+pub refused-where : (a r : Bool) (w x : Answer) → r ≡ a → r ≡ true → x ≡ w → x ≡ refuse a w
+refused-where a r w x e t q = rw (← e, t) q
 
-pub passed-where : (a r : Bool) (w : Refusal) → r ≡ a → r ≡ false → Good ≡ refuse a w
+pub passed-where : (a r : Bool) (w : Answer) → r ≡ a → r ≡ false → Good ≡ refuse a w
 passed-where a r w e t = rw (← e, t)
 
 -- r is a number that was computed, and a what it should be
 
-pub above-refused : (a r most : ℕ) (w : Refusal) → r ≡ a → most < r → No w ≡ refuse (not (leb a most)) w
-above-refused a r most w e l = rw (lt-leb a most (omega arith))
+pub above-refused : (a r most : ℕ) (w x : Answer) → r ≡ a → most < r → x ≡ w → x ≡ refuse (not (leb a most)) w
+above-refused a r most w x e l q = rw (lt-leb a most (omega arith)) q
 
-pub most-passed : (a r most : ℕ) (w : Refusal) → r ≡ a → r ≤ most → Good ≡ refuse (not (leb a most)) w
+pub most-passed : (a r most : ℕ) (w : Answer) → r ≡ a → r ≤ most → Good ≡ refuse (not (leb a most)) w
 most-passed a r most w e l = rw (le-leb a most (omega arith))
-
-pub stage-no : (a b : Answer) (w : Refusal) → No w ≡ a → No w ≡ (a andThen b)
-stage-no a b w e = rw (← e)
 
 pub stage-on : (a b x : Answer) → Good ≡ a → x ≡ b → x ≡ (a andThen b)
 stage-on a b x e q = rw (← e) q
-
-pub ruleset stages = (refused, passed, stage-no, stage-on)
 
 -- ---- a stage's answer r that `let .. else` opened: good, or the answer itself
 
@@ -78,6 +73,8 @@ opened-is r a e q = sym q ∙ e
 
 pub opened-no : (r a b : Answer) (w : Refusal) → r ≡ No w → r ≡ a → r ≡ (a andThen b)
 opened-no r a b w e q = rw (← q, e)
+
+pub ruleset stages = (refused, passed, opened-no, stage-on)
 
 pub opened-on : (r a b x : Answer) → r ≡ Good → r ≡ a → x ≡ b → x ≡ (a andThen b)
 opened-on r a b x e q p = rw (← q, e) p
@@ -92,20 +89,18 @@ pub each-more : (i : ℕ) (f : ℕ → Answer) → Good ≡ eachTo i f → Good 
 unfolding eachTo
 each-more i f e g = rw (add-one i, ← e, ← g)
 
-pub each-stop : (i n : ℕ) (f : ℕ → Answer) → Good ≡ eachTo i f → i ≤ n → n ≤ i → Good ≡ eachTo n f
-each-stop i n f p a b = let e : i ≡ n = omega arith in p ∙ ap (λ (k : ℕ). eachTo k f) e
+pub each-stop : (i n : ℕ) (f : ℕ → Answer) (r : Answer) → r ≡ eachTo i f → i ≤ n → n ≤ i → r ≡ eachTo n f
+each-stop i n f r = stop (λ (k : ℕ). eachTo k f) r i n
 
 -- good so far and refused here: that is the answer, whatever comes after
-pub each-refused : (n i : ℕ) (f : ℕ → Answer) (r : Refusal) → Good ≡ eachTo i f → No r ≡ f i → i < n → No r ≡ eachTo n f
-unfolding eachTo
-each-refused zero i f r e g l = absurd (omega arith)
-each-refused (suc n) i f r e g l = elim (decLt i n) [ yes q ↦ stage-no (eachTo n f) (f n) r (each-refused n i f r e g q) | no q ↦ here (omega arith) ]
-  where
-    here : i ≡ n → No r ≡ (eachTo n f andThen f n)
-    here q = stage-on (eachTo n f) (f n) (No r) (e ∙ ap (λ (k : ℕ). eachTo k f) q) (g ∙ ap f q)
-
 pub each-opened : (n i : ℕ) (f : ℕ → Answer) (r : Answer) (w : Refusal) → Good ≡ eachTo i f → r ≡ No w → r ≡ f i → i < n → r ≡ eachTo n f
-each-opened n i f r w e q g l = q ∙ each-refused n i f w e (sym q ∙ g) l
+unfolding eachTo
+each-opened zero i f r w e q g l = absurd (omega arith)
+each-opened (suc n) i f r w e q g l =
+    elim (decLt i n) [ yes h ↦ opened-no r (eachTo n f) (f n) w q (each-opened n i f r w e q g h) | no h ↦ here (omega arith) ]
+  where
+    here : i ≡ n → r ≡ (eachTo n f andThen f n)
+    here h = stage-on (eachTo n f) (f n) r (e ∙ ap (λ (k : ℕ). eachTo k f) h) (g ∙ ap f h)
 
 -- ---- what it says
 
@@ -121,30 +116,3 @@ pub each-of : (n : ℕ) (f : ℕ → Answer) → ((i : ℕ) → i < n → f i �
 unfolding eachTo
 each-of zero f h = refl
 each-of (suc n) f h = rw (each-of n f (λ i l. h i (omega arith)), h n (omega arith))
-
--- ---- "Excess is 0 except with 8"
-
-pub bare-kept : (n : ℕ) → ExcessKept (No (Bare n))
-bare-kept n = record { none = λ h. refl }
-
-pub project-kept : (n j : ℕ) → ExcessKept (No (ByProject n j))
-project-kept n j = record { none = λ h. refl }
-
-pub kind-kept : (n i : ℕ) → ExcessKept (No (ByKind n i 0))
-kind-kept n i = record { none = λ h. refl }
-
-pub eight-kept : (i x : ℕ) → ExcessKept (No (ByKind 8 i x))
-eight-kept i x = record { none = λ h. absurd (h refl) }
-
-pub refuse-kept : (t : Bool) (r : Refusal) → ExcessKept (No r) → ExcessKept (refuse t r)
-refuse-kept true r k = k
-refuse-kept false r k = record { none = λ h. refl }
-
-pub andThen-kept : (a b : Answer) → ExcessKept a → ExcessKept b → ExcessKept (a andThen b)
-andThen-kept Good b p q = q
-andThen-kept (No r) b p q = p
-
-pub each-kept : (n : ℕ) (f : ℕ → Answer) → ((i : ℕ) → ExcessKept (f i)) → ExcessKept (eachTo n f)
-unfolding eachTo
-each-kept zero f h = record { none = λ e. refl }
-each-kept (suc n) f h = andThen-kept (eachTo n f) (f n) (each-kept n f h) (h n)

@@ -6,8 +6,9 @@ use Prim.Native.Nat.{ℕ, suc, _+_, _-_, _≤_, _<_}
 use native.Mathlib.Numerals.{add-one}
 use native.Mathlib.Omega.{arith}
 use lib.ListN.{length, take, drop, set, getD, length-drop}
-use lib.Seq.{take-suc, drop-cons, getD-drop, set-at, append-snoc, length-take-le, getD-append-add}
+use lib.Seq.{take-suc, drop-cons, getD-drop, set-at, append-snoc, length-take-le, take-at, getD-append-add}
 use borrow.Author.Tests.{le-leb, lt-leb}
+use Rattle.laws.specs.Loops.{stop}
 use Rattle.commands.specs.Kept.{within, inFront, Keeps}
 
 -- the first i bytes from `from` on are in front
@@ -19,22 +20,25 @@ unfolding moved
 moved-none bytes from = refl
 
 -- what is still to be moved has not been touched
-pub moved-ahead : (bytes : List ℕ) (from i : ℕ) → from + i < length bytes → getD (moved bytes from i) (from + i) 0 ≡ getD bytes (from + i) 0
+moved-ahead : (bytes : List ℕ) (from i : ℕ) → from + i < length bytes → getD (moved bytes from i) (from + i) 0 ≡ getD bytes (from + i) 0
 unfolding moved
 moved-ahead bytes from i l =
     let p = take i (drop from bytes) in
     let n : length p ≡ i = length-take-le i (drop from bytes) (omega (arith, length-drop from bytes)) in
     let e : from + i ≡ length p + from = omega arith in
     let f : i + from ≡ from + i = omega arith in
-    ap (λ (k : ℕ). getD (p ++ drop i bytes) k 0) e ∙ getD-append-add p (drop i bytes) from 0 ∙ getD-drop i bytes from 0 ∙ ap (λ (k : ℕ). getD bytes k 0) f
+    ap (λ (k : ℕ). getD (p ++ drop i bytes) k 0) e ∙ getD-append-add p (drop i bytes) from 0 ∙ getD-drop i bytes from 0
+    ∙ ap (λ (k : ℕ). getD bytes k 0) f
 
-pub moved-again : (bytes m : List ℕ) (from to i n : ℕ) → m ≡ moved bytes from i → n ≡ to - from → to ≤ length bytes → i < n → set m i (getD m (from + i) 0) ≡ moved bytes from (i + 1)
+pub moved-again : (bytes m : List ℕ) (from to i n : ℕ) → m ≡ moved bytes from i → n ≡ to - from → to ≤ length bytes → i < n
+    → set m i (getD m (from + i) 0) ≡ moved bytes from (i + 1)
 unfolding moved
 moved-again bytes m from to i n e f k h =
     let l : from + i < length bytes = omega arith in
     let p = take i (drop from bytes) in
     let n : length p ≡ i = length-take-le i (drop from bytes) (omega (arith, length-drop from bytes)) in
-    let v : getD m (from + i) 0 ≡ getD (drop from bytes) i 0 = ap (λ (x : List ℕ). getD x (from + i) 0) e ∙ moved-ahead bytes from i l ∙ sym (getD-drop from bytes i 0) in
+    let v : getD m (from + i) 0 ≡ getD (drop from bytes) i 0 =
+    ap (λ (x : List ℕ). getD x (from + i) 0) e ∙ moved-ahead bytes from i l ∙ sym (getD-drop from bytes i 0) in
     ap₂ (λ (x : List ℕ) (y : ℕ). set x i y) e v
     ∙ ap (λ (x : List ℕ). set (p ++ x) i (getD (drop from bytes) i 0)) (drop-cons bytes i 0 (omega arith))
     ∙ set-at p (getD bytes i 0) (drop (suc i) bytes) (getD (drop from bytes) i 0) i n
@@ -48,18 +52,31 @@ keeps-none bytes from to l = record { result = rw (lt-leb from to l); buffer = r
 
 pub keeps-outside : (bytes : List ℕ) (from to : ℕ) → from ≤ to → length bytes < to → Keeps bytes from to 0 bytes
 unfolding within
-keeps-outside bytes from to k l = record { result = rw (le-leb from to k, lt-leb to (length bytes) l); buffer = rw (le-leb from to k, lt-leb to (length bytes) l) }
+keeps-outside bytes from to k l =
+    record { result = rw (le-leb from to k, lt-leb to (length bytes) l); buffer = rw (le-leb from to k, lt-leb to (length bytes) l) }
 
-pub keeps-part : (bytes m : List ℕ) (from to i n : ℕ) → from ≤ to → to ≤ length bytes → m ≡ moved bytes from i → n ≡ to - from → i ≤ n → n ≤ i → Keeps bytes from to n m
+pub keeps-part : (bytes m : List ℕ) (from to i n : ℕ) → from ≤ to → to ≤ length bytes → m ≡ moved bytes from i → n ≡ to - from → i ≤ n
+    → n ≤ i → Keeps bytes from to n m
 unfolding within inFront moved
 keeps-part bytes m from to i n k l e f a b =
-    let g : i ≡ to - from = omega arith in
     record {
       result = rw (le-leb from to k, le-leb to (length bytes) l) f;
-      buffer = rw (le-leb from to k, le-leb to (length bytes) l) (e ∙ ap (λ (j : ℕ). take j (drop from bytes) ++ drop j bytes) g);
+      buffer = rw (le-leb from to k, le-leb to (length bytes) l) (stop (moved bytes from) m i n e a b ∙ ap (moved bytes from) f);
     }
 
 -- the count lies within the buffer
-pub keeps-within : (bytes after : List ℕ) (from to count : ℕ) → Keeps bytes from to count after → from ≤ to → to ≤ length bytes → count ≡ to - from
+pub keeps-within : (bytes after : List ℕ) (from to count : ℕ) → Keeps bytes from to count after → from ≤ to → to ≤ length bytes
+    → count ≡ to - from
 unfolding within
 keeps-within bytes after from to count p k l = p .result ∙ rw (le-leb from to k, le-leb to (length bytes) l)
+
+-- and the part stands in front of it
+pub keeps-front : (bytes after : List ℕ) (from to count : ℕ) → Keeps bytes from to count after → from ≤ to → to ≤ length bytes
+    → take count after ≡ take (to - from) (drop from bytes)
+unfolding within inFront
+keeps-front bytes after from to count p k l =
+    let n : count ≡ to - from = keeps-within bytes after from to count p k l in
+    let part = take (to - from) (drop from bytes) in
+    let e : after ≡ part ++ drop (to - from) bytes = p .buffer ∙ rw (le-leb from to k, le-leb to (length bytes) l) in
+    let m : length part ≡ count = length-take-le (to - from) (drop from bytes) (omega (arith, length-drop from bytes)) ∙ sym n in
+    ap (take count) e ∙ take-at part (drop (to - from) bytes) count m

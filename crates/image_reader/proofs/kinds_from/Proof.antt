@@ -5,7 +5,7 @@ use native.Mathlib.Omega.{arith}
 use mathlib.Core.Path.{_≡_}
 use Prim.Native.Nat.{_≤_, _-_}
 use Rattle.images.specs.Image.{kindsFrom}
-use Rattle.images.specs.Image.Properties.{kinds-none, kinds-again, kinds-stop}
+use Rattle.laws.specs.Written.Properties.{written-none, written-again, written-stop}
 use Rattle.image_reader.proofs.kinds_from.Statement.{statement}
 use Rattle.image_reader.proofs.kinds_from.Tie as tie
 
@@ -19,7 +19,7 @@ empty-requires : tie.Need-empty-requires Inv-loop μ-loop
 empty-requires c κs = search needs
 
 loop-holds : tie.Need-loop-holds Inv-loop μ-loop
-loop-holds c = (omega arith, rw (c .before .empty .ensures) (kinds-none _))
+loop-holds c = (omega arith, rw (c .before .empty .ensures) (written-none _ _))
 
 mul-kind-from : tie.Need-mul-kind-from Inv-loop μ-loop
 mul-kind-from c = search needs
@@ -43,10 +43,10 @@ loop-less : tie.Need-loop-less Inv-loop μ-loop
 loop-less c = search needs
 
 loop-again : tie.Need-loop-again Inv-loop μ-loop
-loop-again c = (omega arith, search kinds-again)
+loop-again c = (omega arith, search written-again)
 
 returns : tie.Need-returns Inv-loop μ-loop
-returns c = search kinds-stop
+returns c = search written-stop
 
 pub kinds-from-spec : {M : Type 1} → statement M
 kinds-from-spec =

@@ -17,8 +17,11 @@ enum-told-2 c = search needs
 returns : tie.Need-returns
 returns c = search opened-no
 
+bare-requires : tie.Need-bare-requires
+bare-requires c κs = search needs
+
 returns-2 : tie.Need-returns-2
 returns-2 c = search (opened-on, needs)
 
 pub no-state-spec : {M : Type 1} → statement M
-no-state-spec = tie.close (tie.spec check-requires enum-told enum-told-2 returns returns-2)
+no-state-spec = tie.close (tie.spec check-requires enum-told enum-told-2 returns bare-requires returns-2)

@@ -6,9 +6,9 @@ use mathlib.Core.Path.{_≡_}
 use Prim.Native.Nat.{_≤_, _-_}
 use mathlib.Core.Bool.{true}
 use Rattle.laws.specs.All.{allTo}
-use Rattle.laws.specs.All.Properties.{all-none, all-more, all-stop, all-fails}
-use Rattle.laws.specs.Tests.{tests}
-use Rattle.images.specs.Image.{releasedAt, releasedTold}
+use Rattle.laws.specs.All.Properties.{all-none}
+use Rattle.images.specs.Image.{releasedAt}
+use Rattle.images.specs.Image.Properties.{told-again, told-fails, told-end}
 use Rattle.image_reader.proofs.released_told.Statement.{statement}
 use Rattle.image_reader.proofs.released_told.Tie as tie
 
@@ -21,18 +21,17 @@ abbrev μ-loop : tie.MeasureT-loop
 loop-holds : tie.Need-loop-holds Inv-loop μ-loop
 loop-holds c = (omega arith, all-none _)
 
-mul-if1 : tie.Need-mul-if1 Inv-loop μ-loop
-mul-if1 c = search needs
+mul-released-at : tie.Need-mul-released-at Inv-loop μ-loop
+mul-released-at c = search needs
 
-add-if1 : tie.Need-add-if1 Inv-loop μ-loop
-add-if1 c = search needs
+add-released-at : tie.Need-add-released-at Inv-loop μ-loop
+add-released-at c = search needs
 
-shared-slice-read-if1 : tie.Need-shared-slice-read-if1 Inv-loop μ-loop
-shared-slice-read-if1 c = search needs
+released-at-requires : tie.Need-released-at-requires Inv-loop μ-loop
+released-at-requires c κs = search needs
 
 returns : tie.Need-returns Inv-loop μ-loop
-unfolding releasedTold
-returns c = search (all-fails, tests)
+returns c = search told-fails
 
 add-i : tie.Need-add-i Inv-loop μ-loop
 add-i c = search needs
@@ -41,11 +40,10 @@ loop-less : tie.Need-loop-less Inv-loop μ-loop
 loop-less c = search needs
 
 loop-again : tie.Need-loop-again Inv-loop μ-loop
-loop-again c = (omega arith, search (all-more, tests))
+loop-again c = (omega arith, search told-again)
 
 returns-2 : tie.Need-returns-2 Inv-loop μ-loop
-unfolding releasedTold
-returns-2 c = search all-stop
+returns-2 c = search told-end
 
 pub released-told-spec : {M : Type 1} → statement M
 released-told-spec =
@@ -54,9 +52,9 @@ released-told-spec =
     Inv-loop
     μ-loop
     loop-holds
-    mul-if1
-    add-if1
-    shared-slice-read-if1
+    mul-released-at
+    add-released-at
+    released-at-requires
     returns
     add-i
     loop-less

@@ -8,8 +8,8 @@ use Rattle.image_reader.proofs.state_from.Tie as tie
 plan-from-requires : tie.Need-plan-from-requires
 plan-from-requires c κs = search needs
 
-four-requires : tie.Need-four-requires
-four-requires c κs = search needs
+clock-from-requires : tie.Need-clock-from-requires
+clock-from-requires c κs = search needs
 
 units-from-requires : tie.Need-units-from-requires
 units-from-requires c κs = search needs
@@ -18,4 +18,5 @@ returns : tie.Need-returns
 returns c = search state-from
 
 pub state-from-spec : {M : Type 1} → statement M
-state-from-spec = tie.close (tie.spec plan-from-requires four-requires units-from-requires returns)
+state-from-spec =
+    tie.close (tie.spec plan-from-requires clock-from-requires units-from-requires returns)

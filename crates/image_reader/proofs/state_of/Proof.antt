@@ -5,6 +5,9 @@ use borrow.Author.Needs.{needs}
 use Rattle.image_reader.proofs.state_of.Statement.{statement}
 use Rattle.image_reader.proofs.state_of.Tie as tie
 
+bare-requires : tie.Need-bare-requires
+bare-requires c κs = search needs
+
 empty-requires : tie.Need-empty-requires
 empty-requires c κs = search needs
 
@@ -36,6 +39,7 @@ pub state-of-spec : {M : Type 1} → statement M
 state-of-spec =
     tie.close
     (tie.spec
+    bare-requires
     empty-requires
     returns
     released-told-requires

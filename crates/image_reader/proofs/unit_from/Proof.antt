@@ -5,24 +5,17 @@ use borrow.Author.Needs.{needs}
 use Rattle.image_reader.proofs.unit_from.Statement.{statement}
 use Rattle.image_reader.proofs.unit_from.Tie as tie
 
-shared-slice-read-t4 : tie.Need-shared-slice-read-t4
-shared-slice-read-t4 c = search needs
+fields-requires : tie.Need-fields-requires
+fields-requires c κs = search needs
 
-add-four : tie.Need-add-four
-add-four c = search needs
+cast-t6 : tie.Need-cast-t6
+cast-t6 c = search needs
 
-four-requires : tie.Need-four-requires
-four-requires c κs = search needs
-
-add-two : tie.Need-add-two
-add-two c = search needs
-
-two-requires : tie.Need-two-requires
-two-requires c κs = search needs
+cast-t8 : tie.Need-cast-t8
+cast-t8 c = search needs
 
 returns : tie.Need-returns
 returns c = search unit-at
 
 pub unit-from-spec : {M : Type 1} → statement M
-unit-from-spec =
-    tie.close (tie.spec shared-slice-read-t4 add-four four-requires add-two two-requires returns)
+unit-from-spec = tie.close (tie.spec fields-requires cast-t6 cast-t8 returns)

@@ -5,7 +5,7 @@ use native.Mathlib.Omega.{arith}
 use mathlib.Core.Path.{_≡_}
 use Prim.Native.Nat.{_≤_, _-_}
 use Rattle.images.specs.Image.{unitsFrom}
-use Rattle.images.specs.Image.Properties.{units-none, units-again, units-stop}
+use Rattle.laws.specs.Written.Properties.{written-none, written-again, written-stop}
 use Rattle.image_reader.proofs.units_from.Statement.{statement}
 use Rattle.image_reader.proofs.units_from.Tie as tie
 
@@ -19,7 +19,7 @@ empty-requires : tie.Need-empty-requires Inv-loop μ-loop
 empty-requires c κs = search needs
 
 loop-holds : tie.Need-loop-holds Inv-loop μ-loop
-loop-holds c = (omega arith, rw (c .empty .ensures) (units-none _))
+loop-holds c = (omega arith, rw (c .empty .ensures) (written-none _ _))
 
 mul-unit-from : tie.Need-mul-unit-from Inv-loop μ-loop
 mul-unit-from c = search needs
@@ -43,10 +43,10 @@ loop-less : tie.Need-loop-less Inv-loop μ-loop
 loop-less c = search needs
 
 loop-again : tie.Need-loop-again Inv-loop μ-loop
-loop-again c = (omega arith, search units-again)
+loop-again c = (omega arith, search written-again)
 
 returns : tie.Need-returns Inv-loop μ-loop
-returns c = search units-stop
+returns c = search written-stop
 
 pub units-from-spec : {M : Type 1} → statement M
 units-from-spec =

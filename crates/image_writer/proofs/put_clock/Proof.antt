@@ -1,35 +1,15 @@
 -- `image_writer::put_clock` meets its contract.
 -- Assumes nothing.
-use native.Mathlib.Omega.{arith}
-use lib.ListN.{length-set}
 use Rattle.images.specs.Image.Properties.{put-clock}
 use borrow.Author.Needs.{needs}
 use Rattle.image_writer.proofs.put_clock.Statement.{statement}
 use Rattle.image_writer.proofs.put_clock.Tie as tie
 
-cast-out : tie.Need-cast-out
-cast-out c = search needs
+widest-requires : tie.Need-widest-requires
+widest-requires c κs = search needs
 
-slice-write-out : tie.Need-slice-write-out
-slice-write-out c = search needs
-
-cast-out-2 : tie.Need-cast-out-2
-cast-out-2 c = search needs
-
-slice-write-out-2 : tie.Need-slice-write-out-2
-slice-write-out-2 c = simp length-set (omega arith)
-
-cast-out-3 : tie.Need-cast-out-3
-cast-out-3 c = search needs
-
-slice-write-out-3 : tie.Need-slice-write-out-3
-slice-write-out-3 c = simp length-set (omega arith)
-
-cast-out-4 : tie.Need-cast-out-4
-cast-out-4 c = search needs
-
-slice-write-out-4 : tie.Need-slice-write-out-4
-slice-write-out-4 c = search needs
+put-fields-requires : tie.Need-put-fields-requires
+put-fields-requires c κs = search needs
 
 same-length : tie.Need-same-length
 same-length c = search needs
@@ -38,16 +18,4 @@ returns : tie.Need-returns
 returns c = search put-clock
 
 pub put-clock-spec : {M : Type 1} → statement M
-put-clock-spec =
-    tie.close
-    (tie.spec
-    cast-out
-    slice-write-out
-    cast-out-2
-    slice-write-out-2
-    cast-out-3
-    slice-write-out-3
-    cast-out-4
-    slice-write-out-4
-    same-length
-    returns)
+put-clock-spec = tie.close (tie.spec widest-requires put-fields-requires same-length returns)

@@ -1,68 +1,42 @@
 -- `image_writer::put_kind` meets its contract.
 -- Assumes nothing.
-use native.Mathlib.Omega.{arith}
-use lib.ListN.{length-set}
 use Rattle.images.specs.Image.Properties.{put-kind}
 use borrow.Author.Needs.{needs}
 use Rattle.image_writer.proofs.put_kind.Statement.{statement}
 use Rattle.image_writer.proofs.put_kind.Tie as tie
 
-slice-write-out : tie.Need-slice-write-out
-slice-write-out c = search needs
+wide-requires : tie.Need-wide-requires
+wide-requires c κs = search needs
 
-high-requires : tie.Need-high-requires
-high-requires c κs = search needs
+mul-fields : tie.Need-mul-fields
+mul-fields c = search needs
 
-add-out : tie.Need-add-out
-add-out c = search needs
+wider-requires : tie.Need-wider-requires
+wider-requires c κs = search needs
 
-slice-write-out-2 : tie.Need-slice-write-out-2
-slice-write-out-2 c = simp length-set (omega arith)
+mul-fields-2 : tie.Need-mul-fields-2
+mul-fields-2 c = search needs
 
-low-requires : tie.Need-low-requires
-low-requires c κs = search needs
+add-fields : tie.Need-add-fields
+add-fields c = search needs
 
-add-out-2 : tie.Need-add-out-2
-add-out-2 c = search needs
+wider-requires-2 : tie.Need-wider-requires-2
+wider-requires-2 c κs = search needs
 
-slice-write-out-3 : tie.Need-slice-write-out-3
-slice-write-out-3 c = simp length-set (omega arith)
+mul-fields-3 : tie.Need-mul-fields-3
+mul-fields-3 c = search needs
 
-high-requires-2 : tie.Need-high-requires-2
-high-requires-2 c κs = search needs
+add-fields-2 : tie.Need-add-fields-2
+add-fields-2 c = search needs
 
-add-out-3 : tie.Need-add-out-3
-add-out-3 c = search needs
+wider-requires-3 : tie.Need-wider-requires-3
+wider-requires-3 c κs = search needs
 
-slice-write-out-4 : tie.Need-slice-write-out-4
-slice-write-out-4 c = simp length-set (omega arith)
+add-fields-3 : tie.Need-add-fields-3
+add-fields-3 c = search needs
 
-low-requires-2 : tie.Need-low-requires-2
-low-requires-2 c κs = search needs
-
-add-out-4 : tie.Need-add-out-4
-add-out-4 c = search needs
-
-slice-write-out-5 : tie.Need-slice-write-out-5
-slice-write-out-5 c = simp length-set (omega arith)
-
-high-requires-3 : tie.Need-high-requires-3
-high-requires-3 c κs = search needs
-
-add-out-5 : tie.Need-add-out-5
-add-out-5 c = search needs
-
-slice-write-out-6 : tie.Need-slice-write-out-6
-slice-write-out-6 c = simp length-set (omega arith)
-
-low-requires-3 : tie.Need-low-requires-3
-low-requires-3 c κs = search needs
-
-add-out-6 : tie.Need-add-out-6
-add-out-6 c = search needs
-
-slice-write-out-7 : tie.Need-slice-write-out-7
-slice-write-out-7 c = simp length-set (omega arith)
+put-fields-requires : tie.Need-put-fields-requires
+put-fields-requires c κs = search needs
 
 same-length : tie.Need-same-length
 same-length c = search needs
@@ -74,24 +48,16 @@ pub put-kind-spec : {M : Type 1} → statement M
 put-kind-spec =
     tie.close
     (tie.spec
-    slice-write-out
-    high-requires
-    add-out
-    slice-write-out-2
-    low-requires
-    add-out-2
-    slice-write-out-3
-    high-requires-2
-    add-out-3
-    slice-write-out-4
-    low-requires-2
-    add-out-4
-    slice-write-out-5
-    high-requires-3
-    add-out-5
-    slice-write-out-6
-    low-requires-3
-    add-out-6
-    slice-write-out-7
+    wide-requires
+    mul-fields
+    wider-requires
+    mul-fields-2
+    add-fields
+    wider-requires-2
+    mul-fields-3
+    add-fields-2
+    wider-requires-3
+    add-fields-3
+    put-fields-requires
     same-length
     returns)

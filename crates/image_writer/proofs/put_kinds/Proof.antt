@@ -5,14 +5,16 @@ use native.Mathlib.Omega.{arith}
 use mathlib.Core.Path.{_≡_, refl}
 use Prim.Native.Nat.{_≤_, _-_}
 use lib.ListN.{length}
-use Rattle.plan_bytes.specs.Put.{putTo}
-use Rattle.plan_bytes.specs.Put.Properties.{put-none, put-again, put-stop}
-use Rattle.images.specs.Image.{kindBytesAt}
+use Rattle.codec.specs.Places.{putTo}
+use Rattle.codec.specs.Places.Properties.{put-none, put-again, put-stop}
+use Rattle.codec.specs.Place.{sizeOf}
+use Rattle.images.specs.Image.{kindPlace, kindWidths, kindBytesAt}
 use Rattle.image_writer.proofs.put_kinds.Statement.{statement}
 use Rattle.image_writer.proofs.put_kinds.Tie as tie
 
 abbrev Inv-loop : tie.InvT-loop
-Inv-loop out₀ plan i₀ out i = (i ≤ 16) × (out ≡ putTo i (kindBytesAt plan) 28 7 out₀) × (length out ≡ length out₀)
+Inv-loop out₀ plan i₀ out i =
+    (i ≤ 16) × (out ≡ putTo i (kindBytesAt plan) (kindPlace 0) (sizeOf kindWidths) out₀) × (length out ≡ length out₀)
 
 abbrev μ-loop : tie.MeasureT-loop
 μ-loop out₀ plan i₀ out i = 16 - i

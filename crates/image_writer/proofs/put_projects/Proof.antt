@@ -5,14 +5,16 @@ use native.Mathlib.Omega.{arith}
 use mathlib.Core.Path.{_≡_, refl}
 use Prim.Native.Nat.{_≤_, _-_}
 use lib.ListN.{length}
-use Rattle.plan_bytes.specs.Put.{putTo}
-use Rattle.plan_bytes.specs.Put.Properties.{put-none, put-again, put-stop}
-use Rattle.images.specs.Image.{projectBytesAt}
+use Rattle.codec.specs.Places.{putTo}
+use Rattle.codec.specs.Places.Properties.{put-none, put-again, put-stop}
+use Rattle.codec.specs.Place.{sizeOf}
+use Rattle.images.specs.Image.{projectPlace, projectWidths, projectBytesAt}
 use Rattle.image_writer.proofs.put_projects.Statement.{statement}
 use Rattle.image_writer.proofs.put_projects.Tie as tie
 
 abbrev Inv-loop : tie.InvT-loop
-Inv-loop out₀ plan j₀ out j = (j ≤ 8) × (out ≡ putTo j (projectBytesAt plan) 4 3 out₀) × (length out ≡ length out₀)
+Inv-loop out₀ plan j₀ out j =
+    (j ≤ 8) × (out ≡ putTo j (projectBytesAt plan) (projectPlace 0) (sizeOf projectWidths) out₀) × (length out ≡ length out₀)
 
 abbrev μ-loop : tie.MeasureT-loop
 μ-loop out₀ plan j₀ out j = 8 - j

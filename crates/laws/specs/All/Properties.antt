@@ -6,6 +6,7 @@ use Prim.Native.Nat.{ℕ, zero, suc, _+_, _≤_, _<_}
 use native.Mathlib.Decide.{decLt}
 use native.Mathlib.Numerals.{add-one}
 use native.Mathlib.Omega.{arith}
+use Rattle.laws.specs.Loops.{stop}
 use Rattle.laws.specs.All.{allTo}
 use Rattle.laws.specs.Tests.{and-left, and-right}
 
@@ -19,16 +20,13 @@ pub all-more : (i : ℕ) (f : ℕ → Bool) → true ≡ allTo i f → f i ≡ t
 unfolding allTo
 all-more i f e t = rw (add-one i, ← e, t)
 
-pub all-stop : (i n : ℕ) (f : ℕ → Bool) → true ≡ allTo i f → i ≤ n → n ≤ i → true ≡ allTo n f
-all-stop i n f p a b = let e : i ≡ n = omega arith in p ∙ ap (λ (k : ℕ). allTo k f) e
+pub all-stop : (b : Bool) (i n : ℕ) (f : ℕ → Bool) → b ≡ allTo i f → i ≤ n → n ≤ i → b ≡ allTo n f
+all-stop b i n f = stop (λ (k : ℕ). allTo k f) b i n
 
 -- the whole answer so far, carried along
 pub all-again : (b r : Bool) (i : ℕ) (f : ℕ → Bool) → b ≡ allTo i f → r ≡ (b && f i) → r ≡ allTo (i + 1) f
 unfolding allTo
 all-again b r i f p q = rw (add-one i) (q ∙ rw p)
-
-pub all-end : (b : Bool) (i n : ℕ) (f : ℕ → Bool) → b ≡ allTo i f → i ≤ n → n ≤ i → b ≡ allTo n f
-all-end b i n f p x y = let e : i ≡ n = omega arith in p ∙ ap (λ (k : ℕ). allTo k f) e
 
 -- one that fails settles it
 pub all-fails : (n i : ℕ) (f : ℕ → Bool) → f i ≡ false → i < n → false ≡ allTo n f

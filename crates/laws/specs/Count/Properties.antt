@@ -9,6 +9,7 @@ use native.Mathlib.Numerals.{add-one}
 use native.Mathlib.Omega.{arith}
 use lib.Dec.{leb, ltb}
 use borrow.Author.Tests.{lt-ltb, le-ltb, le-leb, lt-leb}
+use Rattle.laws.specs.Loops.{stop}
 use Rattle.laws.specs.Sum.{sumTo}
 use Rattle.laws.specs.Count.{countTo}
 
@@ -27,7 +28,7 @@ pub count-no : (s i : ℕ) (f : ℕ → Bool) → s ≡ countTo i f → f i ≡ 
 count-no s i f e t = rw (add-one i, count-suc i f, t, e) (omega arith)
 
 pub count-stop : (s i n : ℕ) (f : ℕ → Bool) → s ≡ countTo i f → i ≤ n → n ≤ i → s ≡ countTo n f
-count-stop s i n f p a b = let e : i ≡ n = omega arith in p ∙ ap (λ (k : ℕ). countTo k f) e
+count-stop s i n f = stop (λ (k : ℕ). countTo k f) s i n
 
 one-at-most : (b : Bool) → cond b 1 0 ≤ 1
 one-at-most true = omega arith
@@ -56,10 +57,15 @@ count-cong n f g h =
     omega (arith, count-le-count n f g (λ x l e. sym (h x l) ∙ e), count-le-count n g f (λ x l e. h x l ∙ e))
 
 -- true at an x more
-pub count-lt-count : (n : ℕ) (f g : ℕ → Bool) (x : ℕ) → x < n → f x ≡ false → g x ≡ true → ((y : ℕ) → y < n → f y ≡ true → g y ≡ true) → countTo n f < countTo n g
+pub count-lt-count : (n : ℕ) (f g : ℕ → Bool) (x : ℕ) → x < n → f x ≡ false → g x ≡ true → ((y : ℕ) → y < n → f y ≡ true → g y ≡ true) →
+    countTo n f < countTo n g
 unfolding countTo
 count-lt-count zero f g x l p q h = absurd (omega arith)
-count-lt-count (suc n) f g x l p q h = elim (decLt x n) [ yes s ↦ later (f n) (g n) (h n (omega arith)) (count-lt-count n f g x s p q (λ y m. h y (omega arith))) | no s ↦ here (omega arith) ]
+count-lt-count (suc n) f g x l p q h =
+    elim (decLt x n) [
+      | yes s ↦ later (f n) (g n) (h n (omega arith)) (count-lt-count n f g x s p q (λ y m. h y (omega arith)))
+      | no s ↦ here (omega arith)
+    ]
   where
     later : (a b : Bool) → (a ≡ true → b ≡ true) → countTo n f < countTo n g → countTo n f + cond a 1 0 < countTo n g + cond b 1 0
     later true true e r = omega arith
@@ -85,7 +91,8 @@ count-extra (suc n) f g l = go (f n) (g n) refl refl (count-extra n f g) l
     up : Found n → Found (suc n)
     up t = (t .0, omega (arith, t .1), t .2, t .3)
 
-    go : (a b : Bool) → f n ≡ a → g n ≡ b → (countTo n g < countTo n f → Found n) → countTo n g + cond b 1 0 < countTo n f + cond a 1 0 → Found (suc n)
+    go : (a b : Bool) → f n ≡ a → g n ≡ b → (countTo n g < countTo n f → Found n) → countTo n g + cond b 1 0 < countTo n f + cond a 1 0 →
+        Found (suc n)
     go true true p q r s = up (r (omega arith))
     go true false p q r s = (n, omega arith, p, q)
     go false true p q r s = up (r (omega arith))
@@ -111,7 +118,8 @@ count-one (suc n) f h = go (f n) refl (count-one n f (λ x y l m. h x y (omega a
     go false e r = omega arith
 
 -- a test in two parts
-pub count-parts : (n : ℕ) (f g h : ℕ → Bool) → ((x : ℕ) → x < n → cond (h x) 1 0 ≡ cond (f x) 1 0 + cond (g x) 1 0) → countTo n h ≡ countTo n f + countTo n g
+pub count-parts : (n : ℕ) (f g h : ℕ → Bool) → ((x : ℕ) → x < n → cond (h x) 1 0 ≡ cond (f x) 1 0 + cond (g x) 1 0) →
+    countTo n h ≡ countTo n f + countTo n g
 unfolding countTo
 count-parts zero f g h e = refl
 count-parts (suc n) f g h e = omega (arith, count-parts n f g h (λ x l. e x (omega arith)), e n (omega arith))

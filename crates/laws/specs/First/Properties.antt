@@ -34,13 +34,13 @@ first-on i f e t = rw add-one (sym (first-next i f e ∙ rw (rw add-one at t)))
 pub first-here : (n i : ℕ) (f : ℕ → Bool) → 0 ≡ firstTo i f → f (i + 1) ≡ true → i < n → i + 1 ≡ firstTo n f
 first-here zero i f e t l = absurd (omega arith)
 first-here (suc n) i f e t l =
-    elim (decLt i n) [ yes q ↦ first-here n i f e t q ∙ sym (first-kept n f (omega (arith, first-here n i f e t q))) | no q ↦ here (omega arith) ]
+    elim (decLt i n) [
+      | yes q ↦ first-here n i f e t q ∙ sym (first-kept n f (omega (arith, first-here n i f e t q)))
+      | no q ↦ here (omega arith)
+    ]
   where
     here : i ≡ n → i + 1 ≡ firstTo (suc n) f
     here q = rw (← q) (add-one i ∙ sym (first-next i f e ∙ rw (rw add-one at t)))
-
-pub first-stop : (k i n : ℕ) (f : ℕ → Bool) → k ≡ firstTo i f → i ≤ n → n ≤ i → k ≡ firstTo n f
-first-stop k i n f p a b = let e : i ≡ n = omega arith in p ∙ ap (λ (j : ℕ). firstTo j f) e
 
 -- ---- what it is
 
@@ -57,7 +57,8 @@ first-le (suc n) f = go (eqb (firstTo n f) 0) (f (suc n)) (first-le n f)
 -- the test holds at it
 pub first-holds : (n : ℕ) (f : ℕ → Bool) → 0 < firstTo n f → f (firstTo n f) ≡ true
 first-holds zero f p = absurd (omega (arith, first-none f))
-first-holds (suc n) f p = elim (decLt 0 (firstTo n f)) [ yes q ↦ rw (first-kept n f q) (first-holds n f q) | no q ↦ here (omega arith) (f (suc n)) refl ]
+first-holds (suc n) f p =
+    elim (decLt 0 (firstTo n f)) [ yes q ↦ rw (first-kept n f q) (first-holds n f q) | no q ↦ here (omega arith) (f (suc n)) refl ]
   where
     here : 0 ≡ firstTo n f → (b : Bool) → f (suc n) ≡ b → f (firstTo (suc n) f) ≡ true
     here e true t = rw (first-next n f e, t, t)
@@ -67,7 +68,10 @@ first-holds (suc n) f p = elim (decLt 0 (firstTo n f)) [ yes q ↦ rw (first-kep
 pub first-zero : (n : ℕ) (f : ℕ → Bool) → 0 ≡ firstTo n f → (k : ℕ) → 0 < k → k ≤ n → f k ≡ false
 first-zero zero f e k p l = absurd (omega arith)
 first-zero (suc n) f e k p l =
-    elim (decLt 0 (firstTo n f)) [ yes q ↦ absurd (omega (arith, first-kept n f q)) | no q ↦ go (omega arith) (λ h m. first-zero n f h k p m) (f (suc n)) refl ]
+    elim (decLt 0 (firstTo n f)) [
+      | yes q ↦ absurd (omega (arith, first-kept n f q))
+      | no q ↦ go (omega arith) (λ h m. first-zero n f h k p m) (f (suc n)) refl
+    ]
   where
     go : 0 ≡ firstTo n f → (0 ≡ firstTo n f → k ≤ n → f k ≡ false) → (b : Bool) → f (suc n) ≡ b → f k ≡ false
     go h rec true t = let z : firstTo (suc n) f ≡ suc n = first-next n f h ∙ rw t in absurd (omega arith)
@@ -77,11 +81,15 @@ first-zero (suc n) f e k p l =
 pub first-least : (n : ℕ) (f : ℕ → Bool) (k : ℕ) → 0 < k → k < firstTo n f → f k ≡ false
 first-least zero f k p l = absurd (omega (arith, first-none f))
 first-least (suc n) f k p l =
-    elim (decLt 0 (firstTo n f)) [ yes q ↦ first-least n f k p (rw (first-kept n f q) at l) | no q ↦ first-zero n f (omega arith) k p (omega (arith, first-le (suc n) f)) ]
+    elim (decLt 0 (firstTo n f)) [
+      | yes q ↦ first-least n f k p (rw (first-kept n f q) at l)
+      | no q ↦ first-zero n f (omega arith) k p (omega (arith, first-le (suc n) f))
+    ]
 
 -- one that holds settles that there is one
 pub first-some : (n : ℕ) (f : ℕ → Bool) (k : ℕ) → 0 < k → k ≤ n → f k ≡ true → 0 < firstTo n f
-first-some n f k p l t = elim (decLt 0 (firstTo n f)) [ yes q ↦ q | no q ↦ absurd (true≢false (sym t ∙ first-zero n f (omega arith) k p l)) ]
+first-some n f k p l t =
+    elim (decLt 0 (firstTo n f)) [ yes q ↦ q | no q ↦ absurd (true≢false (sym t ∙ first-zero n f (omega arith) k p l)) ]
 
 -- ---- two tests, and one more place
 
@@ -96,4 +104,8 @@ first-skip n f e = elim (decLt 0 (firstTo n f)) [ yes p ↦ first-kept n f p | n
 
 -- the first at which it holds
 pub first-new : (n : ℕ) (f : ℕ → Bool) → f (suc n) ≡ true → ((k : ℕ) → 0 < k → k ≤ n → f k ≡ true → ⊥) → firstTo (suc n) f ≡ suc n
-first-new n f e h = elim (decLt 0 (firstTo n f)) [ yes p ↦ absurd (h (firstTo n f) p (first-le n f) (first-holds n f p)) | no p ↦ first-next n f (omega arith) ∙ rw e ]
+first-new n f e h =
+    elim (decLt 0 (firstTo n f)) [
+      | yes p ↦ absurd (h (firstTo n f) p (first-le n f) (first-holds n f p))
+      | no p ↦ first-next n f (omega arith) ∙ rw e
+    ]

@@ -7,10 +7,6 @@ use native.Mathlib.Numerals.{add-one}
 use native.Mathlib.Omega.{arith}
 use Rattle.laws.specs.Least.{leastTo}
 
-pub least-one : (f : ℕ → ℕ) → f 0 ≡ leastTo 1 f
-unfolding leastTo
-least-one f = refl
-
 pub least-suc : (n : ℕ) (f : ℕ → ℕ) → 0 < n → leastTo (suc n) f ≡ min (leastTo n f) (f n)
 unfolding leastTo
 least-suc zero f p = absurd (omega arith)
@@ -18,9 +14,6 @@ least-suc (suc n) f p = refl
 
 pub least-again : (m i : ℕ) (f : ℕ → ℕ) (v : ℕ) → 0 < i → m ≡ leastTo i f → v ≡ f i → min m v ≡ leastTo (i + 1) f
 least-again m i f v p e q = rw (add-one i, least-suc i f p, e, q)
-
-pub least-stop : (m i n : ℕ) (f : ℕ → ℕ) → m ≡ leastTo i f → i ≤ n → n ≤ i → m ≡ leastTo n f
-least-stop m i n f p a b = let e : i ≡ n = omega arith in p ∙ ap (λ (k : ℕ). leastTo k f) e
 
 -- it is a lower bound
 pub least-le : (n : ℕ) (f : ℕ → ℕ) (a : ℕ) → a < n → leastTo n f ≤ f a
@@ -40,11 +33,11 @@ least-at (suc zero) f p = (0, omega arith, refl)
 least-at (suc (suc n)) f p = go (least-at (suc n) f (omega arith))
   where
     go : ((a : ℕ) × (a < suc n) × (leastTo (suc n) f ≡ f a)) → (a : ℕ) × (a < suc (suc n)) × (min (leastTo (suc n) f) (f (suc n)) ≡ f a)
-    go t = elim (decLe (leastTo (suc n) f) (f (suc n))) [ yes q ↦ (t .0, omega (arith, t .1), omega (arith, t .2)) | no q ↦ (suc n, omega arith, omega arith) ]
-
--- and nothing else is both
-pub least-greatest : (n : ℕ) (f : ℕ → ℕ) (m : ℕ) → 0 < n → ((a : ℕ) → a < n → m ≤ f a) → m ≤ leastTo n f
-least-greatest n f m p h = let t = least-at n f p in omega (arith, h (t .0) (t .1), t .2)
+    go t =
+        elim (decLe (leastTo (suc n) f) (f (suc n))) [
+          | yes q ↦ (t .0, omega (arith, t .1), omega (arith, t .2))
+          | no q ↦ (suc n, omega arith, omega arith)
+        ]
 
 pub least-cong : (n : ℕ) (f g : ℕ → ℕ) → ((a : ℕ) → a < n → f a ≡ g a) → leastTo n f ≡ leastTo n g
 unfolding leastTo

@@ -5,6 +5,7 @@ use Prim.Native.Nat.{ℕ, zero, suc, _+_, _*_, _≤_, _<_}
 use native.Mathlib.Nat.{add-zero, add-suc, suc-mul}
 use native.Mathlib.Numerals.{add-one}
 use native.Mathlib.Omega.{arith}
+use Rattle.laws.specs.Loops.{stop}
 use Rattle.laws.specs.Sum.{sumTo}
 
 -- ---- the steps of a loop that adds up
@@ -24,7 +25,7 @@ pub sum-again : (s i : ℕ) (f : ℕ → ℕ) (v : ℕ) → s ≡ sumTo i f → 
 sum-again s i f v p q = rw (sum-more i f, p, q)
 
 pub sum-stop : (s i n : ℕ) (f : ℕ → ℕ) → s ≡ sumTo i f → i ≤ n → n ≤ i → s ≡ sumTo n f
-sum-stop s i n f p a b = let e : i ≡ n = omega arith in p ∙ ap (λ (k : ℕ). sumTo k f) e
+sum-stop s i n f = stop (λ (k : ℕ). sumTo k f) s i n
 
 -- ---- order and equality, term by term
 
@@ -42,15 +43,6 @@ pub sum-bound : (n m : ℕ) (f : ℕ → ℕ) → ((x : ℕ) → x < n → f x �
 unfolding sumTo
 sum-bound zero m f h = omega arith
 sum-bound (suc n) m f h = rw suc-mul (omega (arith, sum-bound n m f (λ x l. h x (omega arith)), h n (omega arith)))
-
--- one term is at most the sum
-pub term-le-sum : (n : ℕ) (f : ℕ → ℕ) (x : ℕ) → x < n → f x ≤ sumTo n f
-unfolding sumTo
-term-le-sum zero f x l = absurd (omega arith)
-term-le-sum (suc n) f x l = go (f x ≤ sumTo n f + f n) (λ (q : x < n). omega (arith, term-le-sum n f x q)) (λ (e : x ≡ n). rw e (omega arith))
-  where
-    go : (G : Type 0) → (x < n → G) → (x ≡ n → G) → G
-    go G a b = elim (native.Mathlib.Decide.decLt x n) [ yes q ↦ a q | no q ↦ b (omega arith) ]
 
 -- ---- sums of sums, and sums cut in two
 

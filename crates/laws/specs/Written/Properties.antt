@@ -9,6 +9,7 @@ use native.Mathlib.Numerals.{add-one}
 use native.Mathlib.Omega.{arith}
 use lib.ListN.{length, getD, set, length-set, replicate, length-replicate, getD-replicate, List·getD-eq-default}
 use lib.Seq.{set-getD, getD-set-same, getD-set-other, ext-getD}
+use Rattle.laws.specs.Loops.{stop}
 use Rattle.laws.specs.Written.{written}
 
 pub written-none : {A : Type 0} (f : ℕ → A) (l : List A) → l ≡ written 0 f l
@@ -26,7 +27,7 @@ pub written-again : {A : Type 0} (i : ℕ) (f : ℕ → A) (l m : List A) (v : A
 written-again i f l m v p q = rw (written-more i f l, p, q)
 
 pub written-stop : {A : Type 0} (i n : ℕ) (f : ℕ → A) (l m : List A) → m ≡ written i f l → i ≤ n → n ≤ i → m ≡ written n f l
-written-stop i n f l m p a b = let e : i ≡ n = omega arith in p ∙ ap (λ (k : ℕ). written k f l) e
+written-stop i n f l m = stop (λ (k : ℕ). written k f l) m i n
 
 pub written-length : {A : Type 0} (n : ℕ) (f : ℕ → A) (l : List A) → length (written n f l) ≡ length l
 unfolding written
@@ -37,7 +38,10 @@ pub written-at : {A : Type 0} (n : ℕ) (f : ℕ → A) (l : List A) (d : A) (i 
 unfolding written
 written-at zero f l d i p q = absurd (omega arith)
 written-at (suc n) f l d i p q =
-    elim (decLt i n) [ yes s ↦ getD-set-other (written n f l) n i (f n) d (λ e. omega arith) ∙ written-at n f l d i s (omega arith) | no s ↦ here (omega arith) ]
+    elim (decLt i n) [
+      | yes s ↦ getD-set-other (written n f l) n i (f n) d (λ e. omega arith) ∙ written-at n f l d i s (omega arith)
+      | no s ↦ here (omega arith)
+    ]
   where
     here : i ≡ n → getD (set (written n f l) n (f n)) i d ≡ f i
     here e = rw e (getD-set-same (written n f l) n (f n) d (omega (arith, written-length n f l)))
@@ -47,14 +51,11 @@ unfolding written
 written-kept zero f l d i p = refl
 written-kept (suc n) f l d i p = getD-set-other (written n f l) n i (f n) d (λ e. omega arith) ∙ written-kept n f l d i (omega arith)
 
--- a loop that stores one place ahead
-pub written-ahead : {A : Type 0} (i n : ℕ) (f : ℕ → A) (l m : List A) → m ≡ written (i + 1) f l → i ≤ n → n ≤ i → m ≡ written (n + 1) f l
-written-ahead i n f l m p a b = written-stop (i + 1) (n + 1) f l m p (omega arith) (omega arith)
-
 -- what is there already need not be stored
 pub written-same : {A : Type 0} (i : ℕ) (f : ℕ → A) (l m : List A) (d : A) → m ≡ written i f l → f i ≡ getD l i d → m ≡ written (i + 1) f l
 written-same i f l m d p q =
-    p ∙ sym (set-getD (written i f l) i d) ∙ ap (λ (v : _). set (written i f l) i v) (written-kept i f l d i (omega arith) ∙ sym q) ∙ sym (written-more i f l)
+    p ∙ sym (set-getD (written i f l) i d) ∙ ap (λ (v : _). set (written i f l) i v) (written-kept i f l d i (omega arith) ∙ sym q)
+    ∙ sym (written-more i f l)
 
 pub written-cong : {A : Type 0} (n : ℕ) (f g : ℕ → A) (l : List A) → ((i : ℕ) → i < n → f i ≡ g i) → written n f l ≡ written n g l
 unfolding written
@@ -62,13 +63,19 @@ written-cong zero f g l h = refl
 written-cong (suc n) f g l h = ap₂ (λ (m : List _) (v : _). set m n v) (written-cong n f g l (λ i p. h i (omega arith))) (h n (omega arith))
 
 -- one place more, stored over what was written: g is f but for that place
-pub written-set : {A : Type 0} (n : ℕ) (f g : ℕ → A) (l : List A) (d : A) (c : ℕ) → c < n → n ≤ length l → ((i : ℕ) → i < n → i ≢ c → g i ≡ f i) → set (written n f l) c (g c) ≡ written n g l
-written-set n f g l d c p q h = ext-getD d (set (written n f l) c (g c)) (written n g l) (length-set (written n f l) c (g c) ∙ written-length n f l ∙ sym (written-length n g l)) at
+pub written-set : {A : Type 0} (n : ℕ) (f g : ℕ → A) (l : List A) (d : A) (c : ℕ) → c < n → n ≤ length l →
+    ((i : ℕ) → i < n → i ≢ c → g i ≡ f i) → set (written n f l) c (g c) ≡ written n g l
+written-set n f g l d c p q h =
+    ext-getD d (set (written n f l) c (g c)) (written n g l)
+    (length-set (written n f l) c (g c) ∙ written-length n f l ∙ sym (written-length n g l)) at
   where
     other : (i : ℕ) → i ≢ c → getD (set (written n f l) c (g c)) i d ≡ getD (written n g l) i d
     other i z =
         getD-set-other (written n f l) c i (g c) d z
-        ∙ elim (decLt i n) [ yes t ↦ written-at n f l d i t q ∙ sym (h i t z) ∙ sym (written-at n g l d i t q) | no t ↦ written-kept n f l d i (omega arith) ∙ sym (written-kept n g l d i (omega arith)) ]
+        ∙ elim (decLt i n) [
+          | yes t ↦ written-at n f l d i t q ∙ sym (h i t z) ∙ sym (written-at n g l d i t q)
+          | no t ↦ written-kept n f l d i (omega arith) ∙ sym (written-kept n g l d i (omega arith))
+        ]
 
     same : (i : ℕ) → i ≡ c → getD (set (written n f l) c (g c)) i d ≡ getD (written n g l) i d
     same i z = rw z (getD-set-same (written n f l) c (g c) d (omega (arith, written-length n f l)) ∙ sym (written-at n g l d c p q))
@@ -79,7 +86,11 @@ written-set n f g l d c p q h = ext-getD d (set (written n f l) c (g c)) (writte
 -- ---- an array of zeros with f i stored at each i below n
 
 getD-zero : (k i : ℕ) → getD {A = ℕ} (replicate k 0) i 0 ≡ 0
-getD-zero k i = elim (decLt i k) [ yes p ↦ getD-replicate k i 0 0 p | no p ↦ List·getD-eq-default (replicate k 0) 0 (omega (arith, length-replicate {A = ℕ} k 0)) ]
+getD-zero k i =
+    elim (decLt i k) [
+      | yes p ↦ getD-replicate k i 0 0 p
+      | no p ↦ List·getD-eq-default (replicate k 0) 0 (omega (arith, length-replicate {A = ℕ} k 0))
+    ]
 
 pub stored-at : (n k : ℕ) (f : ℕ → ℕ) (i : ℕ) → i < n → n ≤ k → getD (written n f (replicate k 0)) i 0 ≡ f i
 stored-at n k f i p q = written-at n f (replicate k 0) 0 i p (omega (arith, length-replicate {A = ℕ} k 0))
@@ -87,5 +98,7 @@ stored-at n k f i p q = written-at n f (replicate k 0) 0 i p (omega (arith, leng
 pub stored-past : (n k : ℕ) (f : ℕ → ℕ) (i : ℕ) → n ≤ i → getD (written n f (replicate k 0)) i 0 ≡ 0
 stored-past n k f i p = written-kept n f (replicate k 0) 0 i p ∙ getD-zero k i
 
-pub stored-most : (n k most : ℕ) (f : ℕ → ℕ) → ((i : ℕ) → i < n → f i ≤ most) → n ≤ k → (i : ℕ) → getD (written n f (replicate k 0)) i 0 ≤ most
-stored-most n k most f h q i = elim (decLt i n) [ yes p ↦ omega (arith, stored-at n k f i p q, h i p) | no p ↦ omega (arith, stored-past n k f i (omega arith)) ]
+pub stored-most : (n k most : ℕ) (f : ℕ → ℕ) → ((i : ℕ) → i < n → f i ≤ most) → n ≤ k → (i : ℕ) →
+    getD (written n f (replicate k 0)) i 0 ≤ most
+stored-most n k most f h q i =
+    elim (decLt i n) [ yes p ↦ omega (arith, stored-at n k f i p q, h i p) | no p ↦ omega (arith, stored-past n k f i (omega arith)) ]

@@ -15,11 +15,12 @@ use Rattle.laws.specs.Sum.{sumTo}
 use Rattle.laws.specs.Sum.Properties.{sum-none, sum-suc, sum-cong}
 use Rattle.laws.specs.First.Properties.{first-le, first-holds, first-some}
 use Rattle.laws.specs.Count.{countTo}
-use Rattle.laws.specs.Count.Properties.{count-le, count-cong, count-between, between-yes, between-low, between-high}
+use Rattle.laws.specs.Count.Properties.{count-le, count-cong, count-between, between-yes}
 use Rattle.plan.specs.declared.Plan.{Plan}
 use Rattle.plan.specs.Order.{budgetOf, budgets, projectOf, InOrder}
 use Rattle.layout.specs.Cards.{cardsBelow, heldFrom}
-use Rattle.layout.specs.Cards.Properties.{below-start, below-grows, below-frame, below-cell, past-cell, run-closed, run-least, run-most, run-ceiling, run-frame}
+use Rattle.layout.specs.Cards.Properties.{below-start, below-grows, below-frame, below-cell, past-cell, run-card, run-closed}
+use Rattle.layout.specs.Cards.Properties.{run-least, run-most, run-ceiling, run-frame}
 use Rattle.layout.specs.Layout.{cellAt, firstCell, owns, slotOf, held}
 
 -- ---- cells
@@ -104,7 +105,15 @@ slot-free p x h = named (slotOf p x) refl
   where
     named : (n : ℕ) → slotOf p x ≡ n → slotOf p x ≡ 0
     named zero q = q
-    named (suc j) q = absurd (omega (arith, slot-most p x, owns-to p j x (slot-owner p j x q), first-suc p j, first-grows p (suc j) (p .projects) (omega (arith, slot-most p x))))
+    named (suc j) q =
+        absurd (omega (
+          arith,
+          slot-most p x,
+          owns-to p j x (slot-owner p j x q),
+          first-suc p j,
+          first-grows p (suc j) (p .projects)
+              (omega (arith, slot-most p x)),
+        ))
 
 -- "0 for a free cell": it is past every project's
 pub free-slot : (p : Plan) (x : ℕ) → slotOf p x ≡ 0 → firstCell p (p .projects) ≤ x
@@ -112,31 +121,33 @@ free-slot p x e = upTo (p .projects) (omega arith)
   where
     upTo : (n : ℕ) → n ≤ p .projects → firstCell p n ≤ x
     upTo zero l = omega (arith, first-start p)
-    upTo (suc n) l = elim (decLt x (firstCell p (suc n))) [ yes q ↦ absurd (omega (arith, slot-owned p n x (omega arith) (owns-yes p n x (upTo n (omega arith)) (omega (arith, first-suc p n))))) | no q ↦ omega arith ]
+    upTo (suc n) l =
+        elim (decLt x (firstCell p (suc n))) [
+          | yes q ↦
+              absurd (omega (arith, slot-owned p n x (omega arith) (owns-yes p n x (upTo n (omega arith)) (omega (arith, first-suc p n)))))
+          | no q ↦ omega arith
+        ]
 
 -- ---- a project's cards at a slice are consecutive: from card `cardsBelow` of its first cell on, up to that of the next project's
 
 module _ (p : Plan) (j slice : ℕ) (l : slice < p .frame) where
-  owns-card : (card : ℕ) → owns p j (cellAt (p .frame) card slice) ≡ (leb (cardsBelow (p .frame) (firstCell p j) slice) card && ltb card (cardsBelow (p .frame) (firstCell p (j + 1)) slice))
+  owns-card : (card : ℕ) → owns p j (cellAt (p .frame) card slice) ≡
+      (leb (cardsBelow (p .frame) (firstCell p j) slice) card && ltb card (cardsBelow (p .frame) (firstCell p (j + 1)) slice))
   unfolding owns
-  owns-card card =
-      rw (first-next p j)
-      (elim (decLt (cellAt (p .frame) card slice) (firstCell p j)) [
-        | yes q ↦ between-low (firstCell p j) (firstCell p j + budgetOf p j) (cellAt (p .frame) card slice) q ∙ sym (between-low (cardsBelow (p .frame) (firstCell p j) slice) (cardsBelow (p .frame) (firstCell p j + budgetOf p j) slice) card (below-cell (p .frame) slice l (firstCell p j) card q))
-        | no q ↦ elim (decLt (cellAt (p .frame) card slice) (firstCell p j + budgetOf p j)) [
-          | yes r ↦ between-yes (firstCell p j) (firstCell p j + budgetOf p j) (cellAt (p .frame) card slice) (omega arith) r ∙ sym (between-yes (cardsBelow (p .frame) (firstCell p j) slice) (cardsBelow (p .frame) (firstCell p j + budgetOf p j) slice) card (past-cell (p .frame) slice l (firstCell p j) card (omega arith)) (below-cell (p .frame) slice l (firstCell p j + budgetOf p j) card r))
-          | no r ↦ between-high (firstCell p j) (firstCell p j + budgetOf p j) (cellAt (p .frame) card slice) (omega arith) ∙ sym (between-high (cardsBelow (p .frame) (firstCell p j) slice) (cardsBelow (p .frame) (firstCell p j + budgetOf p j) slice) card (past-cell (p .frame) slice l (firstCell p j + budgetOf p j) card (omega arith)))
-        ]
-      ])
+  owns-card card = rw (first-next p j) (run-card (p .frame) slice l (firstCell p j) (budgetOf p j) card)
 
-  pub card-owned : (card : ℕ) → cardsBelow (p .frame) (firstCell p j) slice ≤ card → card < cardsBelow (p .frame) (firstCell p (j + 1)) slice → owns p j (cellAt (p .frame) card slice) ≡ true
-  card-owned card a b = owns-card card ∙ between-yes (cardsBelow (p .frame) (firstCell p j) slice) (cardsBelow (p .frame) (firstCell p (j + 1)) slice) card a b
+  pub card-owned : (card : ℕ) → cardsBelow (p .frame) (firstCell p j) slice ≤ card →
+      card < cardsBelow (p .frame) (firstCell p (j + 1)) slice → owns p j (cellAt (p .frame) card slice) ≡ true
+  card-owned card a b =
+      owns-card card
+      ∙ between-yes (cardsBelow (p .frame) (firstCell p j) slice) (cardsBelow (p .frame) (firstCell p (j + 1)) slice) card a b
 
   pub owned-from : (card : ℕ) → owns p j (cellAt (p .frame) card slice) ≡ true → cardsBelow (p .frame) (firstCell p j) slice ≤ card
   owned-from card e = past-cell (p .frame) slice l (firstCell p j) card (owns-from p j (cellAt (p .frame) card slice) e)
 
   pub owned-to : (card : ℕ) → owns p j (cellAt (p .frame) card slice) ≡ true → card < cardsBelow (p .frame) (firstCell p (j + 1)) slice
-  owned-to card e = below-cell (p .frame) slice l (firstCell p (j + 1)) card (omega (arith, first-next p j, owns-to p j (cellAt (p .frame) card slice) e))
+  owned-to card e =
+      below-cell (p .frame) slice l (firstCell p (j + 1)) card (omega (arith, first-next p j, owns-to p j (cellAt (p .frame) card slice) e))
 
 -- ---- a plan in order
 
@@ -153,7 +164,8 @@ first-most p o j l = omega (arith, first-grows p j (p .projects) l, o .cells)
 pub below-cards : (p : Plan) → InOrder p → (s i : ℕ) → i ≤ p .projects → cardsBelow (p .frame) (firstCell p i) (s % p .frame) ≤ p .cards
 below-cards p o s i h =
     let slice-in : s % p .frame < p .frame = mod-lt s (o .counts .some-slice) in
-    let e : cardsBelow (p .frame) (p .cards * p .frame) (s % p .frame) ≡ p .cards = below-frame (p .frame) (s % p .frame) slice-in (p .cards) in
+    let e : cardsBelow (p .frame) (p .cards * p .frame) (s % p .frame) ≡ p .cards = below-frame (p .frame) (s % p .frame) slice-in
+    (p .cards) in
     omega (arith, e, below-grows (p .frame) (s % p .frame) slice-in (firstCell p i) (p .cards * p .frame) (first-most p o i h))
 
 module _ (p : Plan) (o : InOrder p) (j : ℕ) (l : j < p .projects) where
@@ -170,13 +182,16 @@ module _ (p : Plan) (o : InOrder p) (j : ℕ) (l : j < p .projects) where
     slice-in : s % p .frame < p .frame
     slice-in = mod-lt s (o .counts .some-slice)
 
-    pub held-closed : held p j s ≡ cardsBelow (p .frame) (firstCell p (j + 1)) (s % p .frame) - cardsBelow (p .frame) (firstCell p j) (s % p .frame)
+    pub held-closed : held p j s ≡ cardsBelow (p .frame) (firstCell p (j + 1)) (s % p .frame) - cardsBelow (p .frame) (firstCell p j)
+        (s % p .frame)
     unfolding held
     held-closed =
         let low = cardsBelow (p .frame) (firstCell p j) (s % p .frame) in
         let high = cardsBelow (p .frame) (firstCell p (j + 1)) (s % p .frame) in
-        let a : low ≤ high = below-grows (p .frame) (s % p .frame) slice-in (firstCell p j) (firstCell p (j + 1)) (omega (arith, first-next p j)) in
-        count-cong (p .cards) (λ card. owns p j (cellAt (p .frame) card (s % p .frame))) (λ card. leb low card && ltb card high) (λ card q. owns-card p j (s % p .frame) slice-in card)
+        let a : low ≤ high = below-grows (p .frame) (s % p .frame) slice-in (firstCell p j) (firstCell p (j + 1))
+        (omega (arith, first-next p j)) in
+        count-cong (p .cards) (λ card. owns p j (cellAt (p .frame) card (s % p .frame))) (λ card. leb low card && ltb card high)
+        (λ card q. owns-card p j (s % p .frame) slice-in card)
         ∙ count-between (p .cards) low high a
         ∙ omega (arith, a, below-cards p o s j (omega arith), below-cards p o s (j + 1) (omega arith))
 
@@ -193,23 +208,35 @@ module _ (p : Plan) (o : InOrder p) (j : ℕ) (l : j < p .projects) where
 
     -- "a project holds at slice s either floor(B/F) or that plus one card"
     pub held-either : (held p j s ≡ budgetOf p j / p .frame) ⊎ (held p j s ≡ budgetOf p j / p .frame + 1)
-    held-either = elim (decLe (held p j s) (budgetOf p j / p .frame)) [ yes q ↦ inl (omega (arith, held-least)) | no q ↦ inr (omega (arith, held-most)) ]
+    held-either =
+        elim (decLe (held p j s) (budgetOf p j / p .frame)) [
+          | yes q ↦ inl (omega (arith, held-least))
+          | no q ↦ inr (omega (arith, held-most))
+        ]
 
     -- ".. never more than q"
     pub held-ceiling : held p j s ≤ projectOf p j .ceiling
-    held-ceiling = rw held-from (run-ceiling (firstCell p j) (budgetOf p j) (p .frame) s (o .counts .some-slice) (projectOf p j .ceiling) (o .project-at j l .budget-most))
+    held-ceiling =
+        rw held-from (run-ceiling (firstCell p j) (budgetOf p j) (p .frame) s (o .counts .some-slice) (projectOf p j .ceiling)
+        (o .project-at j l .budget-most))
 
     -- its cards at a slice are the `held` cards from `cardsBelow` of its first cell on, and no others
-    pub held-owned : (k : ℕ) → k < held p j s → owns p j (cellAt (p .frame) (cardsBelow (p .frame) (firstCell p j) (s % p .frame) + k) (s % p .frame)) ≡ true
-    held-owned k h = card-owned p j (s % p .frame) slice-in (cardsBelow (p .frame) (firstCell p j) (s % p .frame) + k) (omega arith) (omega (arith, held-closed))
+    pub held-owned : (k : ℕ) → k < held p j s →
+        owns p j (cellAt (p .frame) (cardsBelow (p .frame) (firstCell p j) (s % p .frame) + k) (s % p .frame)) ≡ true
+    held-owned k h =
+        card-owned p j (s % p .frame) slice-in (cardsBelow (p .frame) (firstCell p j) (s % p .frame) + k) (omega arith)
+        (omega (arith, held-closed))
 
-    pub owned-held : (card : ℕ) → owns p j (cellAt (p .frame) card (s % p .frame)) ≡ true → card < cardsBelow (p .frame) (firstCell p j) (s % p .frame) + held p j s
-    owned-held card e = omega (arith, held-closed, owned-from p j (s % p .frame) slice-in card e, owned-to p j (s % p .frame) slice-in card e)
+    pub owned-held : (card : ℕ) → owns p j (cellAt (p .frame) card (s % p .frame)) ≡ true →
+        card < cardsBelow (p .frame) (firstCell p j) (s % p .frame) + held p j s
+    owned-held card e =
+        omega (arith, held-closed, owned-from p j (s % p .frame) slice-in card e, owned-to p j (s % p .frame) slice-in card e)
 
   -- over any F slices in a row it holds exactly B
   pub held-frame : (a : ℕ) → sumTo (p .frame) (λ s. held p j (a + s)) ≡ budgetOf p j
   held-frame a =
-      sum-cong (p .frame) (λ s. held p j (a + s)) (λ s. heldFrom (firstCell p j) (budgetOf p j) (p .frame) (a + s)) (λ s q. held-from (a + s))
+      sum-cong (p .frame) (λ s. held p j (a + s)) (λ s. heldFrom (firstCell p j) (budgetOf p j) (p .frame) (a + s))
+      (λ s q. held-from (a + s))
       ∙ run-frame (firstCell p j) (budgetOf p j) (p .frame) a (o .counts .some-slice)
 
 -- the projects together hold no more cards than there are
@@ -222,7 +249,14 @@ held-together p o s = omega (arith, upTo (p .projects) (omega arith), below-card
     upTo : (n : ℕ) → n ≤ p .projects → sumTo n (λ j. held p j s) ≡ cardsBelow (p .frame) (firstCell p n) (s % p .frame)
     upTo zero h = sym (sum-none (λ j. held p j s)) ∙ sym (rw (first-start p) (below-start (p .frame) (s % p .frame) slice-in'))
     upTo (suc n) h =
-        omega (arith, sum-suc n (λ j. held p j s), upTo n (omega arith), held-closed p o n (omega arith) s, ap (λ (i : ℕ). cardsBelow (p .frame) (firstCell p i) (s % p .frame)) (add-one n), below-grows (p .frame) (s % p .frame) slice-in' (firstCell p n) (firstCell p (suc n)) (first-grows p n (suc n) (omega arith)))
+        omega (
+          arith,
+          sum-suc n (λ j. held p j s),
+          upTo n (omega arith),
+          held-closed p o n (omega arith) s,
+          ap (λ (i : ℕ). cardsBelow (p .frame) (firstCell p i) (s % p .frame)) (add-one n),
+          below-grows (p .frame) (s % p .frame) slice-in' (firstCell p n) (firstCell p (suc n)) (first-grows p n (suc n) (omega arith)),
+        )
 
 -- ---- h(s) of any plan
 

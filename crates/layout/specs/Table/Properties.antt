@@ -9,9 +9,9 @@ use borrow.Author.Tests.{lt-ltb, le-ltb}
 use Rattle.laws.specs.Written.Properties.{written-at, written-kept}
 use Rattle.plan.specs.declared.Plan.{Plan}
 use Rattle.answer.specs.declared.Answer.{Answer}
+use Rattle.answer.specs.Answer.{bare}
 use Rattle.answer.specs.declared.Answer.the-variants.{Good, No}
 use Rattle.answer.specs.declared.Refusal.{Refusal}
-use Rattle.answer.specs.declared.Refusal.the-variants.{Bare}
 use Rattle.plan.specs.Order.{checked}
 use Rattle.plan.specs.Order.Properties.{check-opened}
 use Rattle.layout.specs.Cards.Properties.{card-cells}
@@ -21,21 +21,24 @@ use Rattle.layout.specs.Table.{tableLength, tableOver, tableAnswer, Tabl
 
 -- ---- the ways out. a is what the record check answered
 
-pub table-refused : (p : Plan) (bytes : List ℕ) (a : Answer) (w : Refusal) → a ≡ No w → a ≡ checked p → Tabled p bytes bytes (record { answer = a; count = 0 })
+pub table-refused : (p : Plan) (out : List ℕ) (a : Answer) (w : Refusal) → a ≡ No w → a ≡ checked p →
+    Tabled p out (record { answer = a; count = 0 }) out
 unfolding tableAnswer
-table-refused p bytes a w e q = record { answer = rw (← q, e); count = rw (← q, e); bytes = rw (← q, e) }
+table-refused p out a w e q = record { result = rw (← q, e); buffer = rw (← q, e) }
 
-pub table-short : (p : Plan) (bytes : List ℕ) (a : Answer) → a ≡ Good → a ≡ checked p → length bytes < p .cards * p .frame → Tabled p bytes bytes (record { answer = No (Bare 9); count = 0 })
+pub table-short : (p : Plan) (out : List ℕ) (a x : Answer) → a ≡ Good → a ≡ checked p → x ≡ bare 9 →
+    length out < p .cards * p .frame → Tabled p out (record { answer = x; count = 0 }) out
 unfolding tableAnswer tableLength
-table-short p bytes a e q l =
-    let t = lt-ltb (length bytes) (p .cards * p .frame) l in
-    record { answer = rw (← q, e, t); count = rw (← q, e, t); bytes = rw (← q, e, t) }
+table-short p out a x e q b l =
+    let t = lt-ltb (length out) (p .cards * p .frame) l in
+    record { result = rw (← q, e, t, b); buffer = rw (← q, e, t) }
 
-pub table-good : (p : Plan) (entry exit : List ℕ) (a : Answer) → a ≡ Good → a ≡ checked p → p .cards * p .frame ≤ length entry → exit ≡ tableOver p entry → Tabled p entry exit (record { answer = Good; count = p .cards * p .frame })
+pub table-good : (p : Plan) (out after : List ℕ) (a : Answer) → a ≡ Good → a ≡ checked p → p .cards * p .frame ≤ length out →
+    after ≡ tableOver p out → Tabled p out (record { answer = Good; count = p .cards * p .frame }) after
 unfolding tableAnswer tableLength
-table-good p entry exit a e q l f =
-    let t = le-ltb (length entry) (p .cards * p .frame) l in
-    record { answer = rw (← q, e, t); count = rw (← q, e, t); bytes = rw (← q, e, t) f }
+table-good p out after a e q l f =
+    let t = le-ltb (length out) (p .cards * p .frame) l in
+    record { result = rw (← q, e, t); buffer = rw (← q, e, t) f }
 
 pub ruleset table-ways = (table-refused, table-short, table-good)
 
@@ -51,9 +54,11 @@ opened-room p n l = l
 -- ---- what a good table holds
 
 -- a card's byte at a slice is the slot of its cell
-pub table-slot : (p : Plan) (bytes : List ℕ) (card slice : ℕ) → tableLength p ≤ length bytes → card < p .cards → slice < p .frame → getD (tableOver p bytes) (cellAt (p .frame) card slice) 0 ≡ slotOf p (cellAt (p .frame) card slice)
+pub table-slot : (p : Plan) (bytes : List ℕ) (card slice : ℕ) → tableLength p ≤ length bytes → card < p .cards → slice < p .frame →
+    getD (tableOver p bytes) (cellAt (p .frame) card slice) 0 ≡ slotOf p (cellAt (p .frame) card slice)
 unfolding tableOver tableLength cellAt
-table-slot p bytes card slice l a b = written-at (p .cards * p .frame) (slotOf p) bytes 0 (card * p .frame + slice) (omega (arith, card-cells (p .frame) card (p .cards) a)) l
+table-slot p bytes card slice l a b =
+    written-at (p .cards * p .frame) (slotOf p) bytes 0 (card * p .frame + slice) (omega (arith, card-cells (p .frame) card (p .cards) a)) l
 
 -- "bytes past those needed keep their value"
 pub table-kept : (p : Plan) (bytes : List ℕ) (x : ℕ) → tableLength p ≤ x → getD (tableOver p bytes) x 0 ≡ getD bytes x 0

@@ -11,11 +11,12 @@ use Rattle.laws.specs.All.Properties.{all-at, all-of}
 use Rattle.plan.specs.declared.Plan.{Plan}
 use Rattle.answer.specs.declared.Answer.{Answer}
 use Rattle.answer.specs.declared.Answer.the-variants.{Good}
-use Rattle.answer.specs.declared.Refusal.the-variants.{Bare, ByProject, ByKind}
 use Rattle.plan.specs.Record.{noProject, noKind}
-use Rattle.answer.specs.Answer.{refuse, _andThen_}
+use Rattle.answer.specs.Answer.{atKind, refuse, _andThen_}
 use Rattle.answer.specs.Answer.Properties.{andThen-left, andThen-right, refuse-good, each-at, each-of}
-use Rattle.plan.specs.Order.{Sized, ProjectInRange, KindInRange, InOrder, within, sized, emptyProject, emptyKind, tidyProject, tidyKind, tidyProjects, tidyKinds, inRange, timed, budgets, projectOf, kindOf, sizes, unused, projectInRange, projectsInRange, kindInRange, kindInRangeAt, kindsInRange, budgetsFit, ranges, checked}
+use Rattle.plan.specs.Order.{Sized, ProjectInRange, KindInRange, InOrder, within, sized, emptyProject, emptyKind, tidyProject}
+use Rattle.plan.specs.Order.{tidyKind, tidyProjects, tidyKinds, inRange, timed, budgets, projectOf, kindOf, sizes, unused}
+use Rattle.plan.specs.Order.{projectInRange, projectsInRange, kindInRange, kindInRangeAt, kindsInRange, budgetsFit, ranges, checked}
 
 -- ---- "1..most"
 
@@ -56,7 +57,7 @@ sized-says p e =
 -- no 2: every count is in range
 pub sizes-says : (p : Plan) → sizes p ≡ Good → Sized p
 unfolding sizes
-sizes-says p e = sized-says p (not-false (sized p) (refuse-good (not (sized p)) (Bare 2) e))
+sizes-says p e = sized-says p (not-false (sized p) (refuse-good (not (sized p)) _ e))
 
 -- what the stage answered, opened
 pub sizes-opened : (p : Plan) (r : Answer) → r ≡ Good → r ≡ sizes p → Sized p
@@ -72,7 +73,12 @@ kinds-opened p r e q = sizes-opened p r e q .kinds-most
 pub sizes-of : (p : Plan) → Sized p → sizes p ≡ Good
 unfolding sizes sized
 sizes-of p s =
-    rw (within-of 8 (p .cards) (s .some-card) (s .cards-most), within-of 8 (p .projects) (s .some-project) (s .projects-most), within-of 16 (p .kinds) (s .some-kind) (s .kinds-most), within-of 64 (p .frame) (s .some-slice) (s .frame-most))
+    rw (
+      within-of 8 (p .cards) (s .some-card) (s .cards-most),
+      within-of 8 (p .projects) (s .some-project) (s .projects-most),
+      within-of 16 (p .kinds) (s .some-kind) (s .kinds-most),
+      within-of 64 (p .frame) (s .some-slice) (s .frame-most),
+    )
 
 -- ---- a place: used, empty, or beyond the used ones and not empty. r is what the test of emptiness answered
 
@@ -110,7 +116,7 @@ pub project-says : (p : Plan) (j : ℕ) → projectInRange p j ≡ Good → Proj
 unfolding inRange
 project-says p j e =
     let v = projectOf p j in
-    let t = not-false (inRange (p .cards) (p .frame) v) (refuse-good (not (inRange (p .cards) (p .frame) v)) (ByProject 4 j) e) in
+    let t = not-false (inRange (p .cards) (p .frame) v) (refuse-good (not (inRange (p .cards) (p .frame) v)) _ e) in
     let a = and-left (within (p .cards) (v .ceiling)) (within (v .ceiling * p .frame) (v .budget)) t in
     let b = and-right (within (p .cards) (v .ceiling)) (within (v .ceiling * p .frame) (v .budget)) t in
     record {
@@ -125,17 +131,20 @@ pub project-of : (p : Plan) (j : ℕ) → ProjectInRange p (projectOf p j) → p
 unfolding inRange
 project-of p j r =
     let v = projectOf p j in
-    rw (within-of (p .cards) (v .ceiling) (r .some-ceiling) (r .ceiling-most), within-of (v .ceiling * p .frame) (v .budget) (r .some-budget) (r .budget-most))
+    rw (
+      within-of (p .cards) (v .ceiling) (r .some-ceiling) (r .ceiling-most),
+      within-of (v .ceiling * p .frame) (v .budget) (r .some-budget) (r .budget-most),
+    )
 
 -- no 5 and no 6: "names its project .. with 1 <= C <= D <= T <= 4095"
 pub kind-says : (p : Plan) (i : ℕ) → kindInRangeAt p i ≡ Good → KindInRange p (kindOf p i)
 unfolding kindInRange timed
 kind-says p i e =
     let v = kindOf p i in
-    let five = refuse (not (ltb (v .project) (p .projects))) (ByKind 5 i 0) in
-    let six = refuse (not (timed v)) (ByKind 6 i 0) in
-    let a = not-false (ltb (v .project) (p .projects)) (refuse-good (not (ltb (v .project) (p .projects))) (ByKind 5 i 0) (andThen-left five six e)) in
-    let t = not-false (timed v) (refuse-good (not (timed v)) (ByKind 6 i 0) (andThen-right five six e)) in
+    let five = refuse (not (ltb (v .project) (p .projects))) (atKind 5 i) in
+    let six = refuse (not (timed v)) (atKind 6 i) in
+    let a = not-false (ltb (v .project) (p .projects)) (refuse-good (not (ltb (v .project) (p .projects))) _ (andThen-left five six e)) in
+    let t = not-false (timed v) (refuse-good (not (timed v)) _ (andThen-right five six e)) in
     let one = not (eqb (v .length) 0) in
     let two = leb (v .length) (v .deadline) in
     let three = leb (v .deadline) (v .separation) in
@@ -156,7 +165,13 @@ pub kind-of : (p : Plan) (i : ℕ) → KindInRange p (kindOf p i) → kindInRang
 unfolding kindInRange timed
 kind-of p i r =
     let v = kindOf p i in
-    rw (lt-ltb (v .project) (p .projects) (r .its-project), ne-eqb (v .length) 0 (λ e. omega (arith, r .some-length)), le-leb (v .length) (v .deadline) (r .length-most), le-leb (v .deadline) (v .separation) (r .deadline-most), le-leb (v .separation) 4095 (r .separation-most))
+    rw (
+      lt-ltb (v .project) (p .projects) (r .its-project),
+      ne-eqb (v .length) 0 (λ e. omega (arith, r .some-length)),
+      le-leb (v .length) (v .deadline) (r .length-most),
+      le-leb (v .deadline) (v .separation) (r .deadline-most),
+      le-leb (v .separation) 4095 (r .separation-most),
+    )
 
 -- ---- the whole record
 
@@ -172,23 +187,31 @@ in-order p e =
     let a = andThen-right two (three andThen ranges p) e in
     let b = andThen-right three (ranges p) a in
     let d = andThen-right four (six andThen seven) b in
-    let u = andThen-left three (ranges p) a in
-    let tp = refuse (not (tidyProjects p)) (Bare 3) in
-    let tk = refuse (not (tidyKinds p)) (Bare 3) in
+    let t = not-false (tidyProjects p && tidyKinds p)
+    (refuse-good (not (tidyProjects p && tidyKinds p)) _ (andThen-left three (ranges p) a)) in
     record {
       counts = sizes-says p (andThen-left two (three andThen ranges p) e);
-      projects-tidy = all-at 8 (tidyProject p) (not-false (tidyProjects p) (refuse-good (not (tidyProjects p)) (Bare 3) (andThen-left tp tk u)));
-      kinds-tidy = all-at 16 (tidyKind p) (not-false (tidyKinds p) (refuse-good (not (tidyKinds p)) (Bare 3) (andThen-right tp tk u)));
+      projects-tidy = all-at 8 (tidyProject p) (and-left (tidyProjects p) (tidyKinds p) t);
+      kinds-tidy = all-at 16 (tidyKind p) (and-right (tidyProjects p) (tidyKinds p) t);
       project-at = λ j l. project-says p j (each-at (p .projects) (projectInRange p) (andThen-left four (six andThen seven) b) j l);
       kind-at = λ i l. kind-says p i (each-at (p .kinds) (kindInRangeAt p) (andThen-left six seven d) i l);
-      cells = leb-true (budgets p) (p .cards * p .frame) (not-false (leb (budgets p) (p .cards * p .frame)) (refuse-good (not (leb (budgets p) (p .cards * p .frame))) (Bare 7) (andThen-right six seven d)));
+      cells =
+          leb-true (budgets p) (p .cards * p .frame) (not-false (leb (budgets p) (p .cards * p .frame))
+          (refuse-good (not (leb (budgets p) (p .cards * p .frame))) _ (andThen-right six seven d)));
     }
 
 -- and a plan in order has a good answer: nothing else is refused
 pub in-order-good : (p : Plan) → InOrder p → checked p ≡ Good
 unfolding checked unused ranges projectsInRange kindsInRange budgetsFit tidyProjects tidyKinds
 in-order-good p o =
-    rw (sizes-of p (o .counts), all-of 8 (tidyProject p) (o .projects-tidy), all-of 16 (tidyKind p) (o .kinds-tidy), each-of (p .projects) (projectInRange p) (λ j l. project-of p j (o .project-at j l)), each-of (p .kinds) (kindInRangeAt p) (λ i l. kind-of p i (o .kind-at i l)), le-leb (budgets p) (p .cards * p .frame) (o .cells))
+    rw (
+      sizes-of p (o .counts),
+      all-of 8 (tidyProject p) (o .projects-tidy),
+      all-of 16 (tidyKind p) (o .kinds-tidy),
+      each-of (p .projects) (projectInRange p) (λ j l. project-of p j (o .project-at j l)),
+      each-of (p .kinds) (kindInRangeAt p) (λ i l. kind-of p i (o .kind-at i l)),
+      le-leb (budgets p) (p .cards * p .frame) (o .cells),
+    )
 
 -- what the record check answered, opened
 pub check-opened : (p : Plan) (r : Answer) → r ≡ Good → r ≡ checked p → InOrder p

@@ -3,7 +3,7 @@
 use mathlib.Core.Path.{_≡_, refl, sym, ap, ap₂, _∙_}
 use mathlib.Core.Bool.{Bool, true, _&&_, _||_}
 use mathlib.Core.List.{List, [], _∷_, _++_, append-assoc}
-use Prim.Native.Nat.{ℕ, zero, suc, _+_, _*_, _^_, _≤_, _<_}
+use Prim.Native.Nat.{ℕ, zero, suc, _+_, _*_, _≤_, _<_}
 use native.Mathlib.Nat.{mul-le-mul}
 use native.Mathlib.Decide.{decLt}
 use native.Mathlib.Omega.{arith}
@@ -22,66 +22,54 @@ use Rattle.answer.specs.declared.Answer.the-variants.{Good}
 use Rattle.plan.specs.Record.{noProject, noKind}
 use Rattle.answer.specs.Answer.{_andThen_}
 use Rattle.answer.specs.Answer.Properties.{andThen-left, andThen-right}
-use Rattle.plan.specs.Order.{projectOf, kindOf, emptyProject, emptyKind, sized, sizes, unused, ranges, checked, InOrder, ProjectInRange, KindInRange}
+use Rattle.plan.specs.Order.{projectOf, kindOf, emptyProject, emptyKind, sized, sizes, unused, ranges, checked, InOrder, ProjectInRange}
+use Rattle.plan.specs.Order.{KindInRange}
 use Rattle.plan.specs.Order.Properties.{in-order}
-use Rattle.plan_bytes.specs.Pack.{bits, pack, unpack, Fitting}
-use Rattle.plan_bytes.specs.Pack.Properties.{pack-bound, unpack-pack}
-use Rattle.plan_bytes.specs.Bytes.{numberTo, bytesOf}
-use Rattle.plan_bytes.specs.Bytes.Properties.{bytes-length, number-append, number-bytes}
-use Rattle.plan_bytes.specs.Parts.{Shaped, headerWidths, projectWidths, kindWidths, headerBytes, projectBytes, kindBytes, projectBytesAt, kindBytesAt, partsTo, encoded, headerFields, projectFields, kindFields, projectFrom, kindFrom, projectAt, kindAt, projectsFrom, kindsFrom, headed, afterHeader, afterProjects, decoded, size}
-use Rattle.plan_bytes.specs.Parts.Properties.{size-header}
-use Rattle.plan_bytes.specs.Put.Properties.{header-length, project-length, kind-length, parts-length}
-use Rattle.plan_bytes.specs.Reading.{headerSpare, projectSpare, kindSpare, projectsSpare, kindsSpare, placesSpare, spareZero, bodyAnswer, readAnswer, reading, readOf}
+use Rattle.codec.specs.Pack.{unpack}
+use Rattle.codec.specs.Bytes.{numberTo}
+use Rattle.codec.specs.Place.{placed, fieldsOf}
+use Rattle.codec.specs.Place.Properties.{fields-placed}
+use Rattle.codec.specs.Places.{partsTo}
+use Rattle.codec.specs.Places.Properties.{parts-length, parts-drop}
+use Rattle.plan_bytes.specs.Parts.{Shaped, headerWidths, projectWidths, kindWidths, headerBytes, projectBytes, kindBytes}
+use Rattle.plan_bytes.specs.Parts.{projectBytesAt, kindBytesAt, encoded, headerFields, projectFields, kindFields, projectFrom}
+use Rattle.plan_bytes.specs.Parts.{kindFrom, projectAt, kindAt, projectsFrom, kindsFrom, headed, afterHeader, afterProjects, decoded}
+use Rattle.plan_bytes.specs.Parts.{size}
+use Rattle.plan_bytes.specs.Parts.Properties.{size-header, header-length, project-length, kind-length}
+use Rattle.plan_bytes.specs.Reading.{headerSpare, projectSpare, kindSpare, projectsSpare, kindsSpare, placesSpare, spareZero}
+use Rattle.plan_bytes.specs.Reading.{bodyAnswer, readAnswer, reading, readOf}
 
 -- ---- a part that was written, whatever follows it
 
--- its fields are the values
-unpacked : (ws vs : List ℕ) (n : ℕ) (rest : List ℕ) → Fitting ws vs → 2 ^ bits ws ≡ 256 ^ n → unpack ws (numberTo n (bytesOf n (pack ws vs) ++ rest)) ≡ vs
-unpacked ws vs n rest f e =
-    let x = pack ws vs in
-    let l : x < 256 ^ n = rw (← e) (pack-bound ws vs f) in
-    let m = bytes-length n x in
-    ap (unpack ws) (number-append n (bytesOf n x) rest (omega arith) ∙ number-bytes n x l) ∙ unpack-pack ws vs f
-
-project-fields : (p : Plan) (v : Project) (rest : List ℕ) → p .cards ≤ 8 → p .frame ≤ 64 → ProjectInRange p v → projectFields (projectBytes v ++ rest) ≡ v .ceiling ∷ v .budget ∷ 0 ∷ []
-unfolding projectFields projectBytes bits
+project-fields : (p : Plan) (v : Project) (rest : List ℕ) → p .cards ≤ 8 → p .frame ≤ 64 → ProjectInRange p v
+    → projectFields (projectBytes v ++ rest) ≡ v .ceiling ∷ v .budget ∷ 0 ∷ []
+unfolding projectFields projectBytes placed fieldsOf
 project-fields p v rest m f r =
     let q : v .ceiling ≤ 8 = omega (arith, r .ceiling-most) in
     let b : v .budget ≤ 8 * 64 = omega (arith, r .budget-most, mul-le-mul q f) in
-    unpacked projectWidths (v .ceiling ∷ v .budget ∷ 0 ∷ []) 2 rest (omega arith, (omega arith, (omega arith, tt))) refl
+    fields-placed projectWidths (v .ceiling ∷ v .budget ∷ 0 ∷ []) rest refl (omega arith, (omega arith, (omega arith, tt)))
 
-kind-fields : (p : Plan) (v : Kind) (rest : List ℕ) → p .projects ≤ 8 → KindInRange p v → kindFields (kindBytes v ++ rest) ≡ v .project ∷ v .separation ∷ v .deadline ∷ v .length ∷ 0 ∷ []
-unfolding kindFields kindBytes bits
+kind-fields : (p : Plan) (v : Kind) (rest : List ℕ) → p .projects ≤ 8 → KindInRange p v
+    → kindFields (kindBytes v ++ rest) ≡ v .project ∷ v .separation ∷ v .deadline ∷ v .length ∷ 0 ∷ []
+unfolding kindFields kindBytes placed fieldsOf
 kind-fields p v rest m r =
     let a = r .its-project in
     let t = r .separation-most in
     let d = r .deadline-most in
     let c = r .length-most in
-    unpacked kindWidths (v .project ∷ v .separation ∷ v .deadline ∷ v .length ∷ 0 ∷ []) 5 rest (omega arith, (omega arith, (omega arith, (omega arith, (omega arith, tt))))) refl
-
--- what stands behind the first parts begins with the next
-pub parts-drop : (n w : ℕ) (f : ℕ → List ℕ) (rest : List ℕ) (i : ℕ) → ((j : ℕ) → length (f j) ≡ w) → i < n → (more : List ℕ) × (drop (w * i) (partsTo n f ++ rest) ≡ f i ++ more)
-unfolding partsTo
-parts-drop zero w f rest i h l = absurd (omega arith)
-parts-drop (suc n) w f rest i h l = elim (decLt i n) [ yes q ↦ earlier (parts-drop n w f (f n ++ rest) i h q) | no q ↦ (rest, here (omega arith)) ]
-  where
-    earlier : ((more : List ℕ) × (drop (w * i) (partsTo n f ++ (f n ++ rest)) ≡ f i ++ more)) → (more : List ℕ) × (drop (w * i) (partsTo n f ++ f n ++ rest) ≡ f i ++ more)
-    earlier t = (t .0, ap (drop (w * i)) (append-assoc (partsTo n f) (f n) rest) ∙ t .1)
-
-    here : i ≡ n → drop (w * i) (partsTo n f ++ f n ++ rest) ≡ f i ++ rest
-    here e =
-        ap (drop (w * i)) (append-assoc (partsTo n f) (f n) rest) ∙ drop-at (partsTo n f) (f n ++ rest) (w * i) (parts-length n f w h ∙ ap (λ (k : ℕ). w * k) (sym e)) ∙ ap (λ (k : ℕ). f k ++ rest) (sym e)
+    fields-placed kindWidths (v .project ∷ v .separation ∷ v .deadline ∷ v .length ∷ 0 ∷ []) rest refl
+    (omega arith, (omega arith, (omega arith, (omega arith, (omega arith, tt)))))
 
 -- ---- a place that holds zeros is the empty one
 
-empty-project : (v : Project) → emptyProject v ≡ true → v ≡ noProject
+pub empty-project : (v : Project) → emptyProject v ≡ true → v ≡ noProject
 unfolding emptyProject
 empty-project v e =
     let a = eqb-true (v .ceiling) 0 (and-left (eqb (v .ceiling) 0) (eqb (v .budget) 0) e) in
     let b = eqb-true (v .budget) 0 (and-right (eqb (v .ceiling) 0) (eqb (v .budget) 0) e) in
     λ i. record { ceiling = a i; budget = b i }
 
-empty-kind : (v : Kind) → emptyKind v ≡ true → v ≡ noKind
+pub empty-kind : (v : Kind) → emptyKind v ≡ true → v ≡ noKind
 unfolding emptyKind
 empty-kind v e =
     let one = eqb (v .project) 0 in
@@ -102,7 +90,7 @@ unfolding sizes sized
 sizes-same p q a b c d = rw (a, b, c, d)
 
 -- beyond the used places
-unused-place : (j n : ℕ) (e : Bool) → n ≤ j → (ltb j n || e) ≡ true → e ≡ true
+pub unused-place : (j n : ℕ) (e : Bool) → n ≤ j → (ltb j n || e) ≡ true → e ≡ true
 unused-place j n e l t = rw (le-ltb j n l) at t
 
 -- ---- a plan in order, its bytes and what follows them
@@ -134,7 +122,7 @@ module _ (p : Plan) (shaped : Shaped p) (good : checked p ≡ Good) (rest : List
 
   -- the header
   header-all : headerFields all ≡ p .cards ∷ p .projects ∷ p .kinds ∷ p .frame ∷ 0 ∷ []
-  unfolding headerFields headerBytes bits
+  unfolding headerFields headerBytes placed fieldsOf
   header-all =
       let c = order .counts in
       let a = c .cards-most in
@@ -142,7 +130,8 @@ module _ (p : Plan) (shaped : Shaped p) (good : checked p ≡ Good) (rest : List
       let d = c .kinds-most in
       let e = c .frame-most in
       ap (λ (s : List ℕ). unpack headerWidths (numberTo 3 s)) all-split
-      ∙ unpacked headerWidths (p .cards ∷ p .projects ∷ p .kinds ∷ p .frame ∷ 0 ∷ []) 3 (projects-part ++ (kinds-part ++ rest)) (omega arith, (omega arith, (omega arith, (omega arith, (omega arith, tt))))) refl
+      ∙ fields-placed headerWidths (p .cards ∷ p .projects ∷ p .kinds ∷ p .frame ∷ 0 ∷ []) (projects-part ++ (kinds-part ++ rest)) refl
+      (omega arith, (omega arith, (omega arith, (omega arith, (omega arith, tt)))))
 
   headed-cards : headed all .cards ≡ p .cards
   unfolding headed
@@ -175,22 +164,28 @@ module _ (p : Plan) (shaped : Shaped p) (good : checked p ≡ Good) (rest : List
   after-projects : afterProjects all ≡ kinds-part ++ rest
   after-projects =
       let h = header-length p in
-      let k : length (headerBytes p ++ projects-part) ≡ 3 + 2 * p .projects = length-append (headerBytes p) projects-part ∙ omega (arith, projects-length) in
-      ap (λ (n : ℕ). drop (3 + 2 * n) all) headed-projects ∙ ap (drop (3 + 2 * p .projects)) (all-split ∙ sym (append-assoc (headerBytes p) projects-part (kinds-part ++ rest)))
+      let k : length (headerBytes p ++ projects-part) ≡ 3 + 2 * p .projects = length-append (headerBytes p) projects-part
+      ∙ omega (arith, projects-length) in
+      ap (λ (n : ℕ). drop (3 + 2 * n) all) headed-projects
+      ∙ ap (drop (3 + 2 * p .projects)) (all-split ∙ sym (append-assoc (headerBytes p) projects-part (kinds-part ++ rest)))
       ∙ drop-at (headerBytes p ++ projects-part) (kinds-part ++ rest) (3 + 2 * p .projects) k
 
-  project-all : (j : ℕ) → j < p .projects → projectFields (projectAt (afterHeader all) j) ≡ projectOf p j .ceiling ∷ projectOf p j .budget ∷ 0 ∷ []
+  project-all : (j : ℕ) → j < p .projects
+      → projectFields (projectAt (afterHeader all) j) ≡ projectOf p j .ceiling ∷ projectOf p j .budget ∷ 0 ∷ []
   unfolding projects-part
   project-all j l =
       let t = parts-drop (p .projects) 2 (projectBytesAt p) (kinds-part ++ rest) j (λ k. project-length (projectOf p k)) l in
       ap (λ (s : List ℕ). projectFields (drop (2 * j) s)) after-header ∙ ap projectFields (t .1)
       ∙ project-fields p (projectOf p j) (t .0) (order .counts .cards-most) (order .counts .frame-most) (order .project-at j l)
 
-  kind-all : (i : ℕ) → i < p .kinds → kindFields (kindAt (afterProjects all) i) ≡ kindOf p i .project ∷ kindOf p i .separation ∷ kindOf p i .deadline ∷ kindOf p i .length ∷ 0 ∷ []
+  kind-all : (i : ℕ) → i < p .kinds
+      → kindFields
+      (kindAt (afterProjects all) i) ≡ kindOf p i .project ∷ kindOf p i .separation ∷ kindOf p i .deadline ∷ kindOf p i .length ∷ 0 ∷ []
   unfolding kinds-part
   kind-all i l =
       let t = parts-drop (p .kinds) 5 (kindBytesAt p) rest i (λ k. kind-length (kindOf p k)) l in
-      ap (λ (s : List ℕ). kindFields (drop (5 * i) s)) after-projects ∙ ap kindFields (t .1) ∙ kind-fields p (kindOf p i) (t .0) (order .counts .projects-most) (order .kind-at i l)
+      ap (λ (s : List ℕ). kindFields (drop (5 * i) s)) after-projects ∙ ap kindFields (t .1)
+      ∙ kind-fields p (kindOf p i) (t .0) (order .counts .projects-most) (order .kind-at i l)
 
   -- the places
   project-is : (j : ℕ) → j < p .projects → projectFrom (projectAt (afterHeader all) j) ≡ projectOf p j
@@ -199,11 +194,13 @@ module _ (p : Plan) (shaped : Shaped p) (good : checked p ≡ Good) (rest : List
 
   kind-is : (k : ℕ) → k < p .kinds → kindFrom (kindAt (afterProjects all) k) ≡ kindOf p k
   unfolding kindFrom
-  kind-is k l = let e = kind-all k l in λ i. record { project = getD (e i) 0 0; separation = getD (e i) 1 0; deadline = getD (e i) 2 0; length = getD (e i) 3 0 }
+  kind-is k l = let e = kind-all k l in
+      λ i. record { project = getD (e i) 0 0; separation = getD (e i) 1 0; deadline = getD (e i) 2 0; length = getD (e i) 3 0 }
 
   projects-all : projectsFrom (headed all .projects) (afterHeader all) ≡ p .project
   unfolding projectsFrom
-  projects-all = ap (λ (n : ℕ). projectsFrom n (afterHeader all)) headed-projects ∙ ext-getD noProject (projectsFrom (p .projects) (afterHeader all)) (p .project) (long ∙ sym (shaped .eight)) same
+  projects-all = ap (λ (n : ℕ). projectsFrom n (afterHeader all)) headed-projects
+      ∙ ext-getD noProject (projectsFrom (p .projects) (afterHeader all)) (p .project) (long ∙ sym (shaped .eight)) same
     where
       f : ℕ → Project
       f j = projectFrom (projectAt (afterHeader all) j)
@@ -211,19 +208,24 @@ module _ (p : Plan) (shaped : Shaped p) (good : checked p ≡ Good) (rest : List
       long : length (written (p .projects) f (replicate 8 noProject)) ≡ 8
       long = written-length (p .projects) f (replicate 8 noProject)
 
-      same : (j : ℕ) → j < length (written (p .projects) f (replicate 8 noProject)) → getD (written (p .projects) f (replicate 8 noProject)) j noProject ≡ projectOf p j
+      same : (j : ℕ) → j < length (written (p .projects) f (replicate 8 noProject))
+          → getD (written (p .projects) f (replicate 8 noProject)) j noProject ≡ projectOf p j
       same j l =
           let m : j < 8 = omega (arith, long) in
           let n = order .counts .projects-most in
           elim (decLt j (p .projects)) [
-            | yes q ↦ written-at (p .projects) f (replicate 8 noProject) noProject j q (omega (arith, length-replicate 8 noProject)) ∙ project-is j q
-            | no q ↦ written-kept (p .projects) f (replicate 8 noProject) noProject j (omega arith) ∙ getD-replicate 8 j noProject noProject m
-                ∙ sym (empty-project (projectOf p j) (unused-place j (p .projects) (emptyProject (projectOf p j)) (omega arith) (order .projects-tidy j m)))
+            | yes q ↦ written-at (p .projects) f (replicate 8 noProject) noProject j q (omega (arith, length-replicate 8 noProject))
+                ∙ project-is j q
+            | no q ↦ written-kept (p .projects) f (replicate 8 noProject) noProject j (omega arith)
+                ∙ getD-replicate 8 j noProject noProject m
+                ∙ sym (empty-project (projectOf p j)
+                (unused-place j (p .projects) (emptyProject (projectOf p j)) (omega arith) (order .projects-tidy j m)))
           ]
 
   kinds-all : kindsFrom (headed all .kinds) (afterProjects all) ≡ p .kind
   unfolding kindsFrom
-  kinds-all = ap (λ (n : ℕ). kindsFrom n (afterProjects all)) headed-kinds ∙ ext-getD noKind (kindsFrom (p .kinds) (afterProjects all)) (p .kind) (long ∙ sym (shaped .sixteen)) same
+  kinds-all = ap (λ (n : ℕ). kindsFrom n (afterProjects all)) headed-kinds
+      ∙ ext-getD noKind (kindsFrom (p .kinds) (afterProjects all)) (p .kind) (long ∙ sym (shaped .sixteen)) same
     where
       f : ℕ → Kind
       f i = kindFrom (kindAt (afterProjects all) i)
@@ -231,7 +233,8 @@ module _ (p : Plan) (shaped : Shaped p) (good : checked p ≡ Good) (rest : List
       long : length (written (p .kinds) f (replicate 16 noKind)) ≡ 16
       long = written-length (p .kinds) f (replicate 16 noKind)
 
-      same : (i : ℕ) → i < length (written (p .kinds) f (replicate 16 noKind)) → getD (written (p .kinds) f (replicate 16 noKind)) i noKind ≡ kindOf p i
+      same : (i : ℕ) → i < length (written (p .kinds) f (replicate 16 noKind))
+          → getD (written (p .kinds) f (replicate 16 noKind)) i noKind ≡ kindOf p i
       same i l =
           let m : i < 16 = omega (arith, long) in
           let n = order .counts .kinds-most in
@@ -243,7 +246,16 @@ module _ (p : Plan) (shaped : Shaped p) (good : checked p ≡ Good) (rest : List
 
   decoded-all : decoded all ≡ p
   unfolding decoded
-  decoded-all = λ i. record { cards = headed-cards i; projects = headed-projects i; kinds = headed-kinds i; frame = headed-frame i; project = projects-all i; kind = kinds-all i }
+  decoded-all =
+      λ i. record {
+        cards = headed-cards i;
+        projects = headed-projects i;
+        kinds = headed-kinds i;
+        frame = headed-frame i;
+        project =
+            projects-all i;
+        kind = kinds-all i;
+      }
 
   -- the stages
   sizes-all : sizes (headed all) ≡ Good
@@ -257,24 +269,36 @@ module _ (p : Plan) (shaped : Shaped p) (good : checked p ≡ Good) (rest : List
   unfolding projectsSpare projectSpare
   projects-clean =
       ap (λ (n : ℕ). projectsSpare n (afterHeader all)) headed-projects
-      ∙ all-of (p .projects) (λ j. eqb (projectSpare (projectAt (afterHeader all) j)) 0) (λ j l. eq-eqb (projectSpare (projectAt (afterHeader all) j)) 0 (ap (λ (s : List ℕ). getD s 2 0) (project-all j l)))
+      ∙ all-of (p .projects) (λ j. eqb (projectSpare (projectAt (afterHeader all) j)) 0)
+      (λ j l. eq-eqb (projectSpare (projectAt (afterHeader all) j)) 0 (ap (λ (s : List ℕ). getD s 2 0) (project-all j l)))
 
   kinds-clean : kindsSpare (headed all .kinds) (afterProjects all) ≡ true
   unfolding kindsSpare kindSpare
   kinds-clean =
       ap (λ (n : ℕ). kindsSpare n (afterProjects all)) headed-kinds
-      ∙ all-of (p .kinds) (λ i. eqb (kindSpare (kindAt (afterProjects all) i)) 0) (λ i l. eq-eqb (kindSpare (kindAt (afterProjects all) i)) 0 (ap (λ (s : List ℕ). getD s 4 0) (kind-all i l)))
+      ∙ all-of (p .kinds) (λ i. eqb (kindSpare (kindAt (afterProjects all) i)) 0)
+      (λ i l. eq-eqb (kindSpare (kindAt (afterProjects all) i)) 0 (ap (λ (s : List ℕ). getD s 4 0) (kind-all i l)))
 
   spare-all : spareZero all ≡ true
   unfolding spareZero placesSpare
-  spare-all = and-both (eqb (headerSpare all) 0) (placesSpare all) header-clean (and-both (projectsSpare (headed all .projects) (afterHeader all)) (kindsSpare (headed all .kinds) (afterProjects all)) projects-clean kinds-clean)
+  spare-all =
+      and-both (eqb (headerSpare all) 0) (placesSpare all) header-clean
+      (and-both (projectsSpare (headed all .projects) (afterHeader all))
+      (kindsSpare (headed all .kinds) (afterProjects all)) projects-clean kinds-clean)
 
   all-long : size p ≤ length all
   unfolding all size encoded projects-part kinds-part
   all-long =
       let h = header-length p in
       let k = parts-length (p .kinds) (kindBytesAt p) 5 (λ i. kind-length (kindOf p i)) in
-      omega (arith, length-append (headerBytes p ++ projects-part ++ kinds-part) rest, length-append (headerBytes p ++ projects-part) kinds-part, length-append (headerBytes p) projects-part, projects-length)
+      omega (
+        arith,
+        length-append (headerBytes p ++ projects-part ++ kinds-part) rest,
+        length-append
+            (headerBytes p ++ projects-part) kinds-part,
+        length-append (headerBytes p) projects-part,
+        projects-length,
+      )
 
   ranges-all : ranges (decoded all) ≡ Good
   ranges-all = ap ranges decoded-all ∙ stage-ranges
@@ -284,8 +308,16 @@ module _ (p : Plan) (shaped : Shaped p) (good : checked p ≡ Good) (rest : List
   answer-all =
       let l = all-long in
       let e = headed-size in
-      rw (le-ltb (length all) 3 (size-header p (length all) l), sizes-all, le-ltb (length all) (size (headed all)) (omega arith), spare-all, ranges-all)
+      rw (
+        le-ltb (length all) 3 (size-header p (length all) l),
+        sizes-all,
+        le-ltb (length all) (size (headed all))
+            (omega arith),
+        spare-all,
+        ranges-all,
+      )
 
   pub read-encoded : readOf (encoded p ++ rest) ≡ record { answer = Good; plan = p; taken = size p }
   unfolding readOf all
-  read-encoded = ap (λ a. reading a (decoded all) (size (headed all))) answer-all ∙ (λ i. record { answer = Good; plan = decoded-all i; taken = headed-size i })
+  read-encoded = ap (λ a. reading a (decoded all) (size (headed all))) answer-all
+      ∙ (λ i. record { answer = Good; plan = decoded-all i; taken = headed-size i })

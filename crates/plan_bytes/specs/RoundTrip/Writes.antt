@@ -3,8 +3,8 @@
 use mathlib.Core.Path.{_≡_, refl, sym, ap, ap₂, _∙_}
 use mathlib.Core.Bool.{true, not}
 use mathlib.Core.List.{List, [], _∷_, _++_}
-use Prim.Native.Nat.{ℕ, zero, suc, _+_, _*_, _%_, _^_, _≤_, _<_}
-use native.Mathlib.Nat.{mod-eq-of-lt, mul-suc, mul-zero}
+use Prim.Native.Nat.{ℕ, zero, suc, _+_, _*_, _≤_, _<_}
+use native.Mathlib.Nat.{mul-suc, mul-zero}
 use native.Mathlib.Omega.{arith}
 use lib.Dec.{ltb, eqb}
 use lib.ListN.{length, getD, take, drop, replicate, length-replicate, length-drop}
@@ -14,18 +14,23 @@ use Rattle.laws.specs.Tests.{and-left, and-right}
 use Rattle.laws.specs.All.Properties.{all-at}
 use Rattle.laws.specs.Written.Properties.{written-at, written-length}
 use Rattle.answer.specs.declared.Answer.the-variants.{Good}
-use Rattle.answer.specs.declared.Refusal.the-variants.{Bare}
 use Rattle.plan.specs.Record.{noProject, noKind}
-use Rattle.answer.specs.Answer.{refuse, _andThen_}
+use Rattle.answer.specs.Answer.{bare, refuse, _andThen_}
 use Rattle.answer.specs.Answer.Properties.{andThen-left, andThen-right, refuse-good}
 use Rattle.plan.specs.Order.{sizes, ranges, checked, Sized}
 use Rattle.plan.specs.Order.Properties.{sizes-says}
-use Rattle.plan_bytes.specs.Pack.{bits, pack, unpack}
-use Rattle.plan_bytes.specs.Pack.Properties.{pack-unpack}
-use Rattle.plan_bytes.specs.Bytes.{numberTo, bytesOf, AreBytes}
-use Rattle.plan_bytes.specs.Bytes.Properties.{number-bound, bytes-number}
-use Rattle.plan_bytes.specs.Parts.{Shaped, headerWidths, projectWidths, kindWidths, headerBytes, projectBytes, kindBytes, projectBytesAt, kindBytesAt, partsTo, encoded, headerFields, projectFields, kindFields, projectFrom, kindFrom, projectAt, kindAt, projectsFrom, kindsFrom, headed, afterHeader, afterProjects, decoded, size}
-use Rattle.plan_bytes.specs.Reading.{headerSpare, projectSpare, kindSpare, projectsSpare, kindsSpare, placesSpare, spareZero, bodyAnswer, readAnswer, readOf}
+use Rattle.codec.specs.Pack.{pack, unpack}
+use Rattle.codec.specs.Bytes.{bytesOf, AreBytes}
+use Rattle.codec.specs.Place.{placed, fieldsOf}
+use Rattle.codec.specs.Place.Properties.{placed-fields}
+use Rattle.codec.specs.Places.{partsTo}
+use Rattle.codec.specs.Places.Properties.{parts-front}
+use Rattle.plan_bytes.specs.Parts.{Shaped, headerWidths, projectWidths, kindWidths, headerBytes, projectBytes, kindBytes}
+use Rattle.plan_bytes.specs.Parts.{projectBytesAt, kindBytesAt, encoded, headerFields, projectFields, kindFields, projectFrom}
+use Rattle.plan_bytes.specs.Parts.{kindFrom, projectAt, kindAt, projectsFrom, kindsFrom, headed, afterHeader, afterProjects, decoded}
+use Rattle.plan_bytes.specs.Parts.{size}
+use Rattle.plan_bytes.specs.Reading.{headerSpare, projectSpare, kindSpare, projectsSpare, kindsSpare, placesSpare, spareZero}
+use Rattle.plan_bytes.specs.Reading.{bodyAnswer, readAnswer, readOf}
 use Rattle.plan_bytes.specs.Reading.Properties.{decoded-checked}
 
 -- ---- what a good answer says, stage by stage
@@ -39,16 +44,17 @@ pub record ReadGood (s : List ℕ) : Type 0 where
 pub read-good : (s : List ℕ) → readAnswer s ≡ Good → ReadGood s
 unfolding readAnswer bodyAnswer
 read-good s e =
-    let one = refuse (ltb (length s) 3) (Bare 1) in
-    let short = refuse (ltb (length s) (size (headed s))) (Bare 1) in
-    let three = refuse (not (spareZero s)) (Bare 3) in
+    let one = refuse (ltb (length s) 3) (bare 1) in
+    let short = refuse (ltb (length s) (size (headed s))) (bare 1) in
+    let three = refuse (not (spareZero s)) (bare 3) in
     let a = andThen-right one (sizes (headed s) andThen bodyAnswer s) e in
     let b = andThen-right (sizes (headed s)) (bodyAnswer s) a in
     let c = andThen-right short (three andThen ranges (decoded s)) b in
     record {
       counts = andThen-left (sizes (headed s)) (bodyAnswer s) a;
-      long = ltb-false (length s) (size (headed s)) (refuse-good (ltb (length s) (size (headed s))) (Bare 1) (andThen-left short (three andThen ranges (decoded s)) b));
-      spare = not-false (spareZero s) (refuse-good (not (spareZero s)) (Bare 3) (andThen-left three (ranges (decoded s)) c));
+      long = ltb-false (length s) (size (headed s))
+          (refuse-good (ltb (length s) (size (headed s))) _ (andThen-left short (three andThen ranges (decoded s)) b));
+      spare = not-false (spareZero s) (refuse-good (not (spareZero s)) _ (andThen-left three (ranges (decoded s)) c));
       in-range = andThen-right three (ranges (decoded s)) c;
     }
 
@@ -89,29 +95,28 @@ read-size s e = taken-is s (answer-is s e) ∙ sym (ap size (plan-is s (answer-i
 bytes-drop : (s : List ℕ) (a : ℕ) → AreBytes s → AreBytes (drop a s)
 bytes-drop s a b i = rw (getD-drop a s i 0) (b (a + i))
 
--- a part whose fields were read off a number, and whose spare bits are zero, is that number's bytes
-repacked : (ws : List ℕ) (n : ℕ) (s : List ℕ) → AreBytes s → n ≤ length s → 2 ^ bits ws ≡ 256 ^ n → bytesOf n (pack ws (unpack ws (numberTo n s))) ≡ take n s
-repacked ws n s b l e =
-    ap (bytesOf n) (pack-unpack ws (numberTo n s) ∙ ap (λ (k : ℕ). numberTo n s % k) e ∙ mod-eq-of-lt (number-bound n s b)) ∙ bytes-number n s b l
+-- a part stored as it was read, its spare bits zero, is the bytes that were read
 
 header-same : (s : List ℕ) → AreBytes s → 3 ≤ length s → headerSpare s ≡ 0 → headerBytes (headed s) ≡ take 3 s
-unfolding headerBytes headed headerSpare headerFields unpack bits
-header-same s b l e = ap (λ (z : ℕ). bytesOf 3 (pack headerWidths (getD (headerFields s) 0 0 ∷ getD (headerFields s) 1 0 ∷ getD (headerFields s) 2 0 ∷ getD (headerFields s) 3 0 ∷ z ∷ []))) (sym e) ∙ repacked headerWidths 3 s b l refl
+unfolding headerBytes headed headerSpare headerFields unpack placed fieldsOf
+header-same s b l e =
+    ap (λ (z : ℕ). bytesOf 3
+    (pack headerWidths
+    (getD (headerFields s) 0 0 ∷ getD (headerFields s) 1 0 ∷ getD (headerFields s) 2 0 ∷ getD (headerFields s) 3 0 ∷ z ∷ []))) (sym e)
+    ∙ placed-fields headerWidths s refl b l
 
 project-same : (s : List ℕ) → AreBytes s → 2 ≤ length s → projectSpare s ≡ 0 → projectBytes (projectFrom s) ≡ take 2 s
-unfolding projectBytes projectFrom projectSpare projectFields unpack bits
-project-same s b l e = ap (λ (z : ℕ). bytesOf 2 (pack projectWidths (getD (projectFields s) 0 0 ∷ getD (projectFields s) 1 0 ∷ z ∷ []))) (sym e) ∙ repacked projectWidths 2 s b l refl
+unfolding projectBytes projectFrom projectSpare projectFields unpack placed fieldsOf
+project-same s b l e =
+    ap (λ (z : ℕ). bytesOf 2 (pack projectWidths (getD (projectFields s) 0 0 ∷ getD (projectFields s) 1 0 ∷ z ∷ []))) (sym e)
+    ∙ placed-fields projectWidths s refl b l
 
 kind-same : (s : List ℕ) → AreBytes s → 5 ≤ length s → kindSpare s ≡ 0 → kindBytes (kindFrom s) ≡ take 5 s
-unfolding kindBytes kindFrom kindSpare kindFields unpack bits
-kind-same s b l e = ap (λ (z : ℕ). bytesOf 5 (pack kindWidths (getD (kindFields s) 0 0 ∷ getD (kindFields s) 1 0 ∷ getD (kindFields s) 2 0 ∷ getD (kindFields s) 3 0 ∷ z ∷ []))) (sym e) ∙ repacked kindWidths 5 s b l refl
-
--- parts cut out one after the other are the front
-parts-front : (n w : ℕ) (f : ℕ → List ℕ) (s : List ℕ) → ((i : ℕ) → i < n → f i ≡ take w (drop (w * i) s)) → partsTo n f ≡ take (w * n) s
-unfolding partsTo
-parts-front zero w f s h = rw (mul-zero w)
-parts-front (suc n) w f s h =
-    ap₂ _++_ (parts-front n w f s (λ i l. h i (omega arith))) (h n (omega arith)) ∙ sym (take-add (w * n) w s) ∙ ap (λ (k : ℕ). take k s) (sym (mul-suc w n))
+unfolding kindBytes kindFrom kindSpare kindFields unpack placed fieldsOf
+kind-same s b l e =
+    ap (λ (z : ℕ). bytesOf 5
+    (pack kindWidths (getD (kindFields s) 0 0 ∷ getD (kindFields s) 1 0 ∷ getD (kindFields s) 2 0 ∷ getD (kindFields s) 3 0 ∷ z ∷ [])))
+    (sym e) ∙ placed-fields kindWidths s refl b l
 
 -- ---- the whole
 
@@ -131,13 +136,16 @@ module _ (s : List ℕ) (b : AreBytes s) (good : ReadGood s) where
   unfolding placesSpare projectsSpare
   project-spare j l =
       let c = and-left (projectsSpare (headed s .projects) (afterHeader s)) (kindsSpare (headed s .kinds) (afterProjects s)) places-clean in
-      eqb-true (projectSpare (projectAt (afterHeader s) j)) 0 (all-at (headed s .projects) (λ k. eqb (projectSpare (projectAt (afterHeader s) k)) 0) c j l)
+      eqb-true (projectSpare (projectAt (afterHeader s) j)) 0
+      (all-at (headed s .projects) (λ k. eqb (projectSpare (projectAt (afterHeader s) k)) 0) c j l)
 
   kind-spare : (i : ℕ) → i < headed s .kinds → kindSpare (kindAt (afterProjects s) i) ≡ 0
   unfolding placesSpare kindsSpare
   kind-spare i l =
-      let c = and-right (projectsSpare (headed s .projects) (afterHeader s)) (kindsSpare (headed s .kinds) (afterProjects s)) places-clean in
-      eqb-true (kindSpare (kindAt (afterProjects s) i)) 0 (all-at (headed s .kinds) (λ k. eqb (kindSpare (kindAt (afterProjects s) k)) 0) c i l)
+      let c = and-right (projectsSpare (headed s .projects) (afterHeader s))
+      (kindsSpare (headed s .kinds) (afterProjects s)) places-clean in
+      eqb-true (kindSpare (kindAt (afterProjects s) i)) 0
+      (all-at (headed s .kinds) (λ k. eqb (kindSpare (kindAt (afterProjects s) k)) 0) c i l)
 
   header-part : headerBytes (decoded s) ≡ take 3 s
   unfolding headerBytes decoded size
@@ -148,26 +156,32 @@ module _ (s : List ℕ) (b : AreBytes s) (good : ReadGood s) where
   project-part j l =
       let m = counts .projects-most in
       let n = good .long in
-      let e = written-at (headed s .projects) (λ k. projectFrom (projectAt (afterHeader s) k)) (replicate 8 noProject) noProject j l (omega (arith, length-replicate 8 noProject)) in
+      let e = written-at (headed s .projects) (λ k. projectFrom (projectAt (afterHeader s) k)) (replicate 8 noProject) noProject j l
+      (omega (arith, length-replicate 8 noProject)) in
       ap projectBytes e
-      ∙ project-same (projectAt (afterHeader s) j) (bytes-drop (afterHeader s) (2 * j) (bytes-drop s 3 b)) (omega (arith, length-drop (2 * j) (afterHeader s), length-drop 3 s)) (project-spare j l)
+      ∙ project-same (projectAt (afterHeader s) j) (bytes-drop (afterHeader s) (2 * j) (bytes-drop s 3 b))
+      (omega (arith, length-drop (2 * j) (afterHeader s), length-drop 3 s)) (project-spare j l)
 
   kind-part : (i : ℕ) → i < headed s .kinds → kindBytesAt (decoded s) i ≡ take 5 (drop (5 * i) (afterProjects s))
   unfolding decoded kindsFrom size
   kind-part i l =
       let m = counts .kinds-most in
       let n = good .long in
-      let e = written-at (headed s .kinds) (λ k. kindFrom (kindAt (afterProjects s) k)) (replicate 16 noKind) noKind i l (omega (arith, length-replicate 16 noKind)) in
+      let e = written-at (headed s .kinds) (λ k. kindFrom (kindAt (afterProjects s) k)) (replicate 16 noKind) noKind i l
+      (omega (arith, length-replicate 16 noKind)) in
       ap kindBytes e
-      ∙ kind-same (kindAt (afterProjects s) i) (bytes-drop (afterProjects s) (5 * i) (bytes-drop s (3 + 2 * headed s .projects) b)) (omega (arith, length-drop (5 * i) (afterProjects s), length-drop (3 + 2 * headed s .projects) s)) (kind-spare i l)
+      ∙ kind-same (kindAt (afterProjects s) i) (bytes-drop (afterProjects s) (5 * i) (bytes-drop s (3 + 2 * headed s .projects) b))
+      (omega (arith, length-drop (5 * i) (afterProjects s), length-drop (3 + 2 * headed s .projects) s)) (kind-spare i l)
 
   decoded-back : encoded (decoded s) ≡ take (size (headed s)) s
   unfolding encoded decoded size
   decoded-back =
       let k = headed s .projects in
       let n = headed s .kinds in
-      ap₂ (λ (x y : List ℕ). x ++ partsTo k (projectBytesAt (decoded s)) ++ y) header-part (parts-front n 5 (kindBytesAt (decoded s)) (afterProjects s) kind-part)
-      ∙ ap (λ (x : List ℕ). take 3 s ++ x ++ take (5 * n) (afterProjects s)) (parts-front k 2 (projectBytesAt (decoded s)) (afterHeader s) project-part)
+      ap₂ (λ (x y : List ℕ). x ++ partsTo k (projectBytesAt (decoded s)) ++ y) header-part
+      (parts-front n 5 (kindBytesAt (decoded s)) (afterProjects s) kind-part)
+      ∙ ap (λ (x : List ℕ). take 3 s ++ x ++ take (5 * n) (afterProjects s))
+      (parts-front k 2 (projectBytesAt (decoded s)) (afterHeader s) project-part)
       ∙ ap (λ (x : List ℕ). x ++ take (5 * n) (afterProjects s)) (sym (take-add 3 (2 * k) s))
       ∙ sym (take-add (3 + 2 * k) (5 * n) s)
 

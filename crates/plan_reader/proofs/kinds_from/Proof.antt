@@ -54,7 +54,13 @@ loop-less : tie.Need-loop-less Inv-loop μ-loop
 loop-less c = search needs
 
 loop-again : tie.Need-loop-again Inv-loop μ-loop
-loop-again c = (omega arith, search, search kinds-again, kinds-spare-again _ _ _ _ _ (c .before .before .before .before .before .before .loop .inv .3) (c .before .before .before .kind-from .ensures .1) (c .both .ensures))
+loop-again c = (
+  omega arith,
+  search,
+  search kinds-again,
+  kinds-spare-again _ _ _ _ _ (c .before .before .before .before .before .before .loop .inv .3)
+      (c .before .before .before .kind-from .ensures .1) (c .both .ensures),
+)
 
 returns : tie.Need-returns Inv-loop μ-loop
 returns c = (search kinds-stop, search kinds-spare-stop)

@@ -12,7 +12,8 @@ use Rattle.plan_reader.proofs.projects_from.Statement.{statement}
 use Rattle.plan_reader.proofs.projects_from.Tie as tie
 
 abbrev Inv-loop : tie.InvT-loop
-Inv-loop s count project₀ clean₀ j₀ j-end project clean j = (j ≤ j-end) × (j-end ≡ count) × (project ≡ projectsFrom j s) × (clean ≡ projectsSpare j s)
+Inv-loop s count project₀ clean₀ j₀ j-end project clean j =
+    (j ≤ j-end) × (j-end ≡ count) × (project ≡ projectsFrom j s) × (clean ≡ projectsSpare j s)
 
 abbrev μ-loop : tie.MeasureT-loop
 μ-loop s count project₀ clean₀ j₀ j-end project clean j = j-end - j
@@ -54,7 +55,14 @@ loop-less : tie.Need-loop-less Inv-loop μ-loop
 loop-less c = search needs
 
 loop-again : tie.Need-loop-again Inv-loop μ-loop
-loop-again c = (omega arith, search, search projects-again, projects-spare-again _ _ _ _ _ (c .before .before .before .before .before .before .loop .inv .3) (c .before .before .before .project-from .ensures .1) (c .both .ensures))
+loop-again c = (
+  omega arith,
+  search,
+  search projects-again,
+  projects-spare-again _ _ _ _ _
+      (c .before .before .before .before .before .before .loop .inv .3) (c .before .before .before .project-from .ensures .1)
+      (c .both .ensures),
+)
 
 returns : tie.Need-returns Inv-loop μ-loop
 returns c = (search projects-stop, search projects-spare-stop)

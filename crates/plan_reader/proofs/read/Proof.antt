@@ -2,17 +2,20 @@
 -- Assumes nothing.
 use Rattle.answer.specs.Answer.Properties.{opened-is}
 use Rattle.plan_bytes.specs.Reading.{readOf}
-use Rattle.plan_bytes.specs.Reading.Properties.{refused-reading, told-reading, read-short, read-sizes, read-body}
+use Rattle.plan_bytes.specs.Reading.Properties.{refused-reading, read-short, read-sizes, read-body}
 use borrow.Author.Needs.{needs}
 use Rattle.plan_reader.proofs.read.Statement.{statement}
 use Rattle.plan_reader.proofs.read.Tie as tie
+
+bare-requires : tie.Need-bare-requires
+bare-requires c κs = search needs
 
 refused-requires : tie.Need-refused-requires
 refused-requires c κs = search needs
 
 returns : tie.Need-returns
 unfolding readOf
-returns c = search (told-reading, read-short)
+returns c = search (refused-reading, read-short)
 
 header-from-requires : tie.Need-header-from-requires
 header-from-requires c κs = search needs
@@ -43,6 +46,7 @@ pub read-spec : {M : Type 1} → statement M
 read-spec =
     tie.close
     (tie.spec
+    bare-requires
     refused-requires
     returns
     header-from-requires

@@ -2,7 +2,7 @@
 -- Assumes nothing.
 use native.Mathlib.Omega.{arith}
 use Rattle.plan_bytes.specs.Parts.{size}
-use Rattle.plan_bytes.specs.Put.Properties.{put-plan}
+use Rattle.plan_bytes.specs.Parts.Properties.{put-plan}
 use borrow.Author.Needs.{needs}
 use Rattle.plan_writer.proofs.put.Statement.{statement}
 use Rattle.plan_writer.proofs.put.Tie as tie
@@ -17,7 +17,8 @@ put-projects-requires c κs = omega (arith, c .before .before .before .put-heade
 
 put-kinds-requires : tie.Need-put-kinds-requires
 unfolding size
-put-kinds-requires c κs = omega (arith, c .before .before .before .before .before .before .before .put-header .kept .1 .0, c .before .before .before .put-projects .kept .1 .0)
+put-kinds-requires c κs =
+    omega (arith, c .before .before .before .before .before .before .before .put-header .kept .1 .0, c .before .before .before .put-projects .kept .1 .0)
 
 same-length : tie.Need-same-length
 same-length c = search needs

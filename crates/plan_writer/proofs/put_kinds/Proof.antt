@@ -6,13 +6,15 @@ use native.Mathlib.Omega.{arith}
 use lib.ListN.{length}
 use borrow.Author.Needs.{needs}
 use Rattle.plan_bytes.specs.Parts.{kindBytesAt}
-use Rattle.plan_bytes.specs.Put.{putTo}
-use Rattle.plan_bytes.specs.Put.Properties.{put-none, put-again, put-stop}
+use Rattle.codec.specs.Places.{putTo}
+use Rattle.codec.specs.Places.Properties.{put-none, put-again, put-stop}
 use Rattle.plan_writer.proofs.put_kinds.Statement.{statement}
 use Rattle.plan_writer.proofs.put_kinds.Tie as tie
 
 abbrev Inv-loop : tie.InvT-loop
-Inv-loop out₀ plan start i₀ i-end out i = (i ≤ i-end) × (i-end ≡ plan .kinds) × (start ≡ 3 + 2 * plan .projects) × (out ≡ putTo i (kindBytesAt plan) (3 + 2 * plan .projects) 5 out₀) × (length out ≡ length out₀)
+Inv-loop out₀ plan start i₀ i-end out i =
+    (i ≤ i-end) × (i-end ≡ plan .kinds) × (start ≡ 3 + 2 * plan .projects) ×
+    (out ≡ putTo i (kindBytesAt plan) (3 + 2 * plan .projects) 5 out₀) × (length out ≡ length out₀)
 
 abbrev μ-loop : tie.MeasureT-loop
 μ-loop out₀ plan start i₀ i-end out i = i-end - i

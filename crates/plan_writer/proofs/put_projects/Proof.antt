@@ -6,13 +6,14 @@ use native.Mathlib.Omega.{arith}
 use lib.ListN.{length}
 use borrow.Author.Needs.{needs}
 use Rattle.plan_bytes.specs.Parts.{projectBytesAt}
-use Rattle.plan_bytes.specs.Put.{putTo}
-use Rattle.plan_bytes.specs.Put.Properties.{put-none, put-again, put-stop}
+use Rattle.codec.specs.Places.{putTo}
+use Rattle.codec.specs.Places.Properties.{put-none, put-again, put-stop}
 use Rattle.plan_writer.proofs.put_projects.Statement.{statement}
 use Rattle.plan_writer.proofs.put_projects.Tie as tie
 
 abbrev Inv-loop : tie.InvT-loop
-Inv-loop out₀ plan j₀ j-end out j = (j ≤ j-end) × (j-end ≡ plan .projects) × (out ≡ putTo j (projectBytesAt plan) 3 2 out₀) × (length out ≡ length out₀)
+Inv-loop out₀ plan j₀ j-end out j =
+    (j ≤ j-end) × (j-end ≡ plan .projects) × (out ≡ putTo j (projectBytesAt plan) 3 2 out₀) × (length out ≡ length out₀)
 
 abbrev μ-loop : tie.MeasureT-loop
 μ-loop out₀ plan j₀ j-end out j = j-end - j

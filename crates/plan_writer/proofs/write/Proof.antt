@@ -22,6 +22,9 @@ returns c = search write-unchecked
 size-requires : tie.Need-size-requires
 size-requires c κs = search needs
 
+bare-requires : tie.Need-bare-requires
+bare-requires c κs = search needs
+
 returns-2 : tie.Need-returns-2
 returns-2 c = search write-short
 
@@ -43,6 +46,7 @@ write-spec =
     enum-told-2
     returns
     size-requires
+    bare-requires
     returns-2
     put-requires
     same-length

@@ -3,7 +3,7 @@
 use mathlib.Core.Path.{sym}
 use native.Mathlib.Omega.{arith}
 use lib.Seq.{length-take-le}
-use Rattle.player.specs.Session.Properties.{part-taken, part-short}
+use Rattle.play.specs.Desk.Properties.{round-tells, round-ends, round-hears, taken-fits, read-room}
 use borrow.Author.Needs.{needs}
 use Rattle.play.proofs.round.Statement.{statement}
 use Rattle.play.proofs.round.Tie as tie
@@ -20,8 +20,11 @@ part-play-end c = search needs
 play-requires : tie.Need-play-requires
 play-requires c κs = search needs
 
-close-requires : tie.Need-close-requires
-close-requires c κs = search needs
+is-over-requires : tie.Need-is-over-requires
+is-over-requires c κs = search needs
+
+ended-requires : tie.Need-ended-requires
+ended-requires c κs = search needs
 
 same-length : tie.Need-same-length
 same-length c = search needs
@@ -30,13 +33,10 @@ same-length-2 : tie.Need-same-length-2
 same-length-2 c = search needs
 
 returns : tie.Need-returns
-returns c = search needs
+returns c = search round-ends
 
-is-over-requires : tie.Need-is-over-requires
-is-over-requires c κs = search needs
-
-close-requires-2 : tie.Need-close-requires-2
-close-requires-2 c κs = search needs
+listen-requires : tie.Need-listen-requires
+listen-requires c κs = (search needs, search read-room)
 
 same-length-3 : tie.Need-same-length-3
 same-length-3 c = search needs
@@ -45,10 +45,29 @@ same-length-4 : tie.Need-same-length-4
 same-length-4 c = search needs
 
 returns-2 : tie.Need-returns-2
-returns-2 c = search needs
+returns-2 c = search round-hears
 
-listen-requires : tie.Need-listen-requires
-listen-requires c κs = (omega arith, omega arith, search part-short)
+slice-reshare-prefix-write-all : tie.Need-slice-reshare-prefix-write-all
+slice-reshare-prefix-write-all c = search needs
+
+slice-aggregate-write-all : tie.Need-slice-aggregate-write-all
+slice-aggregate-write-all c =
+    sym (length-take-le _ _ (omega (
+      arith,
+      c .before .before .before .before .play .ensures .room,
+      c .before .before .before .before .play .kept .1 .1 .1 .0,
+    )))
+
+write-all-requires : tie.Need-write-all-requires
+write-all-requires c κs = search needs
+
+told-requires : tie.Need-told-requires
+told-requires c κs =
+    omega (
+      arith,
+      taken-fits _ _ _ _ _ (c .before .before .before .before .before .before .play .ensures)
+          (c .before .before .before .before .before .before .before .before .before .before .before .before .before .pre .0),
+    )
 
 same-length-5 : tie.Need-same-length-5
 same-length-5 c = search needs
@@ -57,28 +76,7 @@ same-length-6 : tie.Need-same-length-6
 same-length-6 c = search needs
 
 returns-3 : tie.Need-returns-3
-returns-3 c = search needs
-
-slice-reshare-prefix-write-all : tie.Need-slice-reshare-prefix-write-all
-slice-reshare-prefix-write-all c = omega (arith, c .before .before .before .play .ensures .room, c .before .before .before .play .kept .1 .1 .1 .0)
-
-slice-aggregate-write-all : tie.Need-slice-aggregate-write-all
-slice-aggregate-write-all c = sym (length-take-le _ _ (omega (arith, c .before .before .before .before .play .ensures .room, c .before .before .before .before .play .kept .1 .1 .1 .0)))
-
-write-all-requires : tie.Need-write-all-requires
-write-all-requires c κs = search needs
-
-add-t13 : tie.Need-add-t13
-add-t13 c = omega (arith, part-taken _ _ _ _ _ (c .before .before .before .before .before .before .before .before .before .before .before .before .before .before .args .desk .from) (c .before .before .before .before .before .before .before .before .before .before .before .before .before .before .args .desk .to) _ (c .before .before .before .before .before .before .before .play .ensures) (omega arith) (omega arith), c .before .before .before .before .before .before .before .before .before .before .before .before .before .before .good .1 .0 .0)
-
-same-length-7 : tie.Need-same-length-7
-same-length-7 c = search needs
-
-same-length-8 : tie.Need-same-length-8
-same-length-8 c = search needs
-
-returns-4 : tie.Need-returns-4
-returns-4 c = (part-taken _ _ _ _ _ (c .before .before .before .before .before .before .before .before .before .before .before .before .before .before .args .desk .from) (c .before .before .before .before .before .before .before .before .before .before .before .before .before .before .args .desk .to) _ (c .before .before .before .before .before .before .before .play .ensures) (omega arith) (omega arith), omega arith)
+returns-3 c = search round-tells
 
 pub round-spec : {M : Type 1} → statement M
 round-spec =
@@ -88,23 +86,19 @@ round-spec =
     part-play-start
     part-play-end
     play-requires
-    close-requires
+    is-over-requires
+    ended-requires
     same-length
     same-length-2
     returns
-    is-over-requires
-    close-requires-2
+    listen-requires
     same-length-3
     same-length-4
     returns-2
-    listen-requires
-    same-length-5
-    same-length-6
-    returns-3
     slice-reshare-prefix-write-all
     slice-aggregate-write-all
     write-all-requires
-    add-t13
-    same-length-7
-    same-length-8
-    returns-4)
+    told-requires
+    same-length-5
+    same-length-6
+    returns-3)

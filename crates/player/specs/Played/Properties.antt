@@ -20,7 +20,8 @@ turns-end s (a ∷ bytes) l = absurd (omega arith)
 
 -- something left: the command at its front, and then what follows
 pub turns-command : (s : State) (bytes : List ℕ) → 0 < length bytes
-    → turns s bytes ≡ lineOf s (commandOf bytes) ++ onward (commandOf bytes) (turns (after s (commandOf bytes)) (drop 3 bytes)) (endLine (s .clock))
+    → turns s bytes ≡ lineOf s (commandOf bytes) ++ onward (commandOf bytes) (turns (after s (commandOf bytes)) (drop 3 bytes))
+    (endLine (s .clock))
 unfolding turns lineOf
 turns-command s [] l = absurd (omega arith)
 turns-command s (a ∷ []) l = rw (← command-short (a ∷ []) (omega arith))

@@ -18,7 +18,7 @@ use Rattle.answer.specs.Answer.{number, _andThen_}
 use Rattle.answer.specs.Answer.Properties.{andThen-good, andThen-no, andThen-left}
 use Rattle.plan_bytes.specs.declared.Reading.{Reading}
 use Rattle.plan_bytes.specs.Reading.{readOf}
-use Rattle.plan_bytes.specs.Parts.Properties.{handed-on}
+use Rattle.codec.specs.Places.Properties.{handed-on}
 use Rattle.plan_bytes.specs.RoundTrip.Writes.{read-good}
 use Rattle.rack.specs.declared.State.{State}
 use Rattle.rack.specs.declared.Next.{Next}
@@ -26,6 +26,7 @@ use Rattle.rack.specs.State.{noState}
 use Rattle.rack.specs.Start.{startOf}
 use Rattle.rack.specs.Slice.{sliceOf}
 use Rattle.rack.specs.Row.{rowByte}
+use Rattle.lines.specs.declared.line.Line.{Line}
 use Rattle.lines.specs.declared.line.Line.the-variants as line
 use Rattle.commands.specs.declared.command.Command.{Command}
 use Rattle.commands.specs.declared.command.Command.the-variants.{Slice, Release, Bad}
@@ -34,9 +35,8 @@ use Rattle.player.specs.declared.session.Stage.{Stage}
 use Rattle.player.specs.declared.session.Stage.the-variants.{Opening, Running, Over}
 use Rattle.player.specs.declared.session.Session.{Session}
 use Rattle.player.specs.declared.session.Step.{Step}
-use Rattle.player.specs.declared.session.Progress.{Progress}
 use Rattle.lines.specs.Text.{Puts}
-use Rattle.lines.specs.Text.Properties.{puts-none, sets-nothing}
+use Rattle.lines.specs.Text.Properties.{sets-nothing}
 use Rattle.lines.specs.Line.{planLine, releaseLine, sliceLine, endLine, lineText, lineRoom, Prints}
 use Rattle.lines.specs.Line.Properties.{prints-all}
 use Rattle.commands.specs.Command.{commandOf}
@@ -44,7 +44,8 @@ use Rattle.commands.specs.Command.Properties.{command-short}
 use Rattle.player.specs.Turn.{rowRoom, lineOf, Turns}
 use Rattle.player.specs.Played.{opening}
 use Rattle.player.specs.Played.Front.{one-short}
-use Rattle.player.specs.Session.{unopened, running, over, atStage, Move, stay, firstLine, openOf, commandMove, lastLine, runOf, stepOf, Steps, onto, linesOf, playOf, Plays}
+use Rattle.player.specs.Session.{unopened, running, over, atStage, isOver, Move, stay, firstLine, refusedAt, openOf, commandMove}
+use Rattle.player.specs.Session.{lastLine, runOf, stepOf, Makes, onto, linesOf, playOf, Plays}
 
 -- ---- where a play stands
 
@@ -61,98 +62,116 @@ at-running g a b c e = rw e
 pub at-over : {A : Type 0} (g : Stage) (a b c : A) → g ≡ Over → c ≡ atStage g a b c
 at-over g a b c e = rw e
 
-pub waits-on : (last : Bool) (n : ℕ) (a : Answer) → last ≡ false → n ≡ number a → eqb n 1 ≡ (not last && eqb (number a) 1)
+pub waits-on : (last : Bool) (n : ℕ) (a : Answer) → not last ≡ true → n ≡ number a → eqb n 1 ≡ (not last && eqb (number a) 1)
 waits-on last n a e f = rw (e, f)
 
--- ---- the ways out of a line, into a buffer
+-- ---- the ways out of a line
 
-module _ (out held : List ℕ) (at next : ℕ) where
-  -- nothing is taken, and nothing printed
-  pub stays : (m : Move) (x : Session) → m ≡ stay x → Steps m out at (record { session = x; taken = 0; next = at }) out
-  stays m x e = rw e (record { session = refl; taken = refl; text = puts-none out at; room = omega arith })
+-- a step of these parts, whose line shows no row
+module _ (step : Step) (x : Session) (taken : ℕ) (l : Line) (session-is : step .session ≡ x) (taken-is : step .taken ≡ taken)
+    (line-is : step .line ≡ l) where
+  made : (m : Move) → x ≡ m .session → taken ≡ m .taken → lineText l (step .row) ≡ m .text → Makes m step
+  made m e f g = record { session = session-is ∙ e; taken = taken-is ∙ f; text = ap (λ (y : Line). lineText y (step .row)) line-is ∙ g }
 
-  -- the first line
-  plan-text : (a : Answer) (row : List ℕ) → at + 128 ≤ length out → Prints (line.Plan a) row out at next held → Puts out at (planLine a) next held
-  unfolding lineText
-  plan-text a row l p = prints-all (line.Plan a) row out at next held l p
+-- nothing is taken, and nothing printed
+pub stays : (step : Step) (x : Session) → step .session ≡ x → step .taken ≡ 0 → step .line ≡ line.Nothing → Makes (stay x) step
+unfolding lineText
+stays step x e f g = made step x 0 line.Nothing e f g (stay x) refl refl refl
 
-  first-no : (m : Move) (a : Answer) (w : Refusal) (s z : State) (v : Session) (n : ℕ) (row : List ℕ) → m ≡ firstLine a s n → a ≡ No w → z ≡ noState → v ≡ over z → at + 128 ≤ length out → Prints (line.Plan a) row out at next held
-      → Steps m out at (record { session = v; taken = 0; next = next }) held
-  first-no m a w s z v n row q e f g l p = rw (q, e) (record { session = g ∙ ap over f; taken = refl; text = rw e at (plan-text a row l p); room = p .room })
+-- the first line
+pub refused-made : (step : Step) (a : Answer) (z : State) (v : Session) → z ≡ noState → v ≡ over z → step .session ≡ v → step .taken ≡ 0
+    → step .line ≡ line.Plan a → Makes (refusedAt a) step
+unfolding lineText
+refused-made step a z v e f p q r = made step v 0 (line.Plan a) p q r (refusedAt a) (f ∙ ap over e) refl refl
 
-  pub start-no : (p : Plan) (x : Next) (w : Refusal) (z : State) (v : Session) (n : ℕ) (row : List ℕ) → x ≡ startOf p → x .answer ≡ No w → z ≡ noState → v ≡ over z → at + 128 ≤ length out → Prints (line.Plan (x .answer)) row out at next held
-      → Steps (firstLine (startOf p .answer) (startOf p .state) n) out at (record { session = v; taken = 0; next = next }) held
-  start-no p x w z v n row q e f g l t = rw (← q) (first-no (firstLine (x .answer) (x .state) n) (x .answer) w (x .state) z v n row refl e f g l t)
+first-no : (a : Answer) (w : Refusal) (s : State) (n : ℕ) → a ≡ No w → refusedAt a ≡ firstLine a s n
+first-no a w s n e = rw e
 
-  pub start-good : (p : Plan) (x : Next) (v : Session) (n : ℕ) (row : List ℕ) → x ≡ startOf p → x .answer ≡ Good → v ≡ running (x .state) → at + 128 ≤ length out → Prints (line.Plan (x .answer)) row out at next held
-      → Steps (firstLine (startOf p .answer) (startOf p .state) n) out at (record { session = v; taken = n; next = next }) held
-  start-good p x v n row q e g l t = rw (← q, e) (record { session = g; taken = refl; text = rw e at (plan-text (x .answer) row l t); room = t .room })
+pub start-no : (step : Step) (p : Plan) (x : Next) (w : Refusal) (n : ℕ) → x ≡ startOf p → x .answer ≡ No w
+    → Makes (refusedAt (x .answer)) step
+    → Makes (firstLine (startOf p .answer) (startOf p .state) n) step
+start-no step p x w n q e m = rw (← q, ← first-no (x .answer) w (x .state) n e) m
 
-  module _ (x : Session) (last : Bool) (bytes : List ℕ) (r : Reading) (b : Bool) (reading-is : r ≡ readOf bytes) (waits-is : b ≡ (not last && eqb (number (r .answer)) 1)) where
-    pub open-waits : b ≡ true → Steps (openOf x last bytes) out at (record { session = x; taken = 0; next = at }) out
-    unfolding openOf
-    open-waits t = stays (openOf x last bytes) x (rw (← reading-is, ← waits-is, t))
+pub start-good : (step : Step) (p : Plan) (x : Next) (v : Session) (n : ℕ) → x ≡ startOf p → x .answer ≡ Good → v ≡ running (x .state)
+    → step .session ≡ v → step .taken ≡ n → step .line ≡ line.Plan (x .answer)
+    → Makes (firstLine (startOf p .answer) (startOf p .state) n) step
+unfolding lineText
+start-good step p x v n q e g a b c =
+    rw (← q, e) (made step v n (line.Plan Good) a b (c ∙ ap line.Plan e) (firstLine Good (x .state) n) g refl refl)
 
-    opens : b ≡ false → openOf x last bytes ≡ firstLine (r .answer andThen startOf (r .plan) .answer) (startOf (r .plan) .state) (r .taken)
-    unfolding openOf opening
-    opens t = rw (← reading-is, ← waits-is, t)
+module _ (step : Step) (x : Session) (last : Bool) (bytes : List ℕ) (r : Reading) (b : Bool) (reading-is : r ≡ readOf bytes)
+    (waits-is : b ≡ (not last && eqb (number (r .answer)) 1)) where
+  pub open-waits : b ≡ true → Makes (stay x) step → Makes (openOf x last bytes) step
+  unfolding openOf
+  open-waits t m = rw (← reading-is, ← waits-is, t) m
 
-    pub open-refused : (w : Refusal) (z : State) (v : Session) (row : List ℕ) → b ≡ false → r .answer ≡ No w → z ≡ noState → v ≡ over z → at + 128 ≤ length out → Prints (line.Plan (r .answer)) row out at next held
-        → Steps (openOf x last bytes) out at (record { session = v; taken = 0; next = next }) held
-    open-refused w z v row t e f g l p =
-        let a : (r .answer andThen startOf (r .plan) .answer) ≡ r .answer = andThen-no (r .answer) (startOf (r .plan) .answer) w e ∙ sym e in
-        first-no (openOf x last bytes) (r .answer) w (startOf (r .plan) .state) z v (r .taken) row (opens t ∙ ap (λ (y : Answer). firstLine y (startOf (r .plan) .state) (r .taken)) a) e f g l p
+  opens : b ≡ false → openOf x last bytes ≡ firstLine (r .answer andThen startOf (r .plan) .answer) (startOf (r .plan) .state) (r .taken)
+  unfolding openOf opening
+  opens t = rw (← reading-is, ← waits-is, t)
 
-    pub open-started : (step : Step) → b ≡ false → r .answer ≡ Good → Steps (firstLine (startOf (r .plan) .answer) (startOf (r .plan) .state) (r .taken)) out at step held → Steps (openOf x last bytes) out at step held
-    open-started step t e p =
-        let q : openOf x last bytes ≡ firstLine (startOf (r .plan) .answer) (startOf (r .plan) .state) (r .taken) =
-        opens t ∙ ap (λ (y : Answer). firstLine y (startOf (r .plan) .state) (r .taken)) (andThen-good (r .answer) (startOf (r .plan) .answer) e) in
-        rw q p
+  pub open-refused : (w : Refusal) → b ≡ false → r .answer ≡ No w → Makes (refusedAt (r .answer)) step → Makes (openOf x last bytes) step
+  open-refused w t e m =
+      let a : (r .answer andThen startOf (r .plan) .answer) ≡ r .answer = andThen-no (r .answer) (startOf (r .plan) .answer) w e ∙ sym e in
+      rw (opens t, a, ← first-no (r .answer) w (startOf (r .plan) .state) (r .taken) e) m
 
-  -- a command
-  pub obey-slice : (s : State) (k : Command) (t : Turn) (v : Session) → k ≡ Slice → Turns s Slice out at t held → v ≡ running (t .state) → Steps (commandMove s k) out at (record { session = v; taken = 3; next = t .next }) held
+  pub open-started : b ≡ false → r .answer ≡ Good → Makes (firstLine (startOf (r .plan) .answer) (startOf (r .plan) .state) (r .taken)) step
+      → Makes (openOf x last bytes) step
+  open-started t e m = rw (opens t, andThen-good (r .answer) (startOf (r .plan) .answer) e) m
+
+-- a command
+module _ (step : Step) (s : State) (k : Command) where
+  turned : (t : Turn) (m : Move) → m .session ≡ running (t .state) → m .taken ≡ 3 → m .text ≡ lineText (t .line) (t .row)
+      → step .session ≡ running (t .state) → step .taken ≡ 3 → step .line ≡ t .line → step .row ≡ t .row → Makes m step
+  turned t m e f g a b c d =
+      record { session = a ∙ sym e; taken = b ∙ sym f; text = ap₂ lineText c d ∙ sym g }
+
+  pub obey-slice : (t : Turn) → k ≡ Slice → Turns s Slice t → step .session ≡ running (t .state) → step .taken ≡ 3 → step .line ≡ t .line
+      → step .row ≡ t .row → Makes (commandMove s k) step
   unfolding commandMove
-  obey-slice s k t v e p g = rw e (record { session = g ∙ ap running (p .state); taken = refl; text = p .line; room = p .room })
+  obey-slice t e p = rw e (turned t (commandMove s Slice) (ap running (sym (p .state))) refl (sym (p .line)))
 
-  pub obey-release : (s : State) (k : Command) (kind e : ℕ) (t : Turn) (v : Session) → k ≡ Release kind e → Turns s (Release kind e) out at t held → v ≡ running (t .state)
-      → Steps (commandMove s k) out at (record { session = v; taken = 3; next = t .next }) held
+  pub obey-release : (t : Turn) (kind e : ℕ) → k ≡ Release kind e → Turns s (Release kind e) t → step .session ≡ running (t .state)
+      → step .taken ≡ 3 → step .line ≡ t .line → step .row ≡ t .row → Makes (commandMove s k) step
   unfolding commandMove
-  obey-release s k kind n t v e p g = rw e (record { session = g ∙ ap running (p .state); taken = refl; text = p .line; room = p .room })
+  obey-release t kind n e p = rw e (turned t (commandMove s (Release kind n)) (ap running (sym (p .state))) refl (sym (p .line)))
 
-  pub obey-bad : (s : State) (k : Command) (v : Session) (row : List ℕ) → k ≡ Bad → at + 128 ≤ length out → Prints (line.Bad (s .clock)) row out at next held → v ≡ over s
-      → Steps (commandMove s k) out at (record { session = v; taken = 0; next = next }) held
+  pub obey-bad : (v : Session) → k ≡ Bad → v ≡ over s → step .session ≡ v → step .taken ≡ 0 → step .line ≡ line.Bad (s .clock)
+      → Makes (commandMove s k) step
   unfolding commandMove lineText
-  obey-bad s k v row e l p g = rw e (record { session = g; taken = refl; text = prints-all (line.Bad (s .clock)) row out at next held l p; room = p .room })
+  obey-bad v e g a b c = rw e (made step v 0 (line.Bad (s .clock)) a b c (commandMove s Bad) g refl refl)
 
-  module _ (x : Session) (last : Bool) (bytes : List ℕ) where
-    pub run-ends : (v : Session) (row : List ℕ) → last ≡ true → length bytes ≡ 0 → at + 128 ≤ length out → Prints (line.End (x .state .clock)) row out at next held → v ≡ over (x .state)
-        → Steps (runOf x last bytes) out at (record { session = v; taken = 0; next = next }) held
-    unfolding runOf lineText
-    run-ends v row e n l p g = rw (e, eq-eqb (length bytes) 0 n) (record { session = g; taken = refl; text = prints-all (line.End (x .state .clock)) row out at next held l p; room = p .room })
+module _ (step : Step) (x : Session) (last : Bool) (bytes : List ℕ) where
+  pub run-ends : (v : Session) → last ≡ true → length bytes ≡ 0 → v ≡ over (x .state) → step .session ≡ v → step .taken ≡ 0
+      → step .line ≡ line.End (x .state .clock) → Makes (runOf x last bytes) step
+  unfolding runOf lineText
+  run-ends v e n g a b c =
+      rw (e, eq-eqb (length bytes) 0 n) (made step v 0 (line.End (x .state .clock)) a b c (lastLine (x .state)) g refl refl)
 
-    pub run-left : (k : Command) (step : Step) → last ≡ true → (length bytes ≡ 0 → ⊥) → k ≡ commandOf bytes → Steps (commandMove (x .state) k) out at step held → Steps (runOf x last bytes) out at step held
-    unfolding runOf
-    run-left k step e n c p = rw (e, ne-eqb (length bytes) 0 n, ← c) p
+  pub run-left : (k : Command) → last ≡ true → (length bytes ≡ 0 → ⊥) → k ≡ commandOf bytes → Makes (commandMove (x .state) k) step
+      → Makes (runOf x last bytes) step
+  unfolding runOf
+  run-left k e n c m = rw (e, ne-eqb (length bytes) 0 n, ← c) m
 
-    pub run-waits : last ≡ false → length bytes < 3 → Steps (runOf x last bytes) out at (record { session = x; taken = 0; next = at }) out
-    unfolding runOf
-    run-waits e n = stays (runOf x last bytes) x (rw (e, lt-ltb (length bytes) 3 n))
+  pub run-waits : last ≡ false → length bytes < 3 → Makes (stay x) step → Makes (runOf x last bytes) step
+  unfolding runOf
+  run-waits e n m = rw (e, lt-ltb (length bytes) 3 n) m
 
-    pub run-obeys : (k : Command) (step : Step) → last ≡ false → 3 ≤ length bytes → k ≡ commandOf bytes → Steps (commandMove (x .state) k) out at step held → Steps (runOf x last bytes) out at step held
-    unfolding runOf
-    run-obeys k step e n c p = rw (e, le-ltb (length bytes) 3 n, ← c) p
+  pub run-obeys : (k : Command) → last ≡ false → 3 ≤ length bytes → k ≡ commandOf bytes → Makes (commandMove (x .state) k) step
+      → Makes (runOf x last bytes) step
+  unfolding runOf
+  run-obeys k e n c m = rw (e, le-ltb (length bytes) 3 n, ← c) m
 
-    pub step-opens : (step : Step) → x .stage ≡ Opening → Steps (openOf x last bytes) out at step held → Steps (stepOf x last bytes) out at step held
-    unfolding stepOf
-    step-opens step e p = rw (at-opening (x .stage) (openOf x last bytes) (runOf x last bytes) (stay x) e) at p
+  pub step-opens : x .stage ≡ Opening → Makes (openOf x last bytes) step → Makes (stepOf x last bytes) step
+  unfolding stepOf
+  step-opens e m = rw (at-opening (x .stage) (openOf x last bytes) (runOf x last bytes) (stay x) e) at m
 
-    pub step-runs : (step : Step) → x .stage ≡ Running → Steps (runOf x last bytes) out at step held → Steps (stepOf x last bytes) out at step held
-    unfolding stepOf
-    step-runs step e p = rw (at-running (x .stage) (openOf x last bytes) (runOf x last bytes) (stay x) e) at p
+  pub step-runs : x .stage ≡ Running → Makes (runOf x last bytes) step → Makes (stepOf x last bytes) step
+  unfolding stepOf
+  step-runs e m = rw (at-running (x .stage) (openOf x last bytes) (runOf x last bytes) (stay x) e) at m
 
-    pub step-over : x .stage ≡ Over → Steps (stepOf x last bytes) out at (record { session = x; taken = 0; next = at }) out
-    unfolding stepOf
-    step-over e = stays (stepOf x last bytes) x (rw e)
+  pub step-over : x .stage ≡ Over → Makes (stay x) step → Makes (stepOf x last bytes) step
+  unfolding stepOf
+  step-over e m = rw (at-over (x .stage) (openOf x last bytes) (runOf x last bytes) (stay x) e) at m
 
 -- ---- a line takes no more than is there
 
@@ -183,7 +202,8 @@ open-most : (x : Session) (last : Bool) (bytes : List ℕ) → openOf x last byt
 unfolding openOf
 open-most x last bytes = go (not last && eqb (number (readOf bytes .answer)) 1)
   where
-    go : (b : Bool) → cond b (stay x) (firstLine (opening bytes) (startOf (readOf bytes .plan) .state) (readOf bytes .taken)) .taken ≤ length bytes
+    go : (b : Bool) → cond b (stay x) (firstLine (opening bytes) (startOf (readOf bytes .plan) .state)
+        (readOf bytes .taken)) .taken ≤ length bytes
     go true = omega arith
     go false = first-most bytes (opening bytes) (startOf (readOf bytes .plan) .state) refl
 
@@ -200,7 +220,7 @@ run-most x false bytes = go (ltb (length bytes) 3)
     go true = omega arith
     go false = obey-most (x .state) bytes
 
-pub step-most : (x : Session) (last : Bool) (bytes : List ℕ) → stepOf x last bytes .taken ≤ length bytes
+step-most : (x : Session) (last : Bool) (bytes : List ℕ) → stepOf x last bytes .taken ≤ length bytes
 unfolding stepOf
 step-most x last bytes = go (x .stage)
   where
@@ -211,42 +231,50 @@ step-most x last bytes = go (x .stage)
 
 -- ---- lines one behind the other
 
-pub onto-none : (m : Move) → m ≡ onto 0 [] m
+onto-none : (m : Move) → m ≡ onto 0 [] m
 onto-none m = let e : m .taken ≡ 0 + m .taken = omega arith in λ i. record { session = m .session; taken = e i; text = m .text }
 
-pub onto-onto : (n k : ℕ) (xs ys : List ℕ) (m : Move) → onto n xs (onto k ys m) ≡ onto (n + k) (xs ++ ys) m
-onto-onto n k xs ys m = let e : n + (k + m .taken) ≡ n + k + m .taken = omega arith in λ i. record { session = m .session; taken = e i; text = sym (append-assoc xs ys (m .text)) i }
+onto-onto : (n k : ℕ) (xs ys : List ℕ) (m : Move) → onto n xs (onto k ys m) ≡ onto (n + k) (xs ++ ys) m
+onto-onto n k xs ys m =
+    let e : n + (k + m .taken) ≡ n + k + m .taken = omega arith in
+    λ i. record { session = m .session; taken = e i; text = sym (append-assoc xs ys (m .text)) i }
 
 -- where the lines stop
-pub lines-none : (n : ℕ) (x : Session) (last : Bool) (bytes : List ℕ) (room : ℕ) → n ≤ 0 → linesOf n x last bytes room ≡ stay x
+lines-none : (n : ℕ) (x : Session) (last : Bool) (bytes : List ℕ) (room : ℕ) → n ≤ 0 → linesOf n x last bytes room ≡ stay x
 unfolding linesOf
 lines-none zero x last bytes room l = refl
 lines-none (suc n) x last bytes room l = absurd (omega arith)
 
-pub lines-full : (n : ℕ) (x : Session) (last : Bool) (bytes : List ℕ) (room : ℕ) → room < 128 → linesOf n x last bytes room ≡ stay x
+lines-full : (n : ℕ) (x : Session) (last : Bool) (bytes : List ℕ) (room : ℕ) → room < lineRoom → linesOf n x last bytes room ≡ stay x
 unfolding linesOf
 lines-full zero x last bytes room l = refl
-lines-full (suc n) x last bytes room l = rw (lt-ltb room 128 l)
+lines-full (suc n) x last bytes room l = rw (lt-ltb room lineRoom l)
 
-pub lines-idle : (n : ℕ) (x : Session) (last : Bool) (bytes : List ℕ) (room : ℕ) → 128 ≤ room → length (stepOf x last bytes .text) ≡ 0 → linesOf n x last bytes room ≡ stay x
+lines-idle : (n : ℕ) (x : Session) (last : Bool) (bytes : List ℕ) (room : ℕ) → lineRoom ≤ room → length (stepOf x last bytes .text) ≡ 0
+    → linesOf n x last bytes room ≡ stay x
 unfolding linesOf
 lines-idle zero x last bytes room l e = refl
-lines-idle (suc n) x last bytes room l e = rw (le-ltb room 128 l, eq-eqb (length (stepOf x last bytes .text)) 0 e)
+lines-idle (suc n) x last bytes room l e = rw (le-ltb room lineRoom l, eq-eqb (length (stepOf x last bytes .text)) 0 e)
 
 -- where they go on
-pub lines-on : (n : ℕ) (x : Session) (last : Bool) (bytes : List ℕ) (room : ℕ) → 0 < n → 128 ≤ room → 0 < length (stepOf x last bytes .text)
+lines-on : (n : ℕ) (x : Session) (last : Bool) (bytes : List ℕ) (room : ℕ) → 0 < n → lineRoom ≤ room
+    → 0 < length (stepOf x last bytes .text)
     → linesOf n x last bytes room
-    ≡ onto (stepOf x last bytes .taken) (stepOf x last bytes .text) (linesOf (n - 1) (stepOf x last bytes .session) last (drop (stepOf x last bytes .taken) bytes) (room - length (stepOf x last bytes .text)))
+    ≡ onto (stepOf x last bytes .taken) (stepOf x last bytes .text)
+    (linesOf (n - 1) (stepOf x last bytes .session) last (drop (stepOf x last bytes .taken) bytes)
+    (room - length (stepOf x last bytes .text)))
 unfolding linesOf
 lines-on zero x last bytes room l r t = absurd (omega arith)
 lines-on (suc n) x last bytes room l r t =
     let e : suc n - 1 ≡ n = omega arith in
-    rw (le-ltb room 128 r, ne-eqb (length (stepOf x last bytes .text)) 0 (omega arith), e)
+    rw (le-ltb room lineRoom r, ne-eqb (length (stepOf x last bytes .text)) 0 (omega arith), e)
 
 -- ---- the loop: what has been printed stands at the front, and what is left is still to be played
 
-pub record Playing (x : Session) (last : Bool) (bytes start : List ℕ) (session : Session) (taken count lines : ℕ) (out : List ℕ) : Type 0 where
-  pub whole : playOf x last bytes (length start) ≡ onto taken (take count out) (linesOf lines session last (drop taken bytes) (length start - count))
+pub record Playing (x : Session) (last : Bool) (bytes start : List ℕ) (session : Session) (taken count lines : ℕ)
+    (out : List ℕ) : Type 0 where
+  pub whole : playOf x last bytes (length start)
+      ≡ onto taken (take count out) (linesOf lines session last (drop taken bytes) (length start - count))
   pub long : length out ≡ length start
   pub count-most : count ≤ length start
   pub taken-most : taken ≤ length bytes
@@ -264,17 +292,25 @@ playing-starts x last bytes start =
       kept = refl;
     }
 
-module _ (x : Session) (last : Bool) (bytes start : List ℕ) (session : Session) (taken count lines : ℕ) (out : List ℕ) (p : Playing x last bytes start session taken count lines out) where
+module _ (x : Session) (last : Bool) (bytes start : List ℕ) (session : Session) (taken count lines : ℕ) (out : List ℕ)
+    (p : Playing x last bytes start session taken count lines out) where
   -- the lines stop: the outcome
-  stopped : linesOf lines session last (drop taken bytes) (length start - count) ≡ stay session → Plays x last bytes start (record { session = session; taken = taken; count = count }) out
+  stopped : linesOf lines session last (drop taken bytes) (length start - count) ≡ stay session
+      → Plays x last bytes start (record { session = session; taken = taken; count = count }) out
   stopped e =
-      let m : playOf x last bytes (length start) ≡ onto taken (take count out) (stay session) = p .whole ∙ ap (onto taken (take count out)) e in
+      let m : playOf x last bytes (length start) ≡ onto taken (take count out) (stay session) =
+      p .whole ∙ ap (onto taken (take count out)) e in
       let t : playOf x last bytes (length start) .text ≡ take count out = ap (λ (k : Move). k .text) m ∙ append-nil (take count out) in
       let n : length (take count out) ≡ count = length-take-le count out (omega (arith, p .long, p .count-most)) in
       let k : length (playOf x last bytes (length start) .text) ≡ count = ap length t ∙ n in
       let z : taken ≡ taken + 0 = omega arith in
       record {
-        result = λ i. record { session = sym (ap (λ (k : Move). k .session) m) i; taken = (z ∙ sym (ap (λ (k : Move). k .taken) m)) i; count = sym k i };
+        result =
+            λ i. record {
+              session = sym (ap (λ (k : Move). k .session) m) i;
+              taken = (z ∙ sym (ap (λ (k : Move). k .taken) m)) i;
+              count = sym k i;
+            };
         buffer = sym (take-append-drop count out) ∙ ap₂ _++_ (sym t) (p .kept ∙ ap (λ (j : ℕ). drop j start) (sym k));
         room = p .count-most;
       }
@@ -282,22 +318,28 @@ module _ (x : Session) (last : Bool) (bytes start : List ℕ) (session : Session
   pub playing-done : lines ≤ 0 → Plays x last bytes start (record { session = session; taken = taken; count = count }) out
   playing-done l = stopped (lines-none lines session last (drop taken bytes) (length start - count) l)
 
-  pub playing-full : length out - count < 128 → Plays x last bytes start (record { session = session; taken = taken; count = count }) out
+  pub playing-full : length out - count < lineRoom
+      → Plays x last bytes start (record { session = session; taken = taken; count = count }) out
   playing-full l = let e = p .long in stopped (lines-full lines session last (drop taken bytes) (length start - count) (omega arith))
 
-  module _ (step : Step) (held : List ℕ) (room : 128 ≤ length out - count) (s : Steps (stepOf session last (take (length bytes - taken) (drop taken bytes))) out count step held) where
+  module _ (step : Step) (next : ℕ) (held : List ℕ) (room : lineRoom ≤ length out - count)
+      (makes : Makes (stepOf session last (take (length bytes - taken) (drop taken bytes))) step)
+      (prints : Prints (step .line) (step .row) out count next held) where
     m : Move
     m = stepOf session last (drop taken bytes)
 
-    moved : Steps m out count step held
+    moved : Makes m step
     unfolding m
-    moved = rw (handed-on bytes taken) at s
+    moved = rw (handed-on bytes taken) at makes
 
-    pub playing-idle : step .next ≡ count → Plays x last bytes start (record { session = session; taken = taken; count = count }) held
+    put : Puts out count (m .text) next held
+    put = rw (moved .text) at (prints-all (step .line) (step .row) out count next held (omega arith) prints)
+
+    pub playing-idle : next ≡ count → Plays x last bytes start (record { session = session; taken = taken; count = count }) held
     unfolding m
     playing-idle e =
-        let z : length (m .text) ≡ 0 = omega (arith, moved .text .end) in
-        let h : held ≡ out = moved .text .buffer ∙ sets-nothing out count (m .text) z in
+        let z : length (m .text) ≡ 0 = omega (arith, put .end) in
+        let h : held ≡ out = put .buffer ∙ sets-nothing out count (m .text) z in
         let l = p .long in
         rw h (stopped (lines-idle lines session last (drop taken bytes) (length start - count) (omega arith) z))
 
@@ -305,30 +347,38 @@ module _ (x : Session) (last : Bool) (bytes start : List ℕ) (session : Session
     unfolding m
     taken-fits = omega (arith, moved .taken, step-most session last (drop taken bytes), length-drop taken bytes, p .taken-most)
 
-    pub playing-again : (step .next ≡ count → ⊥) → 0 < lines → Playing x last bytes start (step .session) (taken + step .taken) (step .next) (lines - 1) held
+    pub playing-again : (next ≡ count → ⊥) → 0 < lines
+        → Playing x last bytes start (step .session) (taken + step .taken) next (lines - 1) held
     unfolding m
     playing-again ne l =
         let long = p .long in
         let most = p .count-most in
-        let ended = moved .text .end in
-        let close = moved .room in
+        let ended = put .end in
+        let close = prints .room in
         let t : 0 < length (m .text) = omega arith in
         let fits : count + length (m .text) ≤ length out = omega arith in
-        let stored : held ≡ take count out ++ m .text ++ drop (count + length (m .text)) out = moved .text .buffer ∙ sets-eq (m .text) out count fits in
-        let front : length (take count out ++ m .text) ≡ step .next = length-append (take count out) (m .text) ∙ omega (arith, length-take-le count out (omega arith)) in
-        let printed : take (step .next) held ≡ take count out ++ m .text = ap (take (step .next)) stored ∙ take-at (take count out ++ m .text) (drop (count + length (m .text)) out) (step .next) front in
-        let left : length start - count - length (m .text) ≡ length start - step .next = omega arith in
+        let stored : held ≡ take count out ++ m .text ++ drop (count + length (m .text)) out =
+        put .buffer ∙ sets-eq (m .text) out count fits in
+        let front : length (take count out ++ m .text) ≡ next =
+        length-append (take count out) (m .text) ∙ omega (arith, length-take-le count out (omega arith)) in
+        let printed : take next held ≡ take count out ++ m .text =
+        ap (take next) stored ∙ take-at (take count out ++ m .text) (drop (count + length (m .text)) out) next front in
+        let left : length start - count - length (m .text) ≡ length start - next = omega arith in
         record {
           whole =
-              p .whole ∙ ap (onto taken (take count out)) (lines-on lines session last (drop taken bytes) (length start - count) l (omega arith) t)
-              ∙ onto-onto taken (m .taken) (take count out) (m .text) (linesOf (lines - 1) (m .session) last (drop (m .taken) (drop taken bytes)) (length start - count - length (m .text)))
+              p .whole ∙ ap (onto taken (take count out))
+              (lines-on lines session last (drop taken bytes) (length start - count) l (omega arith) t)
+              ∙ onto-onto taken (m .taken) (take count out) (m .text)
+              (linesOf (lines - 1) (m .session) last (drop (m .taken) (drop taken bytes)) (length start - count - length (m .text)))
               ∙ rw (moved .session, moved .taken, printed, ← left, drop-drop (m .taken) taken bytes);
-          long = ap length (moved .text .buffer) ∙ length-sets out count (m .text) ∙ long;
+          long = ap length (put .buffer) ∙ length-sets out count (m .text) ∙ long;
           count-most = omega arith;
           taken-most = taken-fits;
           kept =
-              ap (drop (step .next)) stored ∙ drop-at (take count out ++ m .text) (drop (count + length (m .text)) out) (step .next) front ∙ ap (λ (j : ℕ). drop j out) (sym ended)
-              ∙ ap (λ (j : ℕ). drop j out) ended ∙ sym (drop-drop (length (m .text)) count out) ∙ ap (drop (length (m .text))) (p .kept) ∙ drop-drop (length (m .text)) count start ∙ ap (λ (j : ℕ). drop j start) (sym ended);
+              ap (drop next) stored ∙ drop-at (take count out ++ m .text) (drop (count + length (m .text)) out) next front
+              ∙ ap (λ (j : ℕ). drop j out) (sym ended)
+              ∙ ap (λ (j : ℕ). drop j out) ended ∙ sym (drop-drop (length (m .text)) count out) ∙ ap (drop (length (m .text))) (p .kept)
+              ∙ drop-drop (length (m .text)) count start ∙ ap (λ (j : ℕ). drop j start) (sym ended);
         }
 
 -- ---- playing takes no more than is there
@@ -336,10 +386,15 @@ module _ (x : Session) (last : Bool) (bytes start : List ℕ) (session : Session
 lines-most : (n : ℕ) (x : Session) (last : Bool) (bytes : List ℕ) (room : ℕ) → linesOf n x last bytes room .taken ≤ length bytes
 unfolding linesOf
 lines-most zero x last bytes room = omega arith
-lines-most (suc n) x last bytes room = go (ltb room lineRoom || eqb (length (stepOf x last bytes .text)) 0) (lines-most n (stepOf x last bytes .session) last (drop (stepOf x last bytes .taken) bytes) (room - length (stepOf x last bytes .text)))
+lines-most (suc n) x last bytes room =
+    go (ltb room lineRoom || eqb (length (stepOf x last bytes .text)) 0)
+    (lines-most n (stepOf x last bytes .session) last (drop (stepOf x last bytes .taken) bytes) (room - length (stepOf x last bytes .text)))
   where
-    go : (b : Bool) → linesOf n (stepOf x last bytes .session) last (drop (stepOf x last bytes .taken) bytes) (room - length (stepOf x last bytes .text)) .taken ≤ length (drop (stepOf x last bytes .taken) bytes)
-        → cond b (stay x) (onto (stepOf x last bytes .taken) (stepOf x last bytes .text) (linesOf n (stepOf x last bytes .session) last (drop (stepOf x last bytes .taken) bytes) (room - length (stepOf x last bytes .text)))) .taken ≤ length bytes
+    go : (b : Bool) → linesOf n (stepOf x last bytes .session) last (drop (stepOf x last bytes .taken) bytes)
+        (room - length (stepOf x last bytes .text)) .taken ≤ length (drop (stepOf x last bytes .taken) bytes)
+        → cond b (stay x) (onto (stepOf x last bytes .taken) (stepOf x last bytes .text)
+        (linesOf n (stepOf x last bytes .session) last (drop (stepOf x last bytes .taken) bytes)
+        (room - length (stepOf x last bytes .text)))) .taken ≤ length bytes
     go true h = omega arith
     go false h = omega (arith, step-most x last bytes, length-drop (stepOf x last bytes .taken) bytes)
 
@@ -371,14 +426,19 @@ end-some clock = omega arith
 -- ---- where a play with room prints nothing
 
 -- it prints the next line, if there is one
-pub play-idle : (x : Session) (last : Bool) (bytes : List ℕ) (room : ℕ) → 128 ≤ room → length (playOf x last bytes room .text) ≡ 0 → length (stepOf x last bytes .text) ≡ 0
+pub play-idle : (x : Session) (last : Bool) (bytes : List ℕ) (room : ℕ) → lineRoom ≤ room → length (playOf x last bytes room .text) ≡ 0
+    → length (stepOf x last bytes .text) ≡ 0
 unfolding playOf
 play-idle x last bytes room r e =
     elim (decLt 0 (length (stepOf x last bytes .text))) [
       | yes t ↦
           let m = stepOf x last bytes in
           let q = ap (λ (k : Move). length (k .text)) (lines-on room x last bytes room (omega arith) r t) in
-          absurd (omega (arith, length-append (m .text) (linesOf (room - 1) (m .session) last (drop (m .taken) bytes) (room - length (m .text)) .text)))
+          absurd (omega (
+            arith,
+            length-append (m .text)
+                (linesOf (room - 1) (m .session) last (drop (m .taken) bytes) (room - length (m .text)) .text),
+          ))
       | no t ↦ omega arith
     ]
 
@@ -386,7 +446,9 @@ open-idle : (x : Session) (bytes : List ℕ) → length (openOf x false bytes .t
 unfolding openOf
 open-idle x bytes e = go (eqb (number (readOf bytes .answer)) 1) refl e
   where
-    go : (b : Bool) → eqb (number (readOf bytes .answer)) 1 ≡ b → length (cond b (stay x) (firstLine (opening bytes) (startOf (readOf bytes .plan) .state) (readOf bytes .taken)) .text) ≡ 0 → length bytes < 99
+    go : (b : Bool) → eqb (number (readOf bytes .answer)) 1 ≡ b
+        → length (cond b (stay x) (firstLine (opening bytes) (startOf (readOf bytes .plan) .state) (readOf bytes .taken)) .text) ≡ 0
+        → length bytes < 99
     go true q z = one-short bytes (eqb-true (number (readOf bytes .answer)) 1 q)
     go false q z = absurd (omega (arith, plan-some (opening bytes)))
 
@@ -395,23 +457,19 @@ unfolding runOf
 run-idle x bytes e = elim (decLt (length bytes) 3) [ yes l ↦ omega arith | no l ↦ absurd (none (omega arith)) ]
   where
     none : 3 ≤ length bytes → ⊥
-    none l = let z : length (commandMove (x .state) (commandOf bytes) .text) ≡ 0 = rw (le-ltb (length bytes) 3 l) at e in omega (arith, line-some (x .state) (commandOf bytes))
+    none l =
+        let z : length (commandMove (x .state) (commandOf bytes) .text) ≡ 0 = rw (le-ltb (length bytes) 3 l) at e in
+        omega (arith, line-some (x .state) (commandOf bytes))
 
-step-idle : (x : Session) (bytes : List ℕ) → atStage (x .stage) false false true ≡ false → length (stepOf x false bytes .text) ≡ 0 → length bytes < 99
+step-idle : (x : Session) (bytes : List ℕ) → isOver x ≡ false → length (stepOf x false bytes .text) ≡ 0 → length bytes < 99
 unfolding stepOf
 step-idle x bytes = go (x .stage)
   where
-    go : (g : Stage) → atStage g false false true ≡ false → length (atStage g (openOf x false bytes) (runOf x false bytes) (stay x) .text) ≡ 0 → length bytes < 99
+    go : (g : Stage) → atStage g false false true ≡ false
+        → length (atStage g (openOf x false bytes) (runOf x false bytes) (stay x) .text) ≡ 0 → length bytes < 99
     go Opening o e = open-idle x bytes e
     go Running o e = run-idle x bytes e
     go Over o e = absurd (true≢false o)
-
--- before the end of the input and of the play, it waits for more: few bytes are left
-pub idle-short : (x : Session) (last b : Bool) (bytes out held : List ℕ) (r : Progress) → Plays x last bytes out r held → r .count ≡ 0 → last ≡ false → b ≡ atStage (x .stage) false false true → b ≡ false → 128 ≤ length out
-    → length bytes < 99
-idle-short x last b bytes out held r p e f g h l =
-    let z : length (playOf x last bytes (length out) .text) ≡ 0 = sym (ap (λ (q : Progress). q .count) (p .result)) ∙ e in
-    step-idle x bytes (sym g ∙ h) (play-idle x false bytes (length out) l (rw f at z))
 
 -- after the end of the input, the play is over
 run-some : (x : Session) (bytes : List ℕ) → 0 < length (runOf x true bytes .text)
@@ -431,16 +489,21 @@ idle-over x bytes = go (x .stage)
     go Running e = absurd (omega (arith, run-some x bytes))
     go Over e = refl
 
--- ---- of a part of a buffer
+-- a play that prints nothing and is not over waits for more: the input has not ended, and few bytes are left
+pub waits-more : (x : Session) (last : Bool) (bytes : List ℕ) (room : ℕ) → lineRoom ≤ room → length (playOf x last bytes room .text) ≡ 0
+    → isOver x ≡ false
+    → (last ≡ false) × (length bytes < 99)
+waits-more x true bytes room l e o =
+    let g : x .stage ≡ Over = idle-over x bytes (play-idle x true bytes room l e) in
+    absurd (true≢false (at-over (x .stage) false false true g ∙ o))
+waits-more x false bytes room l e o = (refl, step-idle x bytes o (play-idle x false bytes room l e))
 
-pub part-taken : (x : Session) (last : Bool) (input out held : List ℕ) (from to : ℕ) (r : Progress) → Plays x last (take (to - from) (drop from input)) out r held → from ≤ to → to ≤ length input → from + r .taken ≤ to
-part-taken x last input out held from to r p a b =
-    let n : length (take (to - from) (drop from input)) ≡ to - from = length-take-le (to - from) (drop from input) (omega (arith, length-drop from input)) in
-    let e : r .taken ≡ playOf x last (take (to - from) (drop from input)) (length out) .taken = ap (λ (q : Progress). q .taken) (p .result) in
-    omega (arith, play-most x last (take (to - from) (drop from input)) (length out))
-
-pub part-short : (x : Session) (last b : Bool) (input out held : List ℕ) (from to : ℕ) (r : Progress) → Plays x last (take (to - from) (drop from input)) out r held → from ≤ to → to ≤ length input → r .count ≡ 0 → last ≡ false
-    → b ≡ atStage (x .stage) false false true → b ≡ false → 128 ≤ length out → 128 ≤ length input → to - from < length input
-part-short x last b input out held from to r p a c e f g h l k =
-    let n : length (take (to - from) (drop from input)) ≡ to - from = length-take-le (to - from) (drop from input) (omega (arith, length-drop from input)) in
-    omega (arith, idle-short x last b (take (to - from) (drop from input)) out held r p e f g h l)
+-- what has no next line prints nothing, whatever room there is
+pub idle-none : (x : Session) (last : Bool) (bytes : List ℕ) (room : ℕ) → length (stepOf x last bytes .text) ≡ 0
+    → playOf x last bytes room .text ≡ []
+unfolding playOf
+idle-none x last bytes room e =
+    elim (decLt room lineRoom) [
+      | yes l ↦ ap (λ (m : Move). m .text) (lines-full room x last bytes room l)
+      | no l ↦ ap (λ (m : Move). m .text) (lines-idle room x last bytes room (omega arith) e)
+    ]

@@ -2,20 +2,30 @@
 -- Assumes nothing.
 use mathlib.Core.Path.{_≡_, refl, sym, ap, _∙_}
 use mathlib.Core.Bool.{Bool, true, false, _&&_, false≢true}
-use Prim.Native.Nat.{ℕ, _-_, _≤_, _<_, min}
-use native.Mathlib.Decide.{decLt}
+use Prim.Native.Nat.{ℕ, _+_, _%_, _≤_, _<_}
+use native.Mathlib.Nat.{mod-lt, mod-mod}
 use native.Mathlib.Omega.{arith}
-use lib.Dec.{ltb, eqb}
-use borrow.Author.Tests.{lt-ltb, le-ltb, eq-eqb, ne-eqb, eqb-true, eqb-false, not-true, not-false}
+use lib.Dec.{eqb}
+use borrow.Author.Tests.{eq-eqb, ne-eqb, eqb-true, eqb-false, not-true, not-false}
 use Rattle.laws.specs.Tests.{and-left, and-right, and-both}
 use Rattle.laws.specs.Count.{countTo}
-use Rattle.laws.specs.Count.Properties.{count-cong}
-use Rattle.laws.specs.Ranking.{rankIn, firstIn, sooner, Order}
-use Rattle.laws.specs.Ranking.Properties.{first-of, first-member, first-rank, not-first, rank-distinct, rank-at, rank-lt-members, above-of-rank, first-count, sooner-le, sooner-tie, sooner-order}
-use Rattle.layout.specs.Layout.{held}
+use Rattle.laws.specs.Ranking.{Order, sooner}
+use Rattle.laws.specs.Ranking.Properties.{sooner-le, sooner-tie, sooner-order}
+use Rattle.plan.specs.Order.{budgetOf}
+use Rattle.layout.specs.Cards.{heldFrom}
+use Rattle.layout.specs.Layout.{firstCell, held}
+use Rattle.layout.specs.Layout.Properties.{first-next, below-cards, held-from}
 use Rattle.rack.specs.declared.State.{State}
-use Rattle.rack.specs.State.{unitOf, kindAt}
-use Rattle.rack.specs.Rank.{due, until, working, active, activeKinds, outranks, rank, served}
+use Rattle.rack.specs.State.{unitOf, kindAt, InUse, ProjectInUse}
+use Rattle.rack.specs.Form.{Ready}
+use Rattle.rack.specs.View.{cardsHeld, endCard, rankOf, chosen}
+use Rattle.rack.specs.View.Properties.{chosen-active, chosen-rank, not-chosen, chosen-first, rank-above}
+use Rattle.rack.specs.Rank.{due, working, active, outranks, viewOf, ownView, rank, served}
+
+-- the order sees only the two keys
+pub sooner-agree : (f g : ℕ → ℕ) (k i : ℕ) → f k ≡ g k → f i ≡ g i → sooner f k i ≡ sooner g k i
+unfolding sooner
+sooner-agree f g k i p q = rw (p, q)
 
 module _ (s : State) where
   -- ---- a kind with slices left
@@ -27,10 +37,6 @@ module _ (s : State) where
   pub working-of : (i : ℕ) → 0 < unitOf s i .left → working s i ≡ true
   unfolding working
   working-of i l = rw (ne-eqb (unitOf s i .left) 0 (λ e. omega arith))
-
-  pub not-working : (i : ℕ) → unitOf s i .left ≡ 0 → working s i ≡ false
-  unfolding working
-  not-working i e = rw (eq-eqb (unitOf s i .left) 0 e)
 
   pub idle-left : (i : ℕ) → working s i ≡ false → unitOf s i .left ≡ 0
   unfolding working
@@ -79,44 +85,22 @@ module _ (s : State) where
   unfolding outranks
   outranks-tie k i e = sooner-tie (due s) k i e
 
-  -- where no deadline has passed, the slices until then rank the same
-  pub outranks-until : (k i : ℕ) → s .clock ≤ due s k → s .clock ≤ due s i → outranks s k i ≡ sooner (until s) k i
-  unfolding outranks sooner until
-  outranks-until k i p q = rw (less (due s k) (due s i) p q, same (due s k) (due s i) p q)
-    where
-      less : (a b : ℕ) → s .clock ≤ a → s .clock ≤ b → ltb a b ≡ ltb (a - s .clock) (b - s .clock)
-      less a b p q = elim (decLt a b) [ yes l ↦ lt-ltb a b l ∙ sym (lt-ltb (a - s .clock) (b - s .clock) (omega arith)) | no l ↦ le-ltb a b (omega arith) ∙ sym (le-ltb (a - s .clock) (b - s .clock) (omega arith)) ]
-
-      same : (a b : ℕ) → s .clock ≤ a → s .clock ≤ b → eqb a b ≡ eqb (a - s .clock) (b - s .clock)
-      same a b p q = go (eqb a b) refl
-        where
-          go : (t : Bool) → eqb a b ≡ t → eqb a b ≡ eqb (a - s .clock) (b - s .clock)
-          go true e = e ∙ sym (eq-eqb (a - s .clock) (b - s .clock) (ap (λ (x : ℕ). x - s .clock) (eqb-true a b e)))
-          go false e = e ∙ sym (ne-eqb (a - s .clock) (b - s .clock) (λ h. eqb-false a b e (omega arith)))
-
   -- ---- who is served
 
-  abbrev project : ℕ → ℕ
-  project i = kindAt s i .project
-
-  abbrev cards : ℕ → ℕ
-  cards j = held (s .plan) j (s .clock)
-
-  pub served-of : (i : ℕ) → working s i ≡ true → rank s i < cards (project i) → served s i ≡ true
-  unfolding served rank
-  served-of i w l = first-of (s .plan .kinds) (active s (project i)) (outranks s) (cards (project i)) i (active-of (project i) i refl w) l
+  pub served-active : (i : ℕ) → served s i ≡ true → active s (kindAt s i .project) i ≡ true
+  unfolding served viewOf
+  served-active i e = chosen-active (ownView s i) i e
 
   pub served-working : (i : ℕ) → served s i ≡ true → working s i ≡ true
-  unfolding served
-  served-working i e = active-working (project i) i (first-member (s .plan .kinds) (active s (project i)) (outranks s) (cards (project i)) i e)
+  served-working i e = active-working (kindAt s i .project) i (served-active i e)
 
-  pub served-rank : (i : ℕ) → served s i ≡ true → rank s i < cards (project i)
+  pub served-rank : (i : ℕ) → served s i ≡ true → rank s i < cardsHeld (ownView s i)
   unfolding served rank
-  served-rank i e = first-rank (s .plan .kinds) (active s (project i)) (outranks s) (cards (project i)) i e
+  served-rank i e = chosen-rank (ownView s i) i e
 
-  pub unserved-rank : (i : ℕ) → working s i ≡ true → served s i ≡ false → cards (project i) ≤ rank s i
-  unfolding served rank
-  unserved-rank i w e = not-first (s .plan .kinds) (active s (project i)) (outranks s) (cards (project i)) i (active-of (project i) i refl w) e
+  pub unserved-rank : (i : ℕ) → working s i ≡ true → served s i ≡ false → cardsHeld (ownView s i) ≤ rank s i
+  unfolding served rank viewOf
+  unserved-rank i w e = not-chosen (ownView s i) i (active-of (kindAt s i .project) i refl w) e
 
   pub idle-unserved : (i : ℕ) → working s i ≡ false → served s i ≡ false
   idle-unserved i w = go (served s i) refl
@@ -125,49 +109,39 @@ module _ (s : State) where
       go true e = absurd (false≢true (sym w ∙ served-working i e))
       go false e = e
 
-  -- ---- one kind of a project to a rank, and one rank to a kind
-
-  -- no two kinds of a project share a rank
-  pub ranks-distinct : (i k : ℕ) → i < s .plan .kinds → k < s .plan .kinds → working s i ≡ true → working s k ≡ true → project i ≡ project k → rank s i ≡ rank s k → i ≡ k
-  unfolding rank
-  ranks-distinct i k l m p q e r =
-      rank-distinct (s .plan .kinds) (active s (project i)) (outranks s) ranked i k l m (active-of (project i) i refl p) (active-of (project i) k (sym e) q) (r ∙ ap (λ (j : ℕ). rankIn (s .plan .kinds) (active s j) (outranks s) k) (sym e))
-
-  -- and each number below their count is one's
-  pub rank-taken : (j r : ℕ) → r < activeKinds s j → (i : ℕ) × (i < s .plan .kinds) × (active s j i ≡ true) × (rank s i ≡ r)
-  unfolding activeKinds rank
-  rank-taken j r l =
-      let t = rank-at (s .plan .kinds) (active s j) (outranks s) ranked r l in
-      (t .0, t .1, t .2, ap (λ (x : ℕ). rankIn (s .plan .kinds) (active s x) (outranks s) (t .0)) (active-project j (t .0) (t .2)) ∙ t .3)
-
-  -- a rank is below the count of the project's kinds with slices left
-  pub rank-most : (i : ℕ) → i < s .plan .kinds → working s i ≡ true → rank s i < activeKinds s (project i)
-  unfolding activeKinds rank
-  rank-most i l w = rank-lt-members (s .plan .kinds) (active s (project i)) (outranks s) ranked i l (active-of (project i) i refl w)
-
   -- ---- earliest deadline first
 
   -- the lower rank of two kinds of a project outranks the other
-  pub rank-above : (i k : ℕ) → k < s .plan .kinds → project i ≡ project k → working s k ≡ true → rank s i < rank s k → outranks s i k ≡ true
-  unfolding rank
-  rank-above i k l e w h =
-      above-of-rank (s .plan .kinds) (active s (project i)) (outranks s) ranked i k l (active-of (project i) k (sym e) w) (omega (arith, h, ap (λ (j : ℕ). rankIn (s .plan .kinds) (active s j) (outranks s) k) e))
+  pub outranks-of-rank : (i k : ℕ) → InUse s k → kindAt s i .project ≡ kindAt s k .project → working s k ≡ true →
+      rank s i < rank s k → outranks s i k ≡ true
+  unfolding rank viewOf
+  outranks-of-rank i k l e w h =
+      let same = ap (λ (j : ℕ). rankOf (viewOf s j) k) e in
+      rank-above (ownView s i) ranked i k l (active-of (kindAt s i .project) k (sym e) w) (omega (arith, h, same))
 
   -- one that is served outranks every one of its project that has slices left and is not
-  pub served-first : (i k : ℕ) → k < s .plan .kinds → project i ≡ project k → served s i ≡ true → working s k ≡ true → served s k ≡ false → outranks s i k ≡ true
-  served-first i k l e p w u = rank-above i k l e w (omega (arith, served-rank i p, unserved-rank k w u, ap cards e))
+  pub served-first : (i k : ℕ) → InUse s k → kindAt s i .project ≡ kindAt s k .project → served s i ≡ true →
+      working s k ≡ true → served s k ≡ false → outranks s i k ≡ true
+  unfolding served viewOf
+  served-first i k l e p w u =
+      chosen-first (ownView s i) ranked i k l p (active-of (kindAt s i .project) k (sym e) w) (ap (λ (j : ℕ). chosen (viewOf s j) k) e ∙ u)
 
-  -- a slice serves as many kinds of a project as it holds cards, or all that have slices left
-  pub served-count : (j : ℕ) → countTo (s .plan .kinds) (λ i. eqb (project i) j && served s i) ≡ min (cards j) (activeKinds s j)
-  unfolding activeKinds served
-  served-count j =
-      count-cong (s .plan .kinds) (λ i. eqb (project i) j && served s i) (firstIn (s .plan .kinds) (active s j) (outranks s) (cards j)) (λ i l. one i (eqb (project i) j) refl)
-      ∙ first-count (s .plan .kinds) (active s j) (outranks s) ranked (cards j)
-    where
-      one : (i : ℕ) (b : Bool) → eqb (project i) j ≡ b → (b && served s i) ≡ firstIn (s .plan .kinds) (active s j) (outranks s) (cards j) i
-      one i true e = ap (λ (x : ℕ). firstIn (s .plan .kinds) (active s x) (outranks s) (cards x) i) (eqb-true (project i) j e)
-      one i false e = sym (off (firstIn (s .plan .kinds) (active s j) (outranks s) (cards j) i) refl)
-        where
-          off : (t : Bool) → firstIn (s .plan .kinds) (active s j) (outranks s) (cards j) i ≡ t → firstIn (s .plan .kinds) (active s j) (outranks s) (cards j) i ≡ false
-          off true q = absurd (eqb-false (project i) j e (active-project j i (first-member (s .plan .kinds) (active s j) (outranks s) (cards j) i q)))
-          off false q = q
+-- ---- of a state that is not refused
+
+module _ (s : State) (r : Ready s) (j : ℕ) where
+  -- "clock mod F" is a slice of the frame
+  pub in-frame : viewOf s j .slice < viewOf s j .frame
+  unfolding viewOf
+  in-frame = mod-lt (s .clock) (r .order .counts .some-slice)
+
+  -- "Let h(s) be the cards a project holds at slice s, taken modulo F"
+  pub view-held : ProjectInUse s j → cardsHeld (viewOf s j) ≡ held (s .plan) j (s .clock)
+  unfolding cardsHeld viewOf heldFrom
+  view-held l =
+      let cells : ℕ → ℕ = λ x. countTo (budgetOf (s .plan) j) (λ y. eqb ((firstCell (s .plan) j + y) % s .plan .frame) x) in
+      ap cells (mod-mod (s .clock) (s .plan .frame)) ∙ sym (held-from (s .plan) (r .order) j l (s .clock))
+
+  -- its cards are cards of the rack
+  pub end-most : ProjectInUse s j → endCard (viewOf s j) ≤ s .plan .cards
+  unfolding endCard viewOf
+  end-most l = rw (first-next (s .plan) j) at (below-cards (s .plan) (r .order) (s .clock) (j + 1) (omega arith))

@@ -4,11 +4,11 @@ use mathlib.Core.Path.{_≡_, refl, sym, ap, _∙_}
 use mathlib.Core.Bool.{Bool, true, false, cond, true≢false}
 use mathlib.Core.List.{List}
 use Prim.Native.Nat.{ℕ, zero, suc, pred, _+_, _-_, _%_, _≤_, _<_}
+use native.Mathlib.Decide.{decLt}
+use native.Mathlib.Nat.{mod-lt}
 use native.Mathlib.Numerals.{add-one}
-use native.Mathlib.Nat.{mod-lt, mul-le-mul}
 use native.Mathlib.Omega.{arith}
 use lib.Dec.{ltb, eqb}
-use native.Mathlib.Decide.{decLt}
 use lib.ListN.{length, set, replicate}
 use borrow.Author.Tests.{lt-ltb, le-ltb, eq-eqb, ne-eqb, eqb-true, eqb-false}
 use Rattle.laws.specs.First.{firstTo}
@@ -16,56 +16,75 @@ use Rattle.laws.specs.First.Properties.{first-none, first-cong, first-skip, fir
 use Rattle.laws.specs.Ranking.{sooner}
 use Rattle.laws.specs.Ranking.Properties.{rank-cong}
 use Rattle.laws.specs.Written.{written}
-use Rattle.laws.specs.Written.Properties.{written-none, written-suc, written-again, written-cong, written-set, stored-at, stored-most}
+use Rattle.laws.specs.Written.Properties.{written-again, written-cong, written-length, written-set, stored-at, stored-most}
 use Rattle.plan.specs.declared.Plan.{Plan}
+use Rattle.plan.specs.declared.Kind.{Kind}
 use Rattle.plan.specs.Order.{budgetOf, InOrder}
 use Rattle.layout.specs.Cards.{cardsBelow}
 use Rattle.layout.specs.Cards.Properties.{below-start}
-use Rattle.layout.specs.Layout.{firstCell, held}
-use Rattle.layout.specs.Layout.Properties.{first-start, first-next, last-most}
-use Rattle.plan.specs.declared.Kind.{Kind}
+use Rattle.layout.specs.Layout.{firstCell}
+use Rattle.layout.specs.Layout.Properties.{first-start, first-next, last-most, cells-most, below-cards}
 use Rattle.unit.specs.declared.Unit.{Unit}
-use Rattle.rack.specs.declared.State.{State}
-use Rattle.rack.specs.State.{unitOf, kindAt}
-use Rattle.rack.specs.Form.{Ready}
-use Rattle.rack.specs.Rank.{due, working, active, outranks, rank, served}
-use Rattle.rack.specs.Rank.Properties.{working-left, idle-left, active-is, active-idle, served-rank, idle-unserved, unserved-rank}
-use Rattle.rack.specs.Row.{takes, rowByte, rowOver}
-use Rattle.rack.specs.Row.Properties.{lowest-held, lowest-cards, takes-card, card-takes, takes-served, takes-below, one-kind}
 use Rattle.seats.specs.Seats.{at, rankBy, seatAt, seatBy, seatsBy}
 use Rattle.seats.specs.Seats.Properties.{seats-found}
-use Rattle.rack.specs.Seat.{idle, seated, worksFor, worksOf, seatsOf, lowest, seatOf}
+use Rattle.rack.specs.declared.State.{State}
+use Rattle.rack.specs.State.{lastClock, unitOf, kindAt, kindPlaces, projectPlaces, InUse, ProjectInUse}
+use Rattle.rack.specs.Form.{Ready}
+use Rattle.rack.specs.Form.Properties.{unit-form}
+use Rattle.rack.specs.View.{cardsHeld, lowestCard, endCard, rankOf}
+use Rattle.rack.specs.View.Properties.{lowest-held}
+use Rattle.rack.specs.Rank.{due, working, active, outranks, viewOf, ownView, rank, served}
+use Rattle.rack.specs.Rank.Properties.{sooner-agree, working-left, idle-left, active-is, active-idle}
+use Rattle.rack.specs.Rank.Properties.{served-rank, idle-unserved, unserved-rank, in-frame}
+use Rattle.rack.specs.Row.{takes, rowByte, rowOver}
+use Rattle.rack.specs.Row.Properties.{row-card, row-first, served-takes, takes-served, takes-below, card-kind, over-written}
+use Rattle.rack.specs.Seat.{idle, seated, worksFor, worksOf, lowestAt, endAt, seatsOf, seatOf}
 
--- ---- the walk over the projects of a plan in order: cell is the first cell of project j
+-- ---- the walk over the projects of a plan in order: cell is the first cell of project j, and r how many cards stand below its end
 
 module _ (p : Plan) (o : InOrder p) (clock : ℕ) where
   pub slice-small : clock % p .frame < 256
   slice-small = omega (arith, mod-lt clock (o .counts .some-slice), o .counts .frame-most)
 
-  pub lowest-most : (j : ℕ) → j ≤ p .projects → lowest p clock j ≤ 8
-  lowest-most j l = omega (arith, lowest-cards p o j clock l, o .counts .cards-most)
+  -- the first project's cards go on from card 0
+  pub cards-start : 0 ≡ lowestAt p clock 0
+  unfolding lowestAt
+  cards-start = sym (rw (first-start p) (below-start (p .frame) (clock % p .frame) (mod-lt clock (o .counts .some-slice))))
 
-  pub lowest-start : replicate 9 0 ≡ written 1 (lowest p clock) (replicate 9 0)
-  unfolding lowest
-  lowest-start = sym (written-suc 0 (lowest p clock) (replicate 9 0) ∙ rw (← (written-none (lowest p clock) (replicate 9 0)), first-start p, below-start (p .frame) (clock % p .frame) (mod-lt clock (o .counts .some-slice))))
+  module _ (cell j : ℕ) (is : cell ≡ firstCell p j) where
+    pub cell-next : cell + budgetOf p j ≡ firstCell p (j + 1)
+    cell-next = omega (arith, first-next p j)
 
-  pub cell-small : (cell j : ℕ) → cell ≡ firstCell p j → j < p .projects → cell + budgetOf p j < 65536
-  cell-small cell j e l =
-      omega (arith, last-most p o j l, mul-le-mul (o .counts .cards-most) (o .counts .frame-most))
+    pub cell-small : j < p .projects → cell + budgetOf p j < 65536
+    cell-small l = omega (arith, last-most p o j l, cells-most p o)
 
-pub cell-next : (p : Plan) (cell j : ℕ) → cell ≡ firstCell p j → cell + budgetOf p j ≡ firstCell p (j + 1)
-cell-next p cell j e = omega (arith, first-next p j)
+    module _ (r : ℕ) (below : r ≡ cardsBelow (p .frame) (cell + budgetOf p j) (clock % p .frame)) where
+      pub card-ends : r ≡ endAt p clock j
+      unfolding endAt
+      card-ends = below ∙ ap (λ (x : ℕ). cardsBelow (p .frame) (x + budgetOf p j) (clock % p .frame)) is
 
-pub lowest-next : (p : Plan) (clock cell j r : ℕ) → cell ≡ firstCell p j → r ≡ cardsBelow (p .frame) (cell + budgetOf p j) (clock % p .frame) → r ≡ lowest p clock (j + 1)
-unfolding lowest
-lowest-next p clock cell j r e q = q ∙ ap (λ (x : ℕ). cardsBelow (p .frame) x (clock % p .frame)) (cell-next p cell j e)
+      -- the next project's cards go on from there
+      pub card-next : r ≡ lowestAt p clock (j + 1)
+      unfolding lowestAt
+      card-next = below ∙ ap (λ (x : ℕ). cardsBelow (p .frame) x (clock % p .frame)) cell-next
 
-pub lowest-small : (p : Plan) (o : InOrder p) (clock cell j r : ℕ) → cell ≡ firstCell p j → j < p .projects → r ≡ cardsBelow (p .frame) (cell + budgetOf p j) (clock % p .frame) → r < 256
-lowest-small p o clock cell j r e l q = omega (arith, lowest-next p clock cell j r e q, lowest-most p o clock (j + 1) (omega arith))
+      pub card-small : j < p .projects → r < 256
+      unfolding lowestAt
+      card-small l = omega (arith, card-next, below-cards p o clock (j + 1) (omega arith), o .counts .cards-most)
+
+-- they are those of the projects' views
+
+lowest-view : (s : State) (j : ℕ) → lowestAt (s .plan) (s .clock) j ≡ lowestCard (viewOf s j)
+unfolding lowestAt lowestCard viewOf
+lowest-view s j = refl
+
+end-view : (s : State) (j : ℕ) → endAt (s .plan) (s .clock) j ≡ endCard (viewOf s j)
+unfolding endAt endCard viewOf
+end-view s j = refl
 
 -- ---- a kind's seat is its project's card of its rank
 
-pub seat-served : (s : State) (i : ℕ) → served s i ≡ true → seatOf s i ≡ lowest (s .plan) (s .clock) (kindAt s i .project) + rank s i + 1
+pub seat-served : (s : State) (i : ℕ) → served s i ≡ true → seatOf s i ≡ lowestCard (ownView s i) + rank s i + 1
 unfolding seatOf
 seat-served s i e = rw e
 
@@ -93,37 +112,41 @@ plus-one a b = go (eqb a b) refl
 less-one : (a : ℕ) → a + 1 - 1 ≡ a
 less-one a = omega arith
 
-sooner-agree : (f g : ℕ → ℕ) (k i : ℕ) → f k ≡ g k → f i ≡ g i → sooner f k i ≡ sooner g k i
-unfolding sooner
-sooner-agree f g k i p q = rw (p, q)
-
 -- the card of a kind's rank is below the end of its project's exactly when the kind is served
-seat-is : (s : State) (i end : ℕ) → working s i ≡ true → lowest (s .plan) (s .clock) (kindAt s i .project) + held (s .plan) (kindAt s i .project) (s .clock) ≡ end → seatAt (lowest (s .plan) (s .clock) (kindAt s i .project) + rank s i) end ≡ seatOf s i
+seat-is : (s : State) → Ready s → (i : ℕ) → working s i ≡ true →
+    seatAt (lowestCard (ownView s i) + rank s i) (endCard (ownView s i)) ≡ seatOf s i
 unfolding seatAt
-seat-is s i end w e = go (served s i) refl
+seat-is s r i w = go (served s i) refl
   where
     card : ℕ
-    card = lowest (s .plan) (s .clock) (kindAt s i .project) + rank s i
+    card = lowestCard (ownView s i) + rank s i
+
+    end : ℕ
+    end = endCard (ownView s i)
+
+    held : lowestCard (ownView s i) + cardsHeld (ownView s i) ≡ end
+    held = lowest-held (ownView s i) (in-frame s r (kindAt s i .project))
 
     go : (b : Bool) → served s i ≡ b → cond (ltb card end) (card + 1) 0 ≡ seatOf s i
-    go true p = rw (lt-ltb card end (omega (arith, served-rank s i p))) (sym (seat-served s i p))
-    go false p = rw (le-ltb card end (omega (arith, unserved-rank s i w p))) (sym (seat-unserved s i p))
+    go true p = rw (lt-ltb card end (omega (arith, held, served-rank s i p))) (sym (seat-served s i p))
+    go false p = rw (le-ltb card end (omega (arith, held, unserved-rank s i w p))) (sym (seat-unserved s i p))
 
 module _ (s : State) (r : Ready s) where
   abbrev kinds : ℕ
-  kinds = s .plan .kinds
+  kinds = kindPlaces s
 
   abbrev project : ℕ → ℕ
   project i = kindAt s i .project
 
-  abbrev low : ℕ → ℕ
-  low j = lowest (s .plan) (s .clock) j
-
-  its-project : (i : ℕ) → i < kinds → project i < s .plan .projects
+  its-project : (i : ℕ) → InUse s i → ProjectInUse s (project i)
   its-project i l = r .order .kind-at i l .its-project
 
   -- the arrays hold what the state says
-  module _ (works dues lows : List ℕ) (ew : (k : ℕ) → k < kinds → at works k ≡ worksOf s k) (ed : (k : ℕ) → k < kinds → at dues k ≡ due s k) (el : (j : ℕ) → j ≤ s .plan .projects → at lows j ≡ low j) where
+  module _ (works dues low end : List ℕ)
+      (ew : (k : ℕ) → k < kinds → at works k ≡ worksOf s k)
+      (ed : (k : ℕ) → k < kinds → at dues k ≡ due s k)
+      (el : (j : ℕ) → j < projectPlaces s → at low j ≡ lowestCard (viewOf s j))
+      (ee : (j : ℕ) → j < projectPlaces s → at end j ≡ endCard (viewOf s j)) where
     works-working : (k : ℕ) → k < kinds → working s k ≡ true → at works k ≡ project k + 1
     works-working k l w = ew k l ∙ works-something (unitOf s k) (kindAt s k) (λ e. omega (arith, working-left s k w))
 
@@ -136,67 +159,95 @@ module _ (s : State) (r : Ready s) where
       where
         go : (b : Bool) → working s k ≡ b → eqb (at works k) (at works i) ≡ active s (project i) k
         go true e = rw (works-working k m e, works-working i l w) (plus-one (project k) (project i) ∙ sym (active-is s (project i) k e))
-        go false e = rw (works-idle k m e, works-working i l w) (ne-eqb 0 (project i + 1) (λ z. omega arith) ∙ sym (active-idle s (project i) k e))
+        go false e =
+            rw (works-idle k m e, works-working i l w) (ne-eqb 0 (project i + 1) (λ z. omega arith) ∙ sym (active-idle s (project i) k e))
 
     ranks-agree : (i : ℕ) → i < kinds → working s i ≡ true → rankBy works dues kinds i ≡ rank s i
-    unfolding rankBy rank outranks
+    unfolding rankBy rank rankOf viewOf outranks
     ranks-agree i l w =
-        rank-cong kinds (λ k. eqb (at works k) (at works i)) (active s (project i)) (sooner (at dues)) (sooner (due s)) i (λ k m. same-project i k l m w) (λ k m e. sooner-agree (at dues) (due s) k i (ed k m) (ed i l))
+        let mine : ℕ → Bool = λ k. eqb (at works k) (at works i) in
+        rank-cong kinds mine (active s (project i)) (sooner (at dues)) (sooner (due s)) i
+        (λ k m. same-project i k l m w) (λ k m e. sooner-agree (at dues) (due s) k i (ed k m) (ed i l))
 
-    pub seat-found : (i : ℕ) → i < kinds → seatBy works dues lows kinds i ≡ seatOf s i
+    seat-found : (i : ℕ) → i < kinds → seatBy works dues low end kinds i ≡ seatOf s i
     unfolding seatBy
     seat-found i l = go (working s i) refl
       where
-        go : (b : Bool) → working s i ≡ b → seatBy works dues lows kinds i ≡ seatOf s i
+        go : (b : Bool) → working s i ≡ b → seatBy works dues low end kinds i ≡ seatOf s i
         go true w =
             let p = its-project i l in
-            rw (works-working i l w, ne-eqb (project i + 1) 0 (λ z. omega arith), le-ltb 8 (project i + 1) (omega (arith, r .order .counts .projects-most)), ranks-agree i l w, less-one (project i), el (project i) (omega arith), el (project i + 1) (omega arith))
-            (seat-is s i (low (project i + 1)) w (lowest-held (s .plan) (r .order) (project i) (s .clock) p))
+            let some = ne-eqb (project i + 1) 0 (λ z. omega arith) in
+            let most = le-ltb 8 (project i + 1) (omega (arith, r .order .counts .projects-most)) in
+            rw (works-working i l w, some, most, ranks-agree i l w, less-one (project i), el (project i) p, ee (project i) p)
+            (seat-is s r i w)
         go false w = rw (works-idle i l w) (sym (seat-unserved s i (idle-unserved s i w)))
 
-  -- ---- the arrays as the code fills them
+  -- ---- the arrays as the code fills them: n is how many places it looks through
 
-  pub project-small : (i : ℕ) → i < kinds → project i < 8
-  project-small i l = omega (arith, its-project i l, r .order .counts .projects-most)
+  pub project-small : (n i : ℕ) → n ≡ kinds → i < n → project i < 8
+  project-small n i e l = omega (arith, its-project i (omega arith), r .order .counts .projects-most)
 
-  pub clock-small : (i : ℕ) → i < kinds → unitOf s i .at ≤ 1000000000
-  clock-small i l = omega (arith, r .form .unit-at i (omega (arith, r .order .counts .kinds-most)) l .release-clock, r .form .clock-most)
+  pub clock-small : (n i : ℕ) → n ≡ kinds → i < n → unitOf s i .at ≤ lastClock
+  clock-small n i e l = omega (arith, unit-form s i r (omega arith) .release-clock, r .form .clock-most)
 
-  pub seats-are : (works dues lows seats : List ℕ) (n : ℕ) → n ≤ kinds → kinds ≤ n → works ≡ written n (worksOf s) (replicate 16 0) → dues ≡ written n (due s) (replicate 16 0) → lows ≡ written (s .plan .projects + 1) low (replicate 9 0) → seats ≡ seatsBy works dues lows kinds → seats ≡ seatsOf s
+  pub seats-are : (works dues low end seats : List ℕ) (n m : ℕ) → m ≡ kinds → n ≤ m → m ≤ n →
+      works ≡ written n (worksOf s) (replicate 16 0) → dues ≡ written n (due s) (replicate 16 0) →
+      low ≡ written (projectPlaces s) (lowestAt (s .plan) (s .clock)) (replicate 8 0) →
+      end ≡ written (projectPlaces s) (endAt (s .plan) (s .clock)) (replicate 8 0) →
+      seats ≡ seatsBy works dues low end m → seats ≡ seatsOf s
   unfolding seatsOf
-  seats-are works dues lows seats n a b ew ed el es =
-      seats-found works dues lows seats kinds (r .order .counts .kinds-most) es ∙ written-cong kinds (seatBy works dues lows kinds) (seatOf s) (replicate 16 0) (seat-found works dues lows (λ k l. ap (λ (m : List ℕ). at m k) ew ∙ stored-at n 16 (worksOf s) k (omega arith) (omega (arith, r .order .counts .kinds-most))) (λ k l. ap (λ (m : List ℕ). at m k) ed ∙ stored-at n 16 (due s) k (omega arith) (omega (arith, r .order .counts .kinds-most))) (λ j l. ap (λ (m : List ℕ). at m j) el ∙ stored-at (s .plan .projects + 1) 9 low j (omega arith) (omega (arith, r .order .counts .projects-most))))
+  seats-are works dues low end seats n m em a b ew ed el ee es =
+      seats-found works dues low end kinds seats (r .order .counts .kinds-most) (es ∙ ap (seatsBy works dues low end) em)
+      ∙ written-cong kinds (seatBy works dues low end kinds) (seatOf s) (replicate 16 0) each
+    where
+      stored : (l : List ℕ) (f : ℕ → ℕ) → l ≡ written n f (replicate 16 0) → (k : ℕ) → k < kinds → at l k ≡ f k
+      stored l f e k q = ap (λ (x : List ℕ). at x k) e ∙ stored-at n 16 f k (omega arith) (omega (arith, r .order .counts .kinds-most))
 
-  pub seats-at : (i : ℕ) → i < kinds → at (seatsOf s) i ≡ seatOf s i
+      found : (l : List ℕ) (f : ℕ → ℕ) → l ≡ written (projectPlaces s) f (replicate 8 0) → (j : ℕ) → j < projectPlaces s → at l j ≡ f j
+      found l f e j q = ap (λ (x : List ℕ). at x j) e ∙ stored-at (projectPlaces s) 8 f j q (r .order .counts .projects-most)
+
+      each : (i : ℕ) → i < kinds → seatBy works dues low end kinds i ≡ seatOf s i
+      each =
+          seat-found works dues low end (stored works (worksOf s) ew) (stored dues (due s) ed)
+          (λ j l. found low (lowestAt (s .plan) (s .clock)) el j l ∙ lowest-view s j)
+          (λ j l. found end (endAt (s .plan) (s .clock)) ee j l ∙ end-view s j)
+
+  pub seats-at : (i : ℕ) → InUse s i → at (seatsOf s) i ≡ seatOf s i
   unfolding seatsOf
   seats-at i l = stored-at kinds 16 (seatOf s) i l (r .order .counts .kinds-most)
 
   -- ---- the row from the seats
 
   -- a kind takes a card exactly when its seat is that card's number plus 1
-  pub takes-seat : (i card : ℕ) → i < kinds → takes s i card ≡ eqb (seatOf s i) (card + 1)
+  pub takes-seat : (i card : ℕ) → InUse s i → takes s i card ≡ eqb (seatOf s i) (card + 1)
   takes-seat i card l = go (takes s i card) refl
     where
       seat : (b : Bool) → served s i ≡ b → seatOf s i ≡ card + 1 → takes s i card ≡ true
-      seat true e q = card-takes s r i card l e (omega (arith, seat-served s i e))
+      seat true e q = served-takes s r i card e (omega (arith, seat-served s i e))
       seat false e q = absurd (omega (arith, seat-unserved s i e))
 
       go : (b : Bool) → takes s i card ≡ b → takes s i card ≡ eqb (seatOf s i) (card + 1)
-      go true e = e ∙ sym (eq-eqb (seatOf s i) (card + 1) (omega (arith, seat-served s i (takes-served s r i card l e), takes-card s r i card e)))
+      go true e =
+          let sits = seat-served s i (takes-served s r i card e) in
+          e ∙ sym (eq-eqb (seatOf s i) (card + 1) (omega (arith, sits, row-card s r i card e)))
       go false e = e ∙ sym (ne-eqb (seatOf s i) (card + 1) (λ q. true≢false (sym (seat (served s i) refl q) ∙ e)))
 
   -- a seat is one of the rack's cards
-  pub seat-most : (i : ℕ) → i < kinds → seatOf s i ≤ s .plan .cards
+  pub seat-most : (i : ℕ) → InUse s i → seatOf s i ≤ s .plan .cards
   seat-most i l = go (served s i) refl
     where
       go : (b : Bool) → served s i ≡ b → seatOf s i ≤ s .plan .cards
-      go true e = omega (arith, seat-served s i e, takes-below s r i (low (project i) + rank s i) l (card-takes s r i (low (project i) + rank s i) l e refl))
+      go true e =
+          let card = lowestCard (ownView s i) + rank s i in
+          omega (arith, seat-served s i e, takes-below s r i card l (served-takes s r i card e refl))
       go false e = omega (arith, seat-unserved s i e)
 
   -- and no two kinds have one
-  seat-one : (i k card : ℕ) → i < kinds → k < kinds → seatOf s i ≡ card + 1 → seatOf s k ≡ card + 1 → i ≡ k
+  seat-one : (i k card : ℕ) → InUse s i → InUse s k → seatOf s i ≡ card + 1 → seatOf s k ≡ card + 1 → i ≡ k
   seat-one i k card l m p q =
-      one-kind s i k card l m (takes-seat i card l ∙ eq-eqb (seatOf s i) (card + 1) p) (takes-seat k card m ∙ eq-eqb (seatOf s k) (card + 1) q)
+      let one = takes-seat i card l ∙ eq-eqb (seatOf s i) (card + 1) p in
+      let other = takes-seat k card m ∙ eq-eqb (seatOf s k) (card + 1) q in
+      card-kind s r i k card l m one other
 
   module _ (seat : ℕ → ℕ) (es : (k : ℕ) → k < kinds → seat k ≡ seatOf s k) (bytes : List ℕ) (room : s .plan .cards ≤ length bytes) where
     -- the byte of a card once the kinds below i are seated
@@ -216,35 +267,54 @@ module _ (s : State) (r : Ready s) where
         earlier (suc k) p q t =
             omega (arith, seat-one i k card l (omega arith) (sym (es i l) ∙ e) (sym (es k (omega arith)) ∙ eqb-true (seat k) (card + 1) t))
 
-    seated-filled : (i : ℕ) → i ≤ kinds → seated seat i (written (s .plan .cards) idle bytes) ≡ written (s .plan .cards) (filled i) bytes
+    -- the row once the kinds below i are seated
+    abbrev upTo : ℕ → List ℕ
+    upTo i = written (s .plan .cards) (filled i) bytes
+
+    abbrev So : ℕ → Type 0
+    So i = seated seat i (written (s .plan .cards) idle bytes) ≡ upTo i
+
+    seated-filled : (i : ℕ) → i ≤ kinds → So i
     unfolding seated filled
-    seated-filled zero l = written-cong (s .plan .cards) idle (filled 0) bytes (λ card q. first-none (λ number. eqb (seat (pred number)) (card + 1)))
-    seated-filled (suc i) l = elim (decLt 0 (seat i)) [ yes p ↦ sits p (seated-filled i (omega arith)) | no p ↦ stands (omega arith) (seated-filled i (omega arith)) ]
+    seated-filled zero l =
+        written-cong (s .plan .cards) idle (filled 0) bytes (λ card q. first-none (λ number. eqb (seat (pred number)) (card + 1)))
+    seated-filled (suc i) l =
+        elim (decLt 0 (seat i)) [
+          | yes p ↦ sits p (seated-filled i (omega arith))
+          | no p ↦ stands (omega arith) (seated-filled i (omega arith))
+        ]
       where
-        So : Type 0
-        So = seated seat i (written (s .plan .cards) idle bytes) ≡ written (s .plan .cards) (filled i) bytes
-
-        stands : seat i ≡ 0 → So → seated seat (suc i) (written (s .plan .cards) idle bytes) ≡ written (s .plan .cards) (filled (suc i)) bytes
+        stands : seat i ≡ 0 → So i → So (suc i)
         stands e rec =
-            rw (eq-eqb (seat i) 0 e) (rec ∙ written-cong (s .plan .cards) (filled i) (filled (suc i)) bytes (λ card q. sym (filled-other i card (λ z. omega arith))))
+            rw (eq-eqb (seat i) 0 e) (rec ∙ written-cong (s .plan .cards) (filled i) (filled (suc i)) bytes
+            (λ card q. sym (filled-other i card (λ z. omega arith))))
 
-        sits : 0 < seat i → So → seated seat (suc i) (written (s .plan .cards) idle bytes) ≡ written (s .plan .cards) (filled (suc i)) bytes
+        sits : 0 < seat i → So i → So (suc i)
         sits p rec =
             let low-one : seat i ≡ seat i - 1 + 1 = omega arith in
+            let here = add-one i ∙ sym (filled-here i (seat i - 1) l low-one) in
+            let fits : seat i - 1 < s .plan .cards = omega (arith, seat-most i l, es i l) in
             rw (ne-eqb (seat i) 0 (λ z. omega arith), rec)
-            (ap (λ (v : ℕ). set (written (s .plan .cards) (filled i) bytes) (seat i - 1) v) (add-one i ∙ sym (filled-here i (seat i - 1) l low-one))
-            ∙ written-set (s .plan .cards) (filled i) (filled (suc i)) bytes 0 (seat i - 1) (omega (arith, seat-most i l, es i l)) room (λ card q z. filled-other i card (λ t. z (omega arith))))
+            (ap (λ (v : ℕ). set (upTo i) (seat i - 1) v) here
+            ∙ written-set (s .plan .cards) (filled i) (filled (suc i)) bytes 0 (seat i - 1) fits room
+            (λ card q z. filled-other i card (λ t. z (omega arith))))
 
     -- what is stored is the row
     pub row-seated : seated seat kinds (written (s .plan .cards) idle bytes) ≡ rowOver s bytes
-    unfolding rowOver rowByte filled
+    unfolding filled
     row-seated =
         seated-filled kinds (omega arith)
-        ∙ written-cong (s .plan .cards) (filled kinds) (rowByte s) bytes (λ card q. first-cong kinds (λ number. eqb (seat (pred number)) (card + 1)) (λ number. takes s (pred number) card) (same card))
+        ∙ written-cong (s .plan .cards) (filled kinds) (rowByte s) bytes (λ card q. first card)
+        ∙ over-written s bytes room
       where
         same : (card number : ℕ) → 0 < number → number ≤ kinds → eqb (seat (pred number)) (card + 1) ≡ takes s (pred number) card
         same card zero p q = absurd (omega arith)
         same card (suc i) p q = ap (λ (x : ℕ). eqb x (card + 1)) (es i q) ∙ sym (takes-seat i card q)
+
+        first : (card : ℕ) → filled kinds card ≡ rowByte s card
+        first card =
+            first-cong kinds (λ number. eqb (seat (pred number)) (card + 1)) (λ number. takes s (pred number) card) (same card)
+            ∙ sym (row-first s r card)
 
 -- ---- the steps of the loops that clear the cards and seat the kinds
 
@@ -263,17 +333,28 @@ module _ (seat : List ℕ) (i : ℕ) (bytes m : List ℕ) where
   pub seated-more : m ≡ seated (at seat) i bytes → (at seat i ≡ 0 → ⊥) → set m (at seat i - 1) (i + 1) ≡ seated (at seat) (i + 1) bytes
   unfolding seated
   seated-more e z =
-      ap (λ (l : List ℕ). set l (at seat i - 1) (i + 1)) e ∙ sym (ap (λ (k : ℕ). seated (at seat) k bytes) (add-one i) ∙ rw (ne-eqb (at seat i) 0 z))
+      ap (λ (l : List ℕ). set l (at seat i - 1) (i + 1)) e
+      ∙ sym (ap (λ (k : ℕ). seated (at seat) k bytes) (add-one i) ∙ rw (ne-eqb (at seat i) 0 z))
 
   pub seated-stop : (n : ℕ) → m ≡ seated (at seat) i bytes → i ≤ n → n ≤ i → m ≡ seated (at seat) n bytes
   seated-stop n e a b = let q : i ≡ n = omega arith in e ∙ ap (λ (k : ℕ). seated (at seat) k bytes) q
 
--- every seat is one of the cards, of which there are no more than n
-pub seats-room : (s : State) → Ready s → (seats : List ℕ) (n : ℕ) → seats ≡ seatsOf s → s .plan .cards ≤ n → (k : ℕ) → at seats k ≤ n
-unfolding seatsOf
-seats-room s r seats n e l k = rw e (stored-most (s .plan .kinds) 16 n (seatOf s) (λ i q. omega (arith, seat-most s r i q)) (r .order .counts .kinds-most) k)
+-- ---- the row written: the cards are cleared, and the kinds seated
 
--- clearing the cards and seating the kinds writes the row
-pub row-written : (s : State) → Ready s → (seats bytes cleared after : List ℕ) → s .plan .cards ≤ length bytes → seats ≡ seatsOf s → cleared ≡ written (s .plan .cards) idle bytes → after ≡ seated (at seats) (s .plan .kinds) cleared → after ≡ rowOver s bytes
-row-written s r seats bytes cleared after room es ec ea =
-    ea ∙ ap (λ (l : List ℕ). seated (at seats) (s .plan .kinds) l) ec ∙ row-seated s r (at seats) (λ k l. ap (λ (m : List ℕ). at m k) es ∙ seats-at s r k l) bytes room
+module _ (s : State) (r : Ready s) (seats bytes cleared : List ℕ) (room : s .plan .cards ≤ length bytes)
+    (es : seats ≡ seatsOf s) (ec : cleared ≡ written (s .plan .cards) idle bytes) where
+  -- every seat is a place of the lent row
+  pub seats-fit : (k : ℕ) → at seats k ≤ length cleared
+  unfolding seatsOf
+  seats-fit k =
+      let l : length cleared ≡ length bytes = ap length ec ∙ written-length (s .plan .cards) idle bytes in
+      let most : (i : ℕ) → InUse s i → seatOf s i ≤ length cleared = λ i q. omega (arith, seat-most s r i q) in
+      rw es (stored-most (kindPlaces s) 16 (length cleared) (seatOf s) most (r .order .counts .kinds-most) k)
+
+  -- n is how many places the code looks through
+  pub row-written : (after : List ℕ) (n : ℕ) → n ≡ kindPlaces s → after ≡ seated (at seats) n cleared → after ≡ rowOver s bytes
+  row-written after n en ea =
+      ea
+      ∙ ap (λ (k : ℕ). seated (at seats) k cleared) en
+      ∙ ap (λ (l : List ℕ). seated (at seats) (kindPlaces s) l) ec
+      ∙ row-seated s r (at seats) (λ k l. ap (λ (m : List ℕ). at m k) es ∙ seats-at s r k l) bytes room

@@ -7,11 +7,9 @@ use lib.ListN.{length, length-replicate, getD-replicate}
 use Rattle.plan.specs.declared.Plan.{Plan}
 use Rattle.answer.specs.declared.Answer.the-variants.{Good, No}
 use Rattle.answer.specs.declared.Refusal.{Refusal}
-use Rattle.answer.specs.Answer.Properties.{andThen-left, andThen-right}
-use Rattle.plan.specs.Order.{checked, InOrder}
-use Rattle.plan.specs.Order.Properties.{in-order}
+use Rattle.plan.specs.Order.{InOrder}
 use Rattle.verdict.specs.declared.Verdict.{Verdict}
-use Rattle.verdict.specs.Verdict.{admitted, judged}
+use Rattle.verdict.specs.Verdict.{judged}
 use Rattle.rack.specs.declared.State.{State}
 use Rattle.rack.specs.declared.Next.{Next}
 use Rattle.unit.specs.Unit.{noUnit}
@@ -26,21 +24,15 @@ pub start-judged : (p : Plan) (v : Verdict) → v ≡ judged p → v .answer ≡
 unfolding judged startAnswer
 start-judged p v e = ap (λ (w : Verdict). w .answer) e
 
-pub start-in-order : (p : Plan) → startAnswer p ≡ Good → InOrder p
-unfolding startAnswer
-start-in-order p e = in-order p (andThen-left (checked p) (admitted p) e)
-
-pub start-admitted : (p : Plan) → startAnswer p ≡ Good → admitted p ≡ Good
-unfolding startAnswer
-start-admitted p e = andThen-right (checked p) (admitted p) e
-
 -- ---- its exits: v is the verdict, and x the state handed back
 
-pub start-kept : (p : Plan) (v : Verdict) (w : Refusal) (x : State) → v ≡ judged p → v .answer ≡ No w → x ≡ noState → _≡_ {A = Next} (record { answer = v .answer; state = x }) (startOf p)
+pub start-kept : (p : Plan) (v : Verdict) (w : Refusal) (x : State) → v ≡ judged p → v .answer ≡ No w → x ≡ noState →
+    _≡_ {A = Next} (record { answer = v .answer; state = x }) (startOf p)
 unfolding startOf
 start-kept p v w x e q z = rw z (next-kept (v .answer) (startAnswer p) w (freshOf p) noState q (start-judged p v e))
 
-pub start-moved : (p : Plan) (v : Verdict) (x : State) → v ≡ judged p → v .answer ≡ Good → x ≡ freshOf p → _≡_ {A = Next} (record { answer = v .answer; state = x }) (startOf p)
+pub start-moved : (p : Plan) (v : Verdict) (x : State) → v ≡ judged p → v .answer ≡ Good → x ≡ freshOf p →
+    _≡_ {A = Next} (record { answer = v .answer; state = x }) (startOf p)
 unfolding startOf
 start-moved p v x e q z = next-moved (v .answer) (startAnswer p) x (freshOf p) noState q (start-judged p v e) z
 

@@ -16,10 +16,12 @@ fresh-empty s p e q = e ∙ ap (λ (x : Plan). freshOf x) q
 
 -- ---- a call's exits: r is what its tests answered, and a what they should
 
-pub next-kept : (r a : Answer) (w : Refusal) (new old : State) → r ≡ No w → r ≡ a → _≡_ {A = Next} (record { answer = r; state = old }) (nextOf a new old)
+pub next-kept : (r a : Answer) (w : Refusal) (new old : State) → r ≡ No w → r ≡ a →
+    _≡_ {A = Next} (record { answer = r; state = old }) (nextOf a new old)
 next-kept r a w new old e q = rw (← q, e)
 
-pub next-moved : (r a : Answer) (x new old : State) → r ≡ Good → r ≡ a → x ≡ new → _≡_ {A = Next} (record { answer = r; state = x }) (nextOf a new old)
+pub next-moved : (r a : Answer) (x new old : State) → r ≡ Good → r ≡ a → x ≡ new →
+    _≡_ {A = Next} (record { answer = r; state = x }) (nextOf a new old)
 next-moved r a x new old e q p = rw (← q, e, p)
 
 -- ---- a refusal changes nothing

@@ -20,8 +20,8 @@ returns c = search no-seat
 returns-2 : tie.Need-returns-2
 returns-2 c = search no-project
 
-sub-wide : tie.Need-sub-wide
-sub-wide c = search needs
+sub-project : tie.Need-sub-project
+sub-project c = search needs
 
 element-copy-out-wide-2 : tie.Need-element-copy-out-wide-2
 element-copy-out-wide-2 c = search needs
@@ -56,7 +56,7 @@ seat-spec =
     cast-number
     returns
     returns-2
-    sub-wide
+    sub-project
     element-copy-out-wide-2
     wide-requires-2
     rank-requires

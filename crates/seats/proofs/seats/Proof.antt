@@ -13,10 +13,11 @@ use Rattle.seats.proofs.seats.Statement.{statement}
 use Rattle.seats.proofs.seats.Tie as tie
 
 abbrev Inv-loop : tie.InvT-loop
-Inv-loop works due low kinds seats₀ i₀ seats i = (kinds ≤ 16) × (i ≤ kinds) × (seats ≡ written i (seatBy works due low kinds) (replicate 16 0))
+Inv-loop works due low end kinds seats₀ i₀ seats i =
+    (kinds ≤ 16) × (i ≤ kinds) × (seats ≡ written i (seatBy works due low end kinds) (replicate 16 0))
 
 abbrev μ-loop : tie.MeasureT-loop
-μ-loop works due low kinds seats₀ i₀ seats i = kinds - i
+μ-loop works due low end kinds seats₀ i₀ seats i = kinds - i
 
 returns : tie.Need-returns Inv-loop μ-loop
 returns c = search seats-none

@@ -21,11 +21,13 @@ module _ (works due : List ℕ) (i k : ℕ) where
   unfolding aheadBy
   other-project h = rw (ne-eqb (at works k) (at works i) h)
 
-  pub not-ahead : (r : Bool) → r ≡ (ltb (at due k) (at due i) || (eqb (at due k) (at due i) && ltb k i)) → not r ≡ true → aheadBy works due i k ≡ false
+  pub not-ahead : (r : Bool) → r ≡ (ltb (at due k) (at due i) || (eqb (at due k) (at due i) && ltb k i)) →
+      not r ≡ true → aheadBy works due i k ≡ false
   unfolding aheadBy sooner
   not-ahead r e t = sym (second-no (eqb (at works k) (at works i)) (sooner (at due) k i) (sym (not-true r t) ∙ e))
 
-  pub is-ahead : (r : Bool) → at works k ≡ at works i → r ≡ (ltb (at due k) (at due i) || (eqb (at due k) (at due i) && ltb k i)) → not r ≡ false → aheadBy works due i k ≡ true
+  pub is-ahead : (r : Bool) → at works k ≡ at works i → r ≡ (ltb (at due k) (at due i) || (eqb (at due k) (at due i) && ltb k i)) →
+      not r ≡ false → aheadBy works due i k ≡ true
   unfolding aheadBy sooner
   is-ahead r p e t = rw (eq-eqb (at works k) (at works i) p) (sym e ∙ not-false r t)
 
@@ -43,31 +45,35 @@ pub card-past : (card end w : ℕ) → w ≡ end → w ≤ card → 0 ≡ seatAt
 unfolding seatAt
 card-past card end w e l = rw (le-ltb card end (rw e at l))
 
--- w is what kind i works for
-pub no-seat : (works due low : List ℕ) (n i w : ℕ) → w ≡ at works i → w ≡ 0 → 0 ≡ seatBy works due low n i
-unfolding seatBy
-no-seat works due low n i w e z = rw (eq-eqb (at works i) 0 (sym e ∙ z))
+-- ---- a kind's seat: w is what kind i works for
 
-pub no-project : (works due low : List ℕ) (n i w : ℕ) → w ≡ at works i → (w ≡ 0 → ⊥) → 8 < w → 0 ≡ seatBy works due low n i
-unfolding seatBy
-no-project works due low n i w e h l = rw (ne-eqb (at works i) 0 (λ z. h (e ∙ z)), lt-ltb 8 (at works i) (rw e at l))
+module _ (works due low end : List ℕ) (n i w : ℕ) (is : w ≡ at works i) where
+  pub no-seat : w ≡ 0 → 0 ≡ seatBy works due low end n i
+  unfolding seatBy
+  no-seat z = rw (eq-eqb (at works i) 0 (sym is ∙ z))
 
--- and its project's first card and its rank add up to its card
-pub a-seat : (works due low : List ℕ) (n i w first r ahead x : ℕ) → w ≡ at works i → (w ≡ 0 → ⊥) → w ≤ 8 → first ≡ at low (w - 1) → ahead ≡ rankBy works due n i → r ≡ ahead → x ≡ seatAt (first + r) (at low w) → x ≡ seatBy works due low n i
-unfolding seatBy
-a-seat works due low n i w first r ahead x e h l f a q z =
-    rw (ne-eqb (at works i) 0 (λ y. h (e ∙ y)), le-ltb 8 (at works i) (rw e at l), ← e, ← f, ← a, ← q) z
+  pub no-project : (w ≡ 0 → ⊥) → 8 < w → 0 ≡ seatBy works due low end n i
+  unfolding seatBy
+  no-project h l = rw (ne-eqb (at works i) 0 (λ z. h (is ∙ z)), lt-ltb 8 (at works i) (rw is at l))
+
+  -- its project's lowest card and its rank add up to its card
+  pub a-seat : (first r ahead x : ℕ) → (w ≡ 0 → ⊥) → w ≤ 8 → first ≡ at low (w - 1) → ahead ≡ rankBy works due n i → r ≡ ahead →
+      x ≡ seatAt (first + r) (at end (w - 1)) → x ≡ seatBy works due low end n i
+  unfolding seatBy
+  a-seat first r ahead x h l f a q z =
+      rw (ne-eqb (at works i) 0 (λ y. h (is ∙ y)), le-ltb 8 (at works i) (rw is at l), ← is, ← f, ← a, ← q) z
 
 -- ---- every seat
 
-pub seats-none : (works due low : List ℕ) (n : ℕ) → 16 < n → replicate 16 0 ≡ seatsBy works due low n
-unfolding seatsBy
-seats-none works due low n l = rw (lt-ltb 16 n l)
+module _ (works due low end : List ℕ) (n : ℕ) where
+  pub seats-none : 16 < n → replicate 16 0 ≡ seatsBy works due low end n
+  unfolding seatsBy
+  seats-none l = rw (lt-ltb 16 n l)
 
-pub seats-all : (works due low x : List ℕ) (n : ℕ) → n ≤ 16 → x ≡ written n (seatBy works due low n) (replicate 16 0) → x ≡ seatsBy works due low n
-unfolding seatsBy
-seats-all works due low x n l e = rw (le-ltb 16 n l) e
+  pub seats-all : (x : List ℕ) → n ≤ 16 → x ≡ written n (seatBy works due low end n) (replicate 16 0) → x ≡ seatsBy works due low end n
+  unfolding seatsBy
+  seats-all x l e = rw (le-ltb 16 n l) e
 
-pub seats-found : (works due low x : List ℕ) (n : ℕ) → n ≤ 16 → x ≡ seatsBy works due low n → x ≡ written n (seatBy works due low n) (replicate 16 0)
-unfolding seatsBy
-seats-found works due low x n l e = rw (le-ltb 16 n l) at e
+  pub seats-found : (x : List ℕ) → n ≤ 16 → x ≡ seatsBy works due low end n → x ≡ written n (seatBy works due low end n) (replicate 16 0)
+  unfolding seatsBy
+  seats-found x l e = rw (le-ltb 16 n l) at e

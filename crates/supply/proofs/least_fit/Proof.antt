@@ -3,7 +3,8 @@
 use native.Mathlib.Nat.{div-le-self}
 use Rattle.supply.specs.Supply.{window, supply}
 use Rattle.supply.specs.Fit.{heldAt, leastWidth, leastExcess}
-use Rattle.supply.specs.Fit.Properties.{rest-below, window-start, supply-start, width-start, excess-start, window-again, frame-again, supply-again, supplied, width-again, excess-again, no-frame, long-frame, fit-here, fit-none}
+use Rattle.supply.specs.Fit.Properties.{rest-below, window-start, supply-start, width-start, excess-start, window-again, frame-again}
+use Rattle.supply.specs.Fit.Properties.{supply-again, supplied, width-again, excess-again, no-frame, long-frame, fit-here, fit-none}
 use mathlib.Core.Path.{_≡_, refl}
 use Prim.Native.Nat.{_≤_, _<_, _-_, _*_}
 use native.Mathlib.Omega.{arith}
@@ -12,19 +13,28 @@ use Rattle.supply.proofs.least_fit.Statement.{statement}
 use Rattle.supply.proofs.least_fit.Tie as tie
 
 abbrev Inv-loop2 : tie.InvT-loop2
-Inv-loop2 frame ceiling length workload deadline slices frames rest cards found excess below width one-frame least start sum₀ x₀ sum x = (x ≤ rest) × (sum ≡ window width (heldAt slices cards) start x) × (sum ≤ 255 * x)
+Inv-loop2 frame ceiling length workload deadline slices frames rest cards found excess below width one-frame least start sum₀ x₀ sum x =
+    (x ≤ rest) × (sum ≡ window width (heldAt slices cards) start x) × (sum ≤ 255 * x)
 
 abbrev μ-loop2 : tie.MeasureT-loop2
-μ-loop2 frame ceiling length workload deadline slices frames rest cards found excess below width one-frame least start sum₀ x₀ sum x = rest - x
+μ-loop2 frame ceiling length workload deadline slices frames rest cards found excess below width one-frame least start sum₀ x₀ sum x =
+    rest - x
 
 abbrev Inv-loop : tie.InvT-loop
-Inv-loop frame ceiling length workload deadline slices frames rest cards found excess below width one-frame₀ least₀ start₀ one-frame least start = (start ≤ slices) × (one-frame ≡ window width (heldAt slices cards) 0 start) × (least ≡ supply start (heldAt slices cards) width rest) × (one-frame ≤ 255 * start) × (least ≤ 16320)
+Inv-loop frame ceiling length workload deadline slices frames rest cards found excess below width one-frame₀ least₀ start₀ one-frame least
+    start =
+    (start ≤ slices) × (one-frame ≡ window width (heldAt slices cards) 0 start) × (least ≡ supply start (heldAt slices cards) width rest) ×
+    (one-frame ≤ 255 * start) × (least ≤ 16320)
 
 abbrev μ-loop : tie.MeasureT-loop
-μ-loop frame ceiling length workload deadline slices frames rest cards found excess below width one-frame₀ least₀ start₀ one-frame least start = slices - start
+μ-loop frame ceiling length workload deadline slices frames rest cards found excess below width one-frame₀ least₀ start₀ one-frame least
+    start =
+    slices - start
 
 abbrev Inv-widths : tie.InvT-widths
-Inv-widths frame ceiling length workload deadline slices frames rest cards found₀ excess₀ below₀ found excess below = (rest < slices) × (below ≤ ceiling) × (found ≡ 0) × (0 ≡ leastWidth slices (heldAt slices cards) length workload deadline below) × (excess ≡ leastExcess slices (heldAt slices cards) length workload deadline below) × (excess ≤ 8589934592)
+Inv-widths frame ceiling length workload deadline slices frames rest cards found₀ excess₀ below₀ found excess below =
+    (rest < slices) × (below ≤ ceiling) × (found ≡ 0) × (0 ≡ leastWidth slices (heldAt slices cards) length workload deadline below) ×
+    (excess ≡ leastExcess slices (heldAt slices cards) length workload deadline below) × (excess ≤ 8589934592)
 
 abbrev μ-widths : tie.MeasureT-widths
 μ-widths frame ceiling length workload deadline slices frames rest cards found₀ excess₀ below₀ found excess below = ceiling - below
@@ -77,7 +87,15 @@ loop2-less : tie.Need-loop2-less Inv-loop2 μ-loop2 Inv-loop μ-loop Inv-widths 
 loop2-less c = search needs
 
 loop2-again : tie.Need-loop2-again Inv-loop2 μ-loop2 Inv-loop μ-loop Inv-widths μ-widths
-loop2-again c = (omega arith, window-again _ _ _ (c .before .before .before .before .before .before .before .before .before .if1 .left) (c .before .before .before .before .before .before .before .before .if2 .left) (c .before .before .before .before .before .before .before .two-frames .ensures) _ _ _ _ _ _ (c .before .before .loop2 .inv .1) (c .before .before .before .loop-test .taken) (c .before .loop2-test .taken) (c .before .before .before .before .before .before .widths .inv .0) (c .counted .ensures .0), omega arith)
+loop2-again c = (
+  omega arith,
+  window-again _ _ _ (c .before .before .before .before .before .before .before .before .before .if1 .left)
+      (c .before .before .before .before .before .before .before .before .if2 .left)
+      (c .before .before .before .before .before .before .before .two-frames .ensures) _ _ _ _ _ _ (c .before .before .loop2 .inv .1)
+      (c .before .before .before .loop-test .taken) (c .before .loop2-test .taken)
+      (c .before .before .before .before .before .before .widths .inv .0) (c .counted .ensures .0),
+  omega arith,
+)
 
 cast-least-with : tie.Need-cast-least-with Inv-loop2 μ-loop2 Inv-loop μ-loop Inv-widths μ-widths
 cast-least-with c = search needs
@@ -110,7 +128,14 @@ cast-product : tie.Need-cast-product Inv-loop2 μ-loop2 Inv-loop μ-loop Inv-wid
 cast-product c = search needs
 
 product-requires : tie.Need-product-requires Inv-loop2 μ-loop2 Inv-loop μ-loop Inv-widths μ-widths
-product-requires c κs = (omega (arith, div-le-self (c .before .before .before .before .before .before .before .args .deadline) (c .before .before .before .before .before .before .before .args .frame)), omega arith)
+product-requires c κs = (
+  omega (
+    arith,
+    div-le-self (c .before .before .before .before .before .before .before .args .deadline)
+        (c .before .before .before .before .before .before .before .args .frame),
+  ),
+  omega arith,
+)
 
 add-supply : tie.Need-add-supply Inv-loop2 μ-loop2 Inv-loop μ-loop Inv-widths μ-widths
 add-supply c = search needs
@@ -136,7 +161,23 @@ widths-less : tie.Need-widths-less Inv-loop2 μ-loop2 Inv-loop μ-loop Inv-width
 widths-less c = search needs
 
 widths-again : tie.Need-widths-again Inv-loop2 μ-loop2 Inv-loop μ-loop Inv-widths μ-widths
-widths-again c = let s = supplied _ _ _ (c .before .before .before .before .before .before .before .before .before .before .if1 .left) (c .before .before .before .before .before .before .before .before .before .if2 .left) (c .before .before .before .before .before .before .before .before .two-frames .ensures) _ _ _ _ _ _ (c .before .before .before .product .ensures .0) (c .before .before .before .before .before .loop .inv .1) (c .before .before .before .before .before .loop .inv .2) (c .before .before .before .before .before .loop .inv .0) (c .before .before .before .before .loop-test .left) in (search, omega arith, search, width-again _ _ _ _ _ _ _ _ (c .before .before .before .before .before .before .before .widths .inv .3) s (c .before .before .asked .ensures .0) (c .before .if3 .left), excess-again _ _ _ _ _ _ _ _ _ _ (c .before .before .before .before .before .before .before .widths .inv .4) s (c .before .before .asked .ensures .0) (c .least-with2 .ensures .0), omega arith)
+widths-again c =
+    let s = supplied _ _ _ (c .before .before .before .before .before .before .before .before .before .before .if1 .left)
+    (c .before .before .before .before .before .before .before .before .before .if2 .left)
+    (c .before .before .before .before .before .before .before .before .two-frames .ensures) _ _ _ _ _ _
+    (c .before .before .before .product .ensures .0) (c .before .before .before .before .before .loop .inv .1)
+    (c .before .before .before .before .before .loop .inv .2) (c .before .before .before .before .before .loop .inv .0)
+    (c .before .before .before .before .loop-test .left) in (
+      search,
+      omega arith,
+      search,
+      width-again _ _ _ _ _ _ _ _
+          (c .before .before .before .before .before .before .before .widths .inv .3) s (c .before .before .asked .ensures .0)
+          (c .before .if3 .left),
+      excess-again _ _ _ _ _ _ _ _ _ _ (c .before .before .before .before .before .before .before .widths .inv .4) s
+          (c .before .before .asked .ensures .0) (c .least-with2 .ensures .0),
+      omega arith,
+    )
 
 returns-3 : tie.Need-returns-3 Inv-loop2 μ-loop2 Inv-loop μ-loop Inv-widths μ-widths
 returns-3 c = search fit-none

@@ -80,7 +80,8 @@ held-turn F held s = rw (add-mod-right s F)
 pub slice-below : (s frame n : ℕ) → 0 < frame → frame ≤ n → s % frame < n
 slice-below s frame n p l = omega (arith, mod-lt s p)
 
-pub held-again : (s frame : ℕ) (held before l : List ℕ) → before ≡ written s (heldAt frame held) l → set before s (getD held (s % frame) 0) ≡ written (s + 1) (heldAt frame held) l
+pub held-again : (s frame : ℕ) (held before l : List ℕ) → before ≡ written s (heldAt frame held) l →
+    set before s (getD held (s % frame) 0) ≡ written (s + 1) (heldAt frame held) l
 unfolding heldAt
 held-again s frame held before l e = written-again s (heldAt frame held) l before (getD held (s % frame) 0) e refl
 
@@ -88,32 +89,36 @@ pub rest-below : (t F : ℕ) → (F ≡ 0 → ⊥) → t % F < F
 rest-below t F n = mod-lt t (omega arith)
 
 -- two frames in a row
-module _ (F : ℕ) (held cards : List ℕ) (some : F ≡ 0 → ⊥) (most : F ≤ 64) (two : cards ≡ written (2 * F) (heldAt F held) (replicate 128 0)) where
-  two-at : (s : ℕ) → s < 2 * F → getD cards s 0 ≡ heldAt F held s
-  two-at s l = rw two (written-at (2 * F) (heldAt F held) (replicate 128 0) 0 s l (omega (arith, length-replicate {A = ℕ} 128 0)))
+module _ (F : ℕ) (held cards : List ℕ) (some : F ≡ 0 → ⊥) (most : F ≤ 64) (two : cards ≡ written (2 * F) (heldAt F held) (replicate 128 0))
+  where
+    two-at : (s : ℕ) → s < 2 * F → getD cards s 0 ≡ heldAt F held s
+    two-at s l = rw two (written-at (2 * F) (heldAt F held) (replicate 128 0) 0 s l (omega (arith, length-replicate {A = ℕ} 128 0)))
 
-  two-held : heldAt F cards ≡ heldAt F held
-  unfolding heldAt
-  two-held = fun-ext (λ s. two-at (s % F) (omega (arith, mod-lt s (let p : 0 < F = omega arith in p))) ∙ rw (mod-mod s F))
+    two-held : heldAt F cards ≡ heldAt F held
+    unfolding heldAt
+    two-held = fun-ext (λ s. two-at (s % F) (omega (arith, mod-lt s (let p : 0 < F = omega arith in p))) ∙ rw (mod-mod s F))
 
-  two-same : (s : ℕ) → s < 2 * F → getD cards s 0 ≡ heldAt F cards s
-  two-same s l = two-at s l ∙ ap (λ (h : ℕ → ℕ). h s) (sym two-held)
+    two-same : (s : ℕ) → s < 2 * F → getD cards s 0 ≡ heldAt F cards s
+    two-same s l = two-at s l ∙ ap (λ (h : ℕ → ℕ). h s) (sym two-held)
 
-  -- ---- the steps of the search
+    -- ---- the steps of the search
 
-  -- one slice more of a window
-  pub window-again : (k a t x s v : ℕ) → s ≡ window k (heldAt F cards) a x → a < F → x < t → t < F → v ≡ min k (getD cards (a + x) 0) → s + v ≡ window k (heldAt F cards) a (x + 1)
-  window-again k a t x s v e l m n q = rw (window-more k (heldAt F cards) a x, e, q, two-same (a + x) (omega arith))
+    -- one slice more of a window
+    pub window-again : (k a t x s v : ℕ) → s ≡ window k (heldAt F cards) a x → a < F → x < t → t < F → v ≡ min k (getD cards (a + x) 0) →
+        s + v ≡ window k (heldAt F cards) a (x + 1)
+    window-again k a t x s v e l m n q = rw (window-more k (heldAt F cards) a x, e, q, two-same (a + x) (omega arith))
 
-  -- one slice more of the frame
-  pub frame-again : (k x s v : ℕ) → s ≡ window k (heldAt F cards) 0 x → x < F → v ≡ min k (getD cards x 0) → s + v ≡ window k (heldAt F cards) 0 (x + 1)
-  frame-again k x s v e l q = rw (window-more k (heldAt F cards) 0 x, e, q, two-same x (omega arith), zero-add x)
+    -- one slice more of the frame
+    pub frame-again : (k x s v : ℕ) → s ≡ window k (heldAt F cards) 0 x → x < F → v ≡ min k (getD cards x 0) →
+        s + v ≡ window k (heldAt F cards) 0 (x + 1)
+    frame-again k x s v e l q = rw (window-more k (heldAt F cards) 0 x, e, q, two-same x (omega arith), zero-add x)
 
-  -- no whole frame is gone through slice by slice
-  pub supplied : (k D p one least start : ℕ) → p ≡ D / F * one → one ≡ window k (heldAt F cards) 0 start → least ≡ supply start (heldAt F cards) k (D % F) → start ≤ F → F ≤ start → p + least ≡ supply F (heldAt F cards) k D
-  supplied k D p one least start e f g l m =
-      let z : start ≡ F = omega arith in
-      rw (supply-whole F (heldAt F cards) (held-turn F cards) (omega arith) k D, e, f, g, z)
+    -- no whole frame is gone through slice by slice
+    pub supplied : (k D p one least start : ℕ) → p ≡ D / F * one → one ≡ window k (heldAt F cards) 0 start →
+        least ≡ supply start (heldAt F cards) k (D % F) → start ≤ F → F ≤ start → p + least ≡ supply F (heldAt F cards) k D
+    supplied k D p one least start e f g l m =
+        let z : start ≡ F = omega arith in
+        rw (supply-whole F (heldAt F cards) (held-turn F cards) (omega arith) k D, e, f, g, z)
 
 -- none yet
 pub window-start : (k : ℕ) (h : ℕ → ℕ) (a : ℕ) → 0 ≡ window k h a 0
@@ -124,9 +129,11 @@ unfolding supply leastTo
 supply-start k h t = refl
 
 -- one start more
-pub supply-again : (k t : ℕ) (h : ℕ → ℕ) (i x m s r : ℕ) → m ≡ supply i h k t → s ≡ window k h i x → x ≤ t → t ≤ x → r ≡ leastWith i m s → r ≡ supply (i + 1) h k t
+pub supply-again : (k t : ℕ) (h : ℕ → ℕ) (i x m s r : ℕ) → m ≡ supply i h k t → s ≡ window k h i x → x ≤ t → t ≤ x → r ≡ leastWith i m s →
+    r ≡ supply (i + 1) h k t
 unfolding supply
-supply-again k t h i x m s r e f l n q = let z : x ≡ t = omega arith in q ∙ with-again m i s (λ a. window k h a t) e (f ∙ ap (window k h i) z)
+supply-again k t h i x m s r e f l n q =
+    let z : x ≡ t = omega arith in q ∙ with-again m i s (λ a. window k h a t) e (f ∙ ap (window k h i) z)
 
 module _ (F : ℕ) (h : ℕ → ℕ) (C W D : ℕ) where
   pub width-start : 0 ≡ leastWidth F h C W D 0
@@ -138,16 +145,19 @@ module _ (F : ℕ) (h : ℕ → ℕ) (C W D : ℕ) where
   excess-start = refl
 
   -- not at this k
-  pub width-again : (j s a : ℕ) → 0 ≡ leastWidth F h C W D j → s ≡ supply F h (j + 1) D → a ≡ (j + 1) * C + W → s < a → 0 ≡ leastWidth F h C W D (j + 1)
+  pub width-again : (j s a : ℕ) → 0 ≡ leastWidth F h C W D j → s ≡ supply F h (j + 1) D → a ≡ (j + 1) * C + W → s < a →
+      0 ≡ leastWidth F h C W D (j + 1)
   unfolding leastWidth fitsAt
   width-again j s a e f g l = first-on j (fitsAt F h C W D) e (lt-leb ((j + 1) * C + W) (supply F h (j + 1) D) (omega arith))
 
-  pub excess-again : (j m s a r : ℕ) → m ≡ leastExcess F h C W D j → s ≡ supply F h (j + 1) D → a ≡ (j + 1) * C + W → r ≡ leastWith j m (a - s) → r ≡ leastExcess F h C W D (j + 1)
+  pub excess-again : (j m s a r : ℕ) → m ≡ leastExcess F h C W D j → s ≡ supply F h (j + 1) D → a ≡ (j + 1) * C + W →
+      r ≡ leastWith j m (a - s) → r ≡ leastExcess F h C W D (j + 1)
   unfolding leastExcess excessAt
   excess-again j m s a r e f g q = q ∙ with-again m j (a - s) (λ i. excessAt F h C W D (i + 1)) e (rw (f, g))
 
   -- at this k
-  width-here : (q j s a : ℕ) → 0 ≡ leastWidth F h C W D j → s ≡ supply F h (j + 1) D → a ≡ (j + 1) * C + W → a ≤ s → j < q → j + 1 ≡ leastWidth F h C W D q
+  width-here : (q j s a : ℕ) → 0 ≡ leastWidth F h C W D j → s ≡ supply F h (j + 1) D → a ≡ (j + 1) * C + W → a ≤ s → j < q →
+      j + 1 ≡ leastWidth F h C W D q
   unfolding leastWidth fitsAt
   width-here q j s a e f g l n = first-here q j (fitsAt F h C W D) e (le-leb ((j + 1) * C + W) (supply F h (j + 1) D) (omega arith)) n
 
@@ -165,25 +175,33 @@ unfolding fitOf
 long-frame F held q C W D n l = rw (ne-eqb F 0 n, lt-ltb 64 F l)
 
 -- in a frame that there can be
-pub fit-framed : (F : ℕ) (held : List ℕ) (q C W D : ℕ) → (F ≡ 0 → ⊥) → F ≤ 64 → fitOf F held q C W D ≡ record { width = leastWidth F (heldAt F held) C W D q; excess = leastExcess F (heldAt F held) C W D q }
+pub fit-framed : (F : ℕ) (held : List ℕ) (q C W D : ℕ) → (F ≡ 0 → ⊥) → F ≤ 64 →
+    fitOf F held q C W D ≡ record { width = leastWidth F (heldAt F held) C W D q; excess = leastExcess F (heldAt F held) C W D q }
 unfolding fitOf
 fit-framed F held q C W D n l = rw (ne-eqb F 0 n, le-ltb 64 F l)
 
 fit-made : {a b c d : ℕ} → a ≡ c → b ≡ d → _≡_ {A = Fit} (record { width = a; excess = b }) (record { width = c; excess = d })
 fit-made p q = λ i. record { width = p i; excess = q i }
 
-module _ (F : ℕ) (held cards : List ℕ) (some : F ≡ 0 → ⊥) (most : F ≤ 64) (two : cards ≡ written (2 * F) (heldAt F held) (replicate 128 0)) where
-  fit-of : (q C W D w x : ℕ) → w ≡ leastWidth F (heldAt F cards) C W D q → x ≡ leastExcess F (heldAt F cards) C W D q → record { width = w; excess = x } ≡ fitOf F held q C W D
-  fit-of q C W D w x e f =
-      fit-made (e ∙ ap (λ (h : ℕ → ℕ). leastWidth F h C W D q) (two-held F held cards some most two)) (f ∙ ap (λ (h : ℕ → ℕ). leastExcess F h C W D q) (two-held F held cards some most two))
-      ∙ sym (fit-framed F held q C W D some most)
+module _ (F : ℕ) (held cards : List ℕ) (some : F ≡ 0 → ⊥) (most : F ≤ 64) (two : cards ≡ written (2 * F) (heldAt F held) (replicate 128 0))
+  where
+    fit-of : (q C W D w x : ℕ) → w ≡ leastWidth F (heldAt F cards) C W D q → x ≡ leastExcess F (heldAt F cards) C W D q →
+        record { width = w; excess = x } ≡ fitOf F held q C W D
+    fit-of q C W D w x e f =
+        fit-made (e ∙ ap (λ (h : ℕ → ℕ). leastWidth F h C W D q) (two-held F held cards some most two))
+        (f ∙ ap (λ (h : ℕ → ℕ). leastExcess F h C W D q) (two-held F held cards some most two))
+        ∙ sym (fit-framed F held q C W D some most)
 
-  -- the first k that fits leaves with it
-  pub fit-here : (q C W D j s a : ℕ) → 0 ≡ leastWidth F (heldAt F cards) C W D j → s ≡ supply F (heldAt F cards) (j + 1) D → a ≡ (j + 1) * C + W → a ≤ s → j < q → record { width = j + 1; excess = 0 } ≡ fitOf F held q C W D
-  fit-here q C W D j s a e f g l n = fit-of q C W D (j + 1) 0 (width-here F (heldAt F cards) C W D q j s a e f g l n) (excess-here F (heldAt F cards) C W D q j s a f g l n)
+    -- the first k that fits leaves with it
+    pub fit-here : (q C W D j s a : ℕ) → 0 ≡ leastWidth F (heldAt F cards) C W D j → s ≡ supply F (heldAt F cards) (j + 1) D →
+        a ≡ (j + 1) * C + W → a ≤ s → j < q → record { width = j + 1; excess = 0 } ≡ fitOf F held q C W D
+    fit-here q C W D j s a e f g l n =
+        fit-of q C W D (j + 1) 0 (width-here F (heldAt F cards) C W D q j s a e f g l n)
+        (excess-here F (heldAt F cards) C W D q j s a f g l n)
 
-  -- none fits
-  pub fit-none : (q C W D j w x : ℕ) → w ≡ 0 → 0 ≡ leastWidth F (heldAt F cards) C W D j → x ≡ leastExcess F (heldAt F cards) C W D j → j ≤ q → q ≤ j → record { width = w; excess = x } ≡ fitOf F held q C W D
-  fit-none q C W D j w x v e f l n =
-      let z : j ≡ q = omega arith in
-      fit-of q C W D w x (v ∙ e ∙ ap (leastWidth F (heldAt F cards) C W D) z) (f ∙ ap (leastExcess F (heldAt F cards) C W D) z)
+    -- none fits
+    pub fit-none : (q C W D j w x : ℕ) → w ≡ 0 → 0 ≡ leastWidth F (heldAt F cards) C W D j → x ≡ leastExcess F (heldAt F cards) C W D j →
+        j ≤ q → q ≤ j → record { width = w; excess = x } ≡ fitOf F held q C W D
+    fit-none q C W D j w x v e f l n =
+        let z : j ≡ q = omega arith in
+        fit-of q C W D w x (v ∙ e ∙ ap (leastWidth F (heldAt F cards) C W D) z) (f ∙ ap (leastExcess F (heldAt F cards) C W D) z)

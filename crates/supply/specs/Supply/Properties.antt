@@ -25,7 +25,9 @@ window-more k h a t = sum-more t (λ x. min k (h (a + x)))
 -- cut in two
 pub window-split : (k : ℕ) (h : ℕ → ℕ) (a t u : ℕ) → window k h a (t + u) ≡ window k h a t + window k h (a + t) u
 unfolding window
-window-split k h a t u = rw (sum-split t u (λ x. min k (h (a + x)))) (ap (λ (n : ℕ). sumTo t (λ x. min k (h (a + x))) + n) (sum-cong u (λ x. min k (h (a + (t + x)))) (λ x. min k (h (a + t + x))) (λ x l. rw (add-assoc a t x))))
+window-split k h a t u =
+    rw (sum-split t u (λ x. min k (h (a + x)))) (ap (λ (n : ℕ). sumTo t (λ x. min k (h (a + x))) + n)
+    (sum-cong u (λ x. min k (h (a + (t + x)))) (λ x. min k (h (a + t + x))) (λ x l. rw (add-assoc a t x))))
 
 -- one slice less at the front
 pub window-first : (k : ℕ) (h : ℕ → ℕ) (a t : ℕ) → window k h a (suc t) ≡ min k (h a) + window k h (a + 1) t
@@ -48,15 +50,20 @@ module _ (frame : ℕ) (h : ℕ → ℕ) (turn : Periodic frame h) where
   -- a start one frame later sees the same
   pub window-turn : (k a t : ℕ) → window k h (a + frame) t ≡ window k h a t
   unfolding window
-  window-turn k a t = sum-cong t (λ x. min k (h (a + frame + x))) (λ x. min k (h (a + x))) (λ x l. ap (λ (n : ℕ). min k n) (rw (let e : a + frame + x ≡ a + x + frame = omega arith in e) (turn (a + x))))
+  window-turn k a t =
+      sum-cong t (λ x. min k (h (a + frame + x))) (λ x. min k (h (a + x)))
+      (λ x l. ap (λ (n : ℕ). min k n) (rw (let e : a + frame + x ≡ a + x + frame = omega arith in e) (turn (a + x))))
 
   -- so does one any number of frames later
   window-turns : (k a t n : ℕ) → window k h (a + n * frame) t ≡ window k h a t
   window-turns k a t zero = rw (zero-mul frame, add-zero a)
-  window-turns k a t (suc n) = rw (suc-mul n frame, ← (add-assoc a (n * frame) frame), window-turn k (a + n * frame) t) (window-turns k a t n)
+  window-turns k a t (suc n) =
+      rw (suc-mul n frame, ← (add-assoc a (n * frame) frame), window-turn k (a + n * frame) t) (window-turns k a t n)
 
   pub window-mod : (k a t : ℕ) → window k h a t ≡ window k h (a % frame) t
-  window-mod k a t = ap (λ (b : ℕ). window k h b t) (let e : a ≡ a % frame + a / frame * frame = omega (arith, div-add-mod' a frame) in e) ∙ window-turns k (a % frame) t (a / frame)
+  window-mod k a t =
+      ap (λ (b : ℕ). window k h b t) (let e : a ≡ a % frame + a / frame * frame = omega (arith, div-add-mod' a frame) in e)
+      ∙ window-turns k (a % frame) t (a / frame)
 
   -- one frame's sum is the same from every start
   pub window-frame : (k a : ℕ) → window k h a frame ≡ window k h 0 frame
@@ -64,13 +71,19 @@ module _ (frame : ℕ) (h : ℕ → ℕ) (turn : Periodic frame h) where
   window-frame k (suc a) = step (window-frame k a)
     where
       step : window k h a frame ≡ window k h 0 frame → window k h (suc a) frame ≡ window k h 0 frame
-      step ih = omega (arith, rw (add-comm frame 1, window-split k h a 1 frame, add-one a) at (window-split k h a frame 1), window-turn k a 1)
+      step ih =
+          omega (arith, rw (add-comm frame 1, window-split k h a 1 frame, add-one a) at (window-split k h a frame 1), window-turn k a 1)
 
   -- the whole frames in t are counted by one frame's sum
   pub window-frames : (k a n r : ℕ) → window k h a (n * frame + r) ≡ n * window k h 0 frame + window k h a r
   window-frames k a zero r = rw (zero-mul frame, zero-mul (window k h 0 frame), zero-add r, zero-add (window k h a r))
   window-frames k a (suc n) r =
-      rw (let e : suc n * frame + r ≡ frame + (n * frame + r) = rw (suc-mul n frame) (omega arith) in e, window-split k h a frame (n * frame + r), suc-mul n (window k h 0 frame)) (omega (arith, window-frame k a, window-turn k a (n * frame + r), window-frames k a n r))
+      rw (
+        let e : suc n * frame + r ≡ frame + (n * frame + r) = rw (suc-mul n frame) (omega arith) in e,
+        window-split k h a frame (n * frame + r),
+        suc-mul n (window k h 0 frame),
+      )
+      (omega (arith, window-frame k a, window-turn k a (n * frame + r), window-frames k a n r))
 
   pub window-whole : (k a t : ℕ) → window k h a t ≡ t / frame * window k h 0 frame + window k h a (t % frame)
   window-whole k a t = ap (window k h a) (sym (div-add-mod' t frame)) ∙ window-frames k a (t / frame) (t % frame)
@@ -100,7 +113,9 @@ module _ (frame : ℕ) (h : ℕ → ℕ) (some : 0 < frame) where
   -- a longer stretch holds no less
   pub supply-monotone : (k t u : ℕ) → t ≤ u → supply frame h k t ≤ supply frame h k u
   unfolding supply
-  supply-monotone k t u l = let s = supply-attained k u in omega (arith, s .2, window-monotone k h (s .0) t u l, least-le frame (λ a. window k h a t) (s .0) (s .1))
+  supply-monotone k t u l =
+      let s = supply-attained k u in
+      omega (arith, s .2, window-monotone k h (s .0) t u l, least-le frame (λ a. window k h a t) (s .0) (s .1))
 
 module _ (frame : ℕ) (h : ℕ → ℕ) (turn : Periodic frame h) (some : 0 < frame) where
   -- it is there from every start, in this frame or any later one
@@ -112,5 +127,6 @@ module _ (frame : ℕ) (h : ℕ → ℕ) (turn : Periodic frame h) (some : 0 < f
   pub supply-whole : (k t : ℕ) → supply frame h k t ≡ t / frame * window k h 0 frame + supply frame h k (t % frame)
   unfolding supply
   supply-whole k t =
-      least-cong frame (λ a. window k h a t) (λ a. t / frame * window k h 0 frame + window k h a (t % frame)) (λ a l. window-whole frame h turn k a t)
+      least-cong frame (λ a. window k h a t) (λ a. t / frame * window k h 0 frame + window k h a (t % frame))
+      (λ a l. window-whole frame h turn k a t)
       ∙ least-shift frame (t / frame * window k h 0 frame) (λ a. window k h a (t % frame)) some

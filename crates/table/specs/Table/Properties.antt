@@ -8,19 +8,44 @@ use Rattle.laws.specs.Count.{countTo}
 use Rattle.laws.specs.All.{allTo}
 use Rattle.laws.specs.Written.{written}
 use Rattle.answer.specs.Answer.{eachTo}
-use Rattle.plan.specs.Order.{within, sized, emptyProject, emptyKind, tidyProjects, tidyKinds, inRange, timed, budgets, sizes, unused, projectsInRange, kindInRange, kindsInRange, budgetsFit, ranges, checked}
+use Rattle.plan.specs.Order.{within, sized, emptyProject, emptyKind, tidyProjects, tidyKinds, inRange, timed, budgets, sizes, unused}
+use Rattle.plan.specs.Order.{projectsInRange, kindInRange, kindsInRange, budgetsFit, ranges, checked}
 use Rattle.layout.specs.Layout.{cellAt, firstCell, owns, slotOf, held}
+use Rattle.layout.specs.Table.{tableLength, tableOver, tableAnswer}
 use Rattle.supply.specs.Supply.{window, supply}
 use Rattle.supply.specs.Workload.{workloadPart}
 use Rattle.supply.specs.Fit.{fitsAt, leastWidth, excessAt, leastExcess}
-use Rattle.plan_bytes.specs.Pack.{bits, pack, unpack}
-use Rattle.plan_bytes.specs.Bytes.{numberTo, bytesOf}
-use Rattle.plan_bytes.specs.Parts.{size, headerBytes, projectBytes, kindBytes, partsTo, encoded, headerFields, projectFields, kindFields, projectFrom, kindFrom, projectsFrom, kindsFrom, headed, decoded}
-use Rattle.plan_bytes.specs.Reading.{headerSpare, projectSpare, kindSpare, projectsSpare, kindsSpare, placesSpare, spareZero, bodyAnswer, readAnswer, readOf}
+use Rattle.codec.specs.Pack.{pack, unpack}
+use Rattle.codec.specs.Bytes.{numberTo, bytesOf}
+use Rattle.codec.specs.Places.{partsTo}
+use Rattle.plan_bytes.specs.Parts.{size, headerBytes, projectBytes, kindBytes, encoded, headerFields, projectFields, kindFields}
+use Rattle.plan_bytes.specs.Parts.{projectFrom, kindFrom, projectsFrom, kindsFrom, headed, decoded}
+use Rattle.plan_bytes.specs.Reading.{headerSpare, projectSpare, kindSpare, projectsSpare, kindsSpare, placesSpare, spareZero}
+use Rattle.plan_bytes.specs.Reading.{bodyAnswer, readAnswer, readOf}
 use Rattle.verdict.specs.Workload.{besides, partOf, workload}
 use Rattle.verdict.specs.Verdict.{widthOf, excessOf, fitted, admitted, judged}
 use Rattle.table.specs.Table.{Table}
 
 pub table : Table
-unfolding sumTo leastTo firstTo countTo allTo written eachTo within sized emptyProject emptyKind tidyProjects tidyKinds inRange timed budgets sizes unused projectsInRange kindInRange kindsInRange budgetsFit ranges checked cellAt firstCell owns slotOf held window supply workloadPart fitsAt leastWidth excessAt leastExcess besides partOf workload widthOf excessOf fitted admitted judged bits pack unpack numberTo bytesOf size headerBytes projectBytes kindBytes partsTo encoded headerFields projectFields kindFields projectFrom kindFrom projectsFrom kindsFrom headed decoded headerSpare projectSpare kindSpare projectsSpare kindsSpare placesSpare spareZero bodyAnswer readAnswer readOf
-table = record { P1-read = refl; P1-written = refl; P2 = refl; P3 = refl; P4-one = refl; P4-two = refl; P5 = refl; P6 = refl; P7-shorter = refl; P7-longer = refl; P8 = refl; P9 = refl; P10 = refl; P11 = refl }
+unfolding sumTo leastTo firstTo countTo allTo written eachTo within sized emptyProject emptyKind tidyProjects tidyKinds inRange timed
+    budgets sizes unused projectsInRange kindInRange kindsInRange budgetsFit ranges checked cellAt firstCell owns slotOf held
+    tableLength tableOver tableAnswer window supply workloadPart fitsAt leastWidth excessAt leastExcess besides partOf workload widthOf
+    excessOf fitted admitted judged pack unpack numberTo bytesOf size headerBytes projectBytes kindBytes partsTo encoded
+    headerFields projectFields kindFields projectFrom kindFrom projectsFrom kindsFrom headed decoded headerSpare projectSpare kindSpare
+    projectsSpare kindsSpare placesSpare spareZero bodyAnswer readAnswer readOf
+table = record {
+  P1-read = refl;
+  P1-written = refl;
+  P2 = record { result = refl; buffer = refl };
+  P3 = refl;
+  P4-one = refl;
+  P4-two = refl;
+  P5 = refl;
+  P6 = refl;
+  P7-shorter = refl;
+  P7-longer = refl;
+  P8 = refl;
+  P9 = refl;
+  P10 = refl;
+  P11 = refl;
+}

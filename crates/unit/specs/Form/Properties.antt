@@ -13,7 +13,10 @@ use Rattle.unit.specs.Form.{UnitInForm, untouched, underway, unitInForm,
 
 untouched-says : (v : Unit) → untouched v ≡ true → (v .at ≡ 0) × (v .left ≡ 0)
 unfolding untouched
-untouched-says v e = (eqb-true (v .at) 0 (and-left (eqb (v .at) 0) (eqb (v .left) 0) e), eqb-true (v .left) 0 (and-right (eqb (v .at) 0) (eqb (v .left) 0) e))
+untouched-says v e = (
+  eqb-true (v .at) 0 (and-left (eqb (v .at) 0) (eqb (v .left) 0) e),
+  eqb-true (v .left) 0 (and-right (eqb (v .at) 0) (eqb (v .left) 0) e),
+)
 
 untouched-of : (v : Unit) → (v .at ≡ 0) × (v .left ≡ 0) → untouched v ≡ true
 unfolding untouched
@@ -38,7 +41,9 @@ unfolding unitInForm underway
 unit-of clock length v r = go (v .released) refl
   where
     go : (b : Bool) → v .released ≡ b → cond b (leb (v .at) clock && leb (v .left) length) (untouched v) ≡ true
-    go true p = and-both (leb (v .at) clock) (leb (v .left) length) (le-leb (v .at) clock (r .release-clock)) (le-leb (v .left) length (r .left-most))
+    go true p =
+        and-both (leb (v .at) clock) (leb (v .left) length) (le-leb (v .at) clock (r .release-clock))
+        (le-leb (v .left) length (r .left-most))
     go false p = untouched-of v (r .never p)
 
 -- an empty place is the unit that never was

@@ -6,8 +6,7 @@ use Prim.Native.Nat.{ℕ, _≤_}
 use lib.Dec.{ltb, eqb}
 use borrow.Author.Tests.{le-ltb, eq-eqb, ltb-false, eqb-true, not-false}
 use Rattle.answer.specs.declared.Answer.the-variants.{Good}
-use Rattle.answer.specs.declared.Refusal.the-variants.{Bare}
-use Rattle.answer.specs.Answer.{refuse, _andThen_}
+use Rattle.answer.specs.Answer.{bare, refuse, _andThen_}
 use Rattle.answer.specs.Answer.Properties.{andThen-left, andThen-right, refuse-good}
 use Rattle.plan.specs.declared.Kind.{Kind}
 use Rattle.plan.specs.Order.{within}
@@ -35,20 +34,26 @@ early-of separation v ago h = go (v .released) refl
 pub start-says : (k : Kind) (v : Unit) (ago e : ℕ) → startable k v ago e ≡ Good → Startable k v ago e
 unfolding startable
 start-says k v ago e h =
-    let thirteen = refuse (not (within (k .length) e)) (Bare 13) in
-    let fourteen = refuse (early (k .separation) v ago) (Bare 14) in
-    let fifteen = refuse (not (eqb (v .left) 0)) (Bare 15) in
-    let t = not-false (within (k .length) e) (refuse-good (not (within (k .length) e)) (Bare 13) (andThen-left thirteen (fourteen andThen fifteen) h)) in
+    let thirteen = refuse (not (within (k .length) e)) (bare 13) in
+    let fourteen = refuse (early (k .separation) v ago) (bare 14) in
+    let fifteen = refuse (not (eqb (v .left) 0)) (bare 15) in
+    let t = not-false (within (k .length) e)
+    (refuse-good (not (within (k .length) e)) _ (andThen-left thirteen (fourteen andThen fifteen) h)) in
     let r = andThen-right thirteen (fourteen andThen fifteen) h in
     record {
       some = within-low (k .length) e t;
       length-most = within-high (k .length) e t;
-      separated = early-says (k .separation) v ago (refuse-good (early (k .separation) v ago) (Bare 14) (andThen-left fourteen fifteen r));
-      nothing-left = eqb-true (v .left) 0 (not-false (eqb (v .left) 0) (refuse-good (not (eqb (v .left) 0)) (Bare 15) (andThen-right fourteen fifteen r)));
+      separated = early-says (k .separation) v ago (refuse-good (early (k .separation) v ago) _ (andThen-left fourteen fifteen r));
+      nothing-left =
+          eqb-true (v .left) 0 (not-false (eqb (v .left) 0) (refuse-good (not (eqb (v .left) 0)) _ (andThen-right fourteen fifteen r)));
     }
 
 -- and nothing more is asked
 pub start-of : (k : Kind) (v : Unit) (ago e : ℕ) → Startable k v ago e → startable k v ago e ≡ Good
 unfolding startable
 start-of k v ago e h =
-    rw (within-of (k .length) e (h .some) (h .length-most), early-of (k .separation) v ago (h .separated), eq-eqb (v .left) 0 (h .nothing-left))
+    rw (
+      within-of (k .length) e (h .some) (h .length-most),
+      early-of (k .separation) v ago (h .separated),
+      eq-eqb (v .left) 0 (h .nothing-left),
+    )

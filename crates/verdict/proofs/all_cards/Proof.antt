@@ -15,7 +15,9 @@ use Rattle.verdict.proofs.all_cards.Statement.{statement}
 use Rattle.verdict.proofs.all_cards.Tie as tie
 
 abbrev Inv-loop : tie.InvT-loop
-Inv-loop plan cards₀ first₀ j₀ j-end cards first j = (j ≤ j-end) × (j-end ≡ plan .projects) × (first ≡ firstCell plan j) × (cards ≡ written j (projectCards plan) (replicate 8 (replicate 64 0)))
+Inv-loop plan cards₀ first₀ j₀ j-end cards first j =
+    (j ≤ j-end) × (j-end ≡ plan .projects) × (first ≡ firstCell plan j) ×
+    (cards ≡ written j (projectCards plan) (replicate 8 (replicate 64 0)))
 
 abbrev μ-loop : tie.MeasureT-loop
 μ-loop plan cards₀ first₀ j₀ j-end cards first j = j-end - j

@@ -11,12 +11,14 @@ use Rattle.answer.specs.declared.Answer.the-variants.{Good}
 use Rattle.answer.specs.Answer.{eachTo}
 use Rattle.answer.specs.Answer.Properties.{each-none}
 use Rattle.verdict.specs.Verdict.{widthOf, fitted}
-use Rattle.verdict.specs.Steps.Properties.{project-place, project-fits, project-scaled, row-at, excess-room, fits-no, fits-again, fits-all, width-again}
+use Rattle.verdict.specs.Steps.Properties.{project-place, project-fits, project-scaled, row-at, excess-room, fits-no, fits-again}
+use Rattle.verdict.specs.Steps.Properties.{fits-all, width-again}
 use Rattle.verdict.proofs.fits.Statement.{statement}
 use Rattle.verdict.proofs.fits.Tie as tie
 
 abbrev Inv-loop : tie.InvT-loop
-Inv-loop plan cards width₀ i₀ i-end width i = (i ≤ i-end) × (i-end ≡ plan .kinds) × (Good ≡ eachTo i (fitted plan)) × (width ≡ written i (widthOf plan) (replicate 16 0))
+Inv-loop plan cards width₀ i₀ i-end width i =
+    (i ≤ i-end) × (i-end ≡ plan .kinds) × (Good ≡ eachTo i (fitted plan)) × (width ≡ written i (widthOf plan) (replicate 16 0))
 
 abbrev μ-loop : tie.MeasureT-loop
 μ-loop plan cards width₀ i₀ i-end width i = i-end - i

@@ -13,7 +13,8 @@ use Rattle.verdict.proofs.workload.Statement.{statement}
 use Rattle.verdict.proofs.workload.Tie as tie
 
 abbrev Inv-loop : tie.InvT-loop
-Inv-loop i plan kind sum₀ j₀ j-end sum j = (j ≤ j-end) × (j-end ≡ plan .kinds) × (kind ≡ kindOf plan i) × (sum ≡ sumTo j (partOf plan i)) × (sum ≤ 4095 * j)
+Inv-loop i plan kind sum₀ j₀ j-end sum j =
+    (j ≤ j-end) × (j-end ≡ plan .kinds) × (kind ≡ kindOf plan i) × (sum ≡ sumTo j (partOf plan i)) × (sum ≤ 4095 * j)
 
 abbrev μ-loop : tie.MeasureT-loop
 μ-loop i plan kind sum₀ j₀ j-end sum j = j-end - j
@@ -67,7 +68,8 @@ loop-less-3 : tie.Need-loop-less-3 Inv-loop μ-loop
 loop-less-3 c = search needs
 
 loop-again-3 : tie.Need-loop-again-3 Inv-loop μ-loop
-loop-again-3 c = let v : c .workload-part .result ≤ 4095 = search part-room in (omega arith, search, search, search other-again, omega arith)
+loop-again-3 c =
+    let v : c .workload-part .result ≤ 4095 = search part-room in (omega arith, search, search, search other-again, omega arith)
 
 returns : tie.Need-returns Inv-loop μ-loop
 unfolding workload

@@ -1,8 +1,9 @@
--- The verdict is what document 01 says: a plan is admitted exactly when every kind fits at some k, each k given is the least, and 8 names the first kind with no k and its excess.
+-- The verdict is what document 01 says: a plan is admitted exactly when every kind fits at some k, each k given is the least, and 8 names
+-- the first kind with no k and its excess.
 -- Assumes nothing.
 use mathlib.Core.Path.{_≡_, refl, sym, _∙_}
 use mathlib.Core.Logic.{_↔_}
-use Prim.Native.Nat.{ℕ, zero, suc, _+_, _*_, _≤_, _<_}
+use Prim.Native.Nat.{ℕ, zero, suc, _≤_, _<_}
 use native.Mathlib.Decide.{decLt}
 use native.Mathlib.Omega.{arith}
 use lib.Dec.{eqb}
@@ -13,25 +14,23 @@ use Rattle.plan.specs.declared.Plan.{Plan}
 use Rattle.answer.specs.declared.Answer.{Answer}
 use Rattle.answer.specs.declared.Answer.the-variants.{Good, No}
 use Rattle.answer.specs.declared.Refusal.{Refusal}
-use Rattle.answer.specs.declared.Refusal.the-variants.{ByKind}
-use Rattle.answer.specs.Answer.{_andThen_, eachTo}
-use Rattle.answer.specs.Answer.Properties.{andThen-good, andThen-no, andThen-left, andThen-right, refuse-good, each-at, each-of, each-refused}
+use Rattle.answer.specs.Answer.{notAdmitted, _andThen_, eachTo}
+use Rattle.answer.specs.Answer.Properties.{andThen-good, andThen-no, andThen-left, andThen-right, refuse-good, each-at, each-of}
+use Rattle.answer.specs.Answer.Properties.{each-opened}
 use Rattle.plan.specs.Order.{kindOf, checked, InOrder}
 use Rattle.plan.specs.Order.Properties.{in-order, in-order-good}
-use Rattle.layout.specs.Layout.Properties.{held-period}
-use Rattle.supply.specs.Supply.{window}
-use Rattle.supply.specs.Supply.Properties.{supply-everywhere}
 use Rattle.supply.specs.Fit.Properties.{width-most, width-fits, width-least, width-some, width-none, excess-most, excess-attained}
 use Rattle.verdict.specs.Workload.{workload}
 use Rattle.verdict.specs.Verdict.{projectOn, ceilingOn, heldOn, widthOf, excessOf, fitted, admitted, verdictOf, judged}
-use Rattle.verdict.specs.Admission.{Width, Fits, Excess, NotAdmitted}
+use Rattle.verdict.specs.Admission.{Fits, Excess, NotAdmitted}
 
 -- ---- the k of one kind
 
 module _ (p : Plan) (i : ℕ) where
   kind-fits : 0 < widthOf p i → Fits p i (widthOf p i)
   unfolding widthOf
-  kind-fits l = record { width = record { some = l; most = width-most _ _ _ _ _ (ceilingOn p i) }; room = width-fits _ _ _ _ _ (ceilingOn p i) l }
+  kind-fits l =
+      record { width = record { some = l; most = width-most _ _ _ _ _ (ceilingOn p i) }; room = width-fits _ _ _ _ _ (ceilingOn p i) l }
 
   kind-some : (k : ℕ) → Fits p i k → 0 < widthOf p i
   unfolding widthOf
@@ -39,15 +38,40 @@ module _ (p : Plan) (i : ℕ) where
 
   kind-least : (k : ℕ) → Fits p i k → widthOf p i ≤ k
   unfolding widthOf
-  kind-least k f = elim (decLt k (widthOf p i)) [ yes q ↦ absurd (omega (arith, f .room, width-least (p .frame) (heldOn p i) (kindOf p i .length) (workload p i) (kindOf p i .deadline) (ceilingOn p i) k (f .width .some) q)) | no q ↦ omega arith ]
+  kind-least k f =
+      elim (decLt k (widthOf p i)) [
+        | yes q ↦ absurd (omega (
+          arith,
+          f .room,
+          width-least (p .frame) (heldOn p i) (kindOf p i .length)
+              (workload p i) (kindOf p i .deadline) (ceilingOn p i) k (f .width .some) q,
+        ))
+        | no q ↦ omega arith
+      ]
 
   kind-excess : 0 < ceilingOn p i → widthOf p i ≡ 0 → Excess p i (excessOf p i)
   unfolding widthOf excessOf
   kind-excess q e =
       let t = excess-attained (p .frame) (heldOn p i) (kindOf p i .length) (workload p i) (kindOf p i .deadline) (ceilingOn p i) q in
       record {
-        least = λ k w. omega (arith, excess-most (p .frame) (heldOn p i) (kindOf p i .length) (workload p i) (kindOf p i .deadline) (ceilingOn p i) k (w .some) (w .most), width-none (p .frame) (heldOn p i) (kindOf p i .length) (workload p i) (kindOf p i .deadline) (ceilingOn p i) k e (w .some) (w .most));
-        attained = (t .0, record { some = t .1; most = t .2 }, omega (arith, t .3, width-none (p .frame) (heldOn p i) (kindOf p i .length) (workload p i) (kindOf p i .deadline) (ceilingOn p i) (t .0) e (t .1) (t .2)));
+        least =
+            λ k w. omega (
+              arith,
+              excess-most (p .frame) (heldOn p i) (kindOf p i .length) (workload p i) (kindOf p i .deadline)
+                  (ceilingOn p i) k (w .some) (w .most),
+              width-none (p .frame) (heldOn p i) (kindOf p i .length) (workload p i)
+                  (kindOf p i .deadline) (ceilingOn p i) k e (w .some) (w .most),
+            );
+        attained = (
+          t .0,
+          record { some = t .1; most = t .2 },
+          omega (
+            arith,
+            t .3,
+            width-none (p .frame) (heldOn p i) (kindOf p i .length)
+                (workload p i) (kindOf p i .deadline) (ceilingOn p i) (t .0) e (t .1) (t .2),
+          ),
+        );
       }
 
   -- ---- 8 or not
@@ -58,16 +82,16 @@ module _ (p : Plan) (i : ℕ) where
 
   fitted-good : fitted p i ≡ Good → 0 < widthOf p i
   unfolding fitted
-  fitted-good e = let n = eqb-false (widthOf p i) 0 (refuse-good (eqb (widthOf p i) 0) (ByKind 8 i (excessOf p i)) e) in omega arith
+  fitted-good e = let n = eqb-false (widthOf p i) 0 (refuse-good (eqb (widthOf p i) 0) _ e) in omega arith
 
-  fitted-no : widthOf p i ≡ 0 → fitted p i ≡ No (ByKind 8 i (excessOf p i))
+  fitted-no : widthOf p i ≡ 0 → fitted p i ≡ notAdmitted i (excessOf p i)
   unfolding fitted
   fitted-no e = rw (eq-eqb (widthOf p i) 0 e)
 
-  fitted-told : (w : Refusal) → fitted p i ≡ No w → (widthOf p i ≡ 0) × (No (ByKind 8 i (excessOf p i)) ≡ No w)
+  fitted-told : (w : Refusal) → fitted p i ≡ No w → (widthOf p i ≡ 0) × (notAdmitted i (excessOf p i) ≡ No w)
   fitted-told w e = elim (decLt 0 (widthOf p i)) [ yes q ↦ none (fitted-of q) | no q ↦ (omega arith, sym (fitted-no (omega arith)) ∙ e) ]
     where
-      none : fitted p i ≡ Good → (widthOf p i ≡ 0) × (No (ByKind 8 i (excessOf p i)) ≡ No w)
+      none : fitted p i ≡ Good → (widthOf p i ≡ 0) × (notAdmitted i (excessOf p i) ≡ No w)
       none g = let z : _≡_ {A = ℕ} 0 1 = cc in absurd (omega arith)
 
 -- the first place that is refused
@@ -76,7 +100,8 @@ unfolding eachTo
 each-no zero f w e = let z : _≡_ {A = ℕ} 0 1 = cc in absurd (omega arith)
 each-no (suc n) f w e = go (eachTo n f) refl (each-no n f w)
   where
-    go : (a : Answer) → eachTo n f ≡ a → (eachTo n f ≡ No w → (i : ℕ) × (i < n) × (f i ≡ No w) × ((j : ℕ) → j < i → f j ≡ Good)) → (i : ℕ) × (i < suc n) × (f i ≡ No w) × ((j : ℕ) → j < i → f j ≡ Good)
+    go : (a : Answer) → eachTo n f ≡ a → (eachTo n f ≡ No w → (i : ℕ) × (i < n) × (f i ≡ No w) × ((j : ℕ) → j < i → f j ≡ Good)) →
+        (i : ℕ) × (i < suc n) × (f i ≡ No w) × ((j : ℕ) → j < i → f j ≡ Good)
     go Good g rec = (n, omega arith, sym (andThen-good (eachTo n f) (f n) g) ∙ e, each-at n f g)
     go (No r) g rec = let t = rec (g ∙ sym (andThen-no (eachTo n f) (f n) r g) ∙ e) in (t .0, omega (arith, t .1), t .2, t .3)
 
@@ -116,7 +141,9 @@ admitted-exactly p = (
 -- the k given
 width-at : (p : Plan) → judged p .answer ≡ Good → (i : ℕ) → i < p .kinds → getD (judged p .width) i 0 ≡ widthOf p i
 unfolding judged
-width-at p e i l = rw e (written-at (p .kinds) (widthOf p) (replicate 16 0) 0 i l (omega (arith, length-replicate {A = ℕ} 16 0, judged-in-order p e .counts .kinds-most)))
+width-at p e i l =
+    rw e (written-at (p .kinds) (widthOf p) (replicate 16 0) 0 i l
+    (omega (arith, length-replicate {A = ℕ} 16 0, judged-in-order p e .counts .kinds-most)))
 
 -- "The verdict gives for each kind the least such k": it fits
 pub given-fits : (p : Plan) → judged p .answer ≡ Good → (i : ℕ) → i < p .kinds → Fits p i (getD (judged p .width) i 0)
@@ -132,7 +159,11 @@ unfolding judged
 none-beyond p i l = go (checked p andThen admitted p)
   where
     zeros : getD {A = ℕ} (replicate 16 0) i 0 ≡ 0
-    zeros = elim (decLt i 16) [ yes q ↦ getD-replicate 16 i 0 0 q | no q ↦ List·getD-eq-default {A = ℕ} (replicate 16 0) 0 {n = i} (omega (arith, length-replicate {A = ℕ} 16 0)) ]
+    zeros =
+        elim (decLt i 16) [
+          | yes q ↦ getD-replicate 16 i 0 0 q
+          | no q ↦ List·getD-eq-default {A = ℕ} (replicate 16 0) 0 {n = i} (omega (arith, length-replicate {A = ℕ} 16 0))
+        ]
 
     go : (a : Answer) → getD (verdictOf p a .width) i 0 ≡ 0
     go Good = written-kept (p .kinds) (widthOf p) (replicate 16 0) 0 i l ∙ zeros
@@ -145,10 +176,11 @@ none-refused p r e = rw e
 
 -- two excesses are one
 excess-one : (p : Plan) (i x y : ℕ) → Excess p i x → Excess p i y → x ≡ y
-excess-one p i x y a b = omega (arith, a .attained .2, b .attained .2, a .least (b .attained .0) (b .attained .1), b .least (a .attained .0) (a .attained .1))
+excess-one p i x y a b =
+    omega (arith, a .attained .2, b .attained .2, a .least (b .attained .0) (b .attained .1), b .least (a .attained .0) (a .attained .1))
 
 -- 8 exactly for the first kind with no k, with its excess
-pub refused-exactly : (p : Plan) → InOrder p → (i x : ℕ) → (judged p .answer ≡ No (ByKind 8 i x)) ↔ NotAdmitted p i x
+pub refused-exactly : (p : Plan) → InOrder p → (i x : ℕ) → (judged p .answer ≡ notAdmitted i x) ↔ NotAdmitted p i x
 unfolding admitted
 refused-exactly p o i x = (told, tell)
   where
@@ -156,30 +188,30 @@ refused-exactly p o i x = (told, tell)
     ceiling j l = o .project-at (projectOn p j) (o .kind-at j l .its-project) .some-ceiling
 
     kind : (n : ℕ) → widthOf p n ≡ 0 → n < p .kinds → ((j : ℕ) → j < n → fitted p j ≡ Good) → NotAdmitted p n (excessOf p n)
-    kind n e l g = record { its-kind = l; first = λ j m. (widthOf p j, kind-fits p j (fitted-good p j (g j m))); no-width = λ k f. omega (arith, kind-some p n k f); excess = kind-excess p n (ceiling n l) e }
+    kind n e l g =
+        record {
+          its-kind = l;
+          first = λ j m. (widthOf p j, kind-fits p j (fitted-good p j (g j m)));
+          no-width = λ k f. omega
+              (arith, kind-some p n k f);
+          excess = kind-excess p n (ceiling n l) e;
+        }
 
-    told : judged p .answer ≡ No (ByKind 8 i x) → NotAdmitted p i x
+    told : judged p .answer ≡ notAdmitted i x → NotAdmitted p i x
     told e =
-        let t = each-no (p .kinds) (fitted p) (ByKind 8 i x) (sym (order-next p o) ∙ e) in
-        let s = fitted-told p (t .0) (ByKind 8 i x) (t .2) in
+        let t = each-no (p .kinds) (fitted p) _ (sym (order-next p o) ∙ e) in
+        let s = fitted-told p (t .0) _ (t .2) in
         let a : t .0 ≡ i = cc (s .1) in
         let b : excessOf p (t .0) ≡ x = cc (s .1) in
         rw (b, a) at (kind (t .0) (s .0) (t .1) (t .3))
 
-    tell : NotAdmitted p i x → judged p .answer ≡ No (ByKind 8 i x)
+    tell : NotAdmitted p i x → judged p .answer ≡ notAdmitted i x
     tell n =
-        let none : widthOf p i ≡ 0 = elim (decLt 0 (widthOf p i)) [ yes q ↦ absurd (n .no-width (widthOf p i) (kind-fits p i q)) | no q ↦ omega arith ] in
+        let none : widthOf p i ≡ 0 = elim (decLt 0 (widthOf p i))
+        [ yes q ↦ absurd (n .no-width (widthOf p i) (kind-fits p i q)) | no q ↦ omega arith ] in
         let same = excess-one p i (excessOf p i) x (kind-excess p i (ceiling i (n .its-kind)) none) (n .excess) in
         let before = each-of i (fitted p) (λ j l. fitted-of p j (kind-some p j (n .first j l .0) (n .first j l .1))) in
-        order-next p o ∙ sym (each-refused (p .kinds) i (fitted p) (ByKind 8 i (excessOf p i)) (sym before) (sym (fitted-no p i none)) (n .its-kind)) ∙ rw same
-
--- ---- what a run needs
-
--- an admitted plan's kind has room for its unit and its workload in the Di slices from every clock on
-pub admitted-windows : (p : Plan) → judged p .answer ≡ Good → (i : ℕ) → i < p .kinds → (clock : ℕ) → widthOf p i * kindOf p i .length + workload p i ≤ window (widthOf p i) (heldOn p i) clock (kindOf p i .deadline)
-admitted-windows p e i l clock =
-    let f = kind-fits p i (kind-admitted p e i l) in
-    omega (arith, f .room, supply-everywhere (p .frame) (heldOn p i) (held-period p (projectOn p i)) (judged-in-order p e .counts .some-slice) (widthOf p i) clock (kindOf p i .deadline))
-
-pub admitted-width : (p : Plan) → judged p .answer ≡ Good → (i : ℕ) → i < p .kinds → Width p i (widthOf p i)
-admitted-width p e i l = kind-fits p i (kind-admitted p e i l) .width
+        order-next p o
+        ∙ sym
+        (each-opened (p .kinds) i (fitted p) (notAdmitted i (excessOf p i)) _ (sym before) refl (sym (fitted-no p i none)) (n .its-kind))
+        ∙ rw same

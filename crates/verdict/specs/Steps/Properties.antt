@@ -13,8 +13,7 @@ use Rattle.plan.specs.declared.Plan.{Plan}
 use Rattle.answer.specs.declared.Answer.{Answer}
 use Rattle.answer.specs.declared.Answer.the-variants.{Good, No}
 use Rattle.answer.specs.declared.Refusal.{Refusal}
-use Rattle.answer.specs.declared.Refusal.the-variants.{ByKind}
-use Rattle.answer.specs.Answer.{refuse, _andThen_, eachTo}
+use Rattle.answer.specs.Answer.{notAdmitted, refuse, _andThen_, eachTo}
 use Rattle.answer.specs.Answer.Properties.{each-more, each-stop, each-opened, opened-no, opened-on}
 use Rattle.plan.specs.Order.{kindOf, budgetOf, checked, InOrder}
 use Rattle.layout.specs.Cards.{cardsBelow, heldFrom}
@@ -32,9 +31,11 @@ use Rattle.verdict.specs.Steps.{runCards, projectCards, allCards, fitOn}
 
 -- ---- a run of cells
 
-module _ (first budget frame s low high : ℕ) (l : s < frame) (below : low ≡ cardsBelow frame first s) (above : high ≡ cardsBelow frame (first + budget) s) where
+module _ (first budget frame s low high : ℕ) (l : s < frame) (below : low ≡ cardsBelow frame first s)
+    (above : high ≡ cardsBelow frame (first + budget) s) where
   run-at : high - low ≡ heldFrom first budget frame s
-  run-at = let e : s % frame ≡ s = mod-eq-of-lt l in let r = run-closed first budget frame s (omega arith) in rw (below, above) (sym (rw e at r))
+  run-at =
+      let e : s % frame ≡ s = mod-eq-of-lt l in let r = run-closed first budget frame s (omega arith) in rw (below, above) (sym (rw e at r))
 
   pub run-ordered : low ≤ high
   run-ordered = omega (arith, below-grows frame s l first (first + budget) (omega arith))
@@ -42,7 +43,8 @@ module _ (first budget frame s low high : ℕ) (l : s < frame) (below : low ≡ 
   pub run-small : budget ≤ 8 * frame → high - low < 256
   run-small b = omega (arith, run-at, run-ceiling first budget frame s (omega arith) 8 b)
 
-  pub run-again : (before after : List ℕ) → before ≡ written s (heldFrom first budget frame) after → set before s (high - low) ≡ written (s + 1) (heldFrom first budget frame) after
+  pub run-again : (before after : List ℕ) → before ≡ written s (heldFrom first budget frame) after →
+      set before s (high - low) ≡ written (s + 1) (heldFrom first budget frame) after
   run-again before after e = written-again s (heldFrom first budget frame) after before (high - low) e run-at
 
 -- ---- the cards of each project
@@ -66,7 +68,8 @@ module _ (p : Plan) (o : InOrder p) (j first : ℕ) (l : j < p .projects) (here 
   unfolding runCards projectCards
   row-is = rw here (ap (λ (h : ℕ → ℕ). written (p .frame) h (replicate 64 0)) (fun-ext (λ s. sym (held-from p o j l s))))
 
-  pub cards-again : (before after : List (List ℕ)) (row : List ℕ) → before ≡ written j (projectCards p) after → row ≡ runCards first (budgetOf p j) (p .frame) → set before j row ≡ written (j + 1) (projectCards p) after
+  pub cards-again : (before after : List (List ℕ)) (row : List ℕ) → before ≡ written j (projectCards p) after →
+      row ≡ runCards first (budgetOf p j) (p .frame) → set before j row ≡ written (j + 1) (projectCards p) after
   cards-again before after row e q = written-again j (projectCards p) after before row e (q ∙ row-is)
 
 -- ---- the fit of each kind
@@ -83,29 +86,48 @@ module _ (p : Plan) (o : InOrder p) (i : ℕ) (l : i < p .kinds) where
 
   pub row-at : (cards : List (List ℕ)) (d : List ℕ) → cards ≡ allCards p → getD cards (projectOn p i) d ≡ projectCards p (projectOn p i)
   unfolding allCards
-  row-at cards d e = rw e (written-at (p .projects) (projectCards p) (replicate 8 (replicate 64 0)) d (projectOn p i) (o .kind-at i l .its-project) (omega (arith, length-replicate 8 (replicate {A = ℕ} 64 0), o .counts .projects-most)))
+  row-at cards d e =
+      rw e (written-at (p .projects) (projectCards p) (replicate 8 (replicate 64 0)) d (projectOn p i) (o .kind-at i l .its-project)
+      (omega (arith, length-replicate 8 (replicate {A = ℕ} 64 0), o .counts .projects-most)))
 
   cards-held : heldAt (p .frame) (projectCards p (projectOn p i)) ≡ heldOn p i
   unfolding heldAt projectCards
   cards-held =
-      fun-ext (λ s. written-at (p .frame) (heldOn p i) (replicate 64 0) 0 (s % p .frame) (mod-lt s (o .counts .some-slice)) (omega (arith, length-replicate {A = ℕ} 64 0, o .counts .frame-most)) ∙ held-mod p (projectOn p i) s)
+      fun-ext (λ s. written-at (p .frame) (heldOn p i) (replicate 64 0) 0 (s % p .frame) (mod-lt s (o .counts .some-slice))
+      (omega (arith, length-replicate {A = ℕ} 64 0, o .counts .frame-most)) ∙ held-mod p (projectOn p i) s)
 
-  pub fit-is : (cards : List ℕ) (w : ℕ) (r : Fit) → cards ≡ projectCards p (projectOn p i) → w ≡ workload p i → r ≡ fitOf (p .frame) cards (ceilingOn p i) (kindOf p i .length) w (kindOf p i .deadline) → r ≡ fitOn p i
+  pub fit-is : (cards : List ℕ) (w : ℕ) (r : Fit) → cards ≡ projectCards p (projectOn p i) → w ≡ workload p i →
+      r ≡ fitOf (p .frame) cards (ceilingOn p i) (kindOf p i .length) w (kindOf p i .deadline) → r ≡ fitOn p i
   unfolding widthOf excessOf
   fit-is cards w r e f q =
-      q ∙ rw (e, f, fit-framed (p .frame) (projectCards p (projectOn p i)) (ceilingOn p i) (kindOf p i .length) (workload p i) (kindOf p i .deadline) (λ z. omega (arith, o .counts .some-slice)) (o .counts .frame-most), cards-held)
+      q ∙ rw (
+        e,
+        f,
+        fit-framed (p .frame) (projectCards p (projectOn p i)) (ceilingOn p i) (kindOf p i .length) (workload p i)
+            (kindOf p i .deadline) (λ z. omega (arith, o .counts .some-slice)) (o .counts .frame-most),
+        cards-held,
+      )
 
   pub excess-room : (r : Fit) → r ≡ fitOn p i → r .excess ≤ 4294967295
   unfolding excessOf
   excess-room r e =
       let a = o .kind-at i l in
       let b = o .project-at (projectOn p i) (a .its-project) in
-      rw e (omega (arith, excess-most (p .frame) (heldOn p i) (kindOf p i .length) (workload p i) (kindOf p i .deadline) (ceilingOn p i) 1 (omega arith) (b .some-ceiling), workload-most p o i l, a .length-most, a .deadline-most, a .separation-most))
+      rw e (omega (
+        arith,
+        excess-most (p .frame) (heldOn p i) (kindOf p i .length) (workload p i) (kindOf p i .deadline) (ceilingOn p i) 1
+            (omega arith) (b .some-ceiling),
+        workload-most p o i l,
+        a .length-most,
+        a .deadline-most,
+        a .separation-most,
+      ))
 
 -- ---- the kinds in their order
 
 -- 8 or not, for kind i
-fit-told : (p : Plan) (i : ℕ) (r : Fit) (a : Answer) → r ≡ fitOn p i → a ≡ refuse (eqb (r .width) 0) (ByKind 8 i (r .excess)) → a ≡ fitted p i
+fit-told : (p : Plan) (i : ℕ) (r : Fit) (a : Answer) → r ≡ fitOn p i → a ≡ refuse (eqb (r .width) 0) (notAdmitted i (r .excess)) →
+    a ≡ fitted p i
 unfolding fitted
 fit-told p i r a e q = q ∙ rw e
 
@@ -114,18 +136,22 @@ verdict-no p x a w e q = rw (← q, e)
 
 module _ (p : Plan) (i : ℕ) (so : Good ≡ eachTo i (fitted p)) where
   -- the first kind with no k leaves at once
-  pub fits-no : (r : Fit) (a : Answer) (w : Refusal) → i < p .kinds → a ≡ No w → r ≡ fitOn p i → a ≡ refuse (eqb (r .width) 0) (ByKind 8 i (r .excess)) → record { answer = a; width = replicate 16 0 } ≡ verdictOf p (admitted p)
+  pub fits-no : (r : Fit) (a : Answer) (w : Refusal) → i < p .kinds → a ≡ No w → r ≡ fitOn p i →
+      a ≡ refuse (eqb (r .width) 0) (notAdmitted i (r .excess)) → record { answer = a; width = replicate 16 0 } ≡ verdictOf p (admitted p)
   unfolding admitted
   fits-no r a w l n e q = verdict-no p (admitted p) a w n (each-opened (p .kinds) i (fitted p) a w so n (fit-told p i r a e q) l)
 
-  pub fits-again : (r : Fit) (a : Answer) → a ≡ Good → r ≡ fitOn p i → a ≡ refuse (eqb (r .width) 0) (ByKind 8 i (r .excess)) → Good ≡ eachTo (i + 1) (fitted p)
+  pub fits-again : (r : Fit) (a : Answer) → a ≡ Good → r ≡ fitOn p i → a ≡ refuse (eqb (r .width) 0) (notAdmitted i (r .excess)) →
+      Good ≡ eachTo (i + 1) (fitted p)
   fits-again r a g e q = each-more i (fitted p) so (sym g ∙ fit-told p i r a e q)
 
-  pub fits-all : (k : List ℕ) → k ≡ written i (widthOf p) (replicate 16 0) → i ≤ p .kinds → p .kinds ≤ i → record { answer = Good; width = k } ≡ verdictOf p (admitted p)
+  pub fits-all : (k : List ℕ) → k ≡ written i (widthOf p) (replicate 16 0) → i ≤ p .kinds → p .kinds ≤ i →
+      record { answer = Good; width = k } ≡ verdictOf p (admitted p)
   unfolding admitted
-  fits-all k e l m = rw (← (each-stop i (p .kinds) (fitted p) so l m), written-stop i (p .kinds) (widthOf p) (replicate 16 0) k e l m)
+  fits-all k e l m = rw (← (each-stop i (p .kinds) (fitted p) Good so l m), written-stop i (p .kinds) (widthOf p) (replicate 16 0) k e l m)
 
-pub width-again : (p : Plan) (i : ℕ) (r : Fit) (before after : List ℕ) → before ≡ written i (widthOf p) after → r ≡ fitOn p i → set before i (r .width) ≡ written (i + 1) (widthOf p) after
+pub width-again : (p : Plan) (i : ℕ) (r : Fit) (before after : List ℕ) → before ≡ written i (widthOf p) after → r ≡ fitOn p i →
+    set before i (r .width) ≡ written (i + 1) (widthOf p) after
 width-again p i r before after e q = written-again i (widthOf p) after before (r .width) e (rw q)
 
 -- ---- the stages

@@ -26,14 +26,16 @@ unfolding partOf besides
 part-foreign p i j n m = rw (ne-eqb j i n, ne-eqb (kindOf p j .project) (kindOf p i .project) m)
 
 -- every other one of the same
-pub part-other : (p : Plan) (i j : ℕ) → (j ≡ i → ⊥) → kindOf p j .project ≡ kindOf p i .project → partOf p i j ≡ workloadPart (kindOf p j .separation) (kindOf p j .length) (kindOf p i .deadline)
+pub part-other : (p : Plan) (i j : ℕ) → (j ≡ i → ⊥) → kindOf p j .project ≡ kindOf p i .project →
+    partOf p i j ≡ workloadPart (kindOf p j .separation) (kindOf p j .length) (kindOf p i .deadline)
 unfolding partOf besides
 part-other p i j n e = rw (ne-eqb j i n, eq-eqb (kindOf p j .project) (kindOf p i .project) e)
 
 -- ---- how much it can be
 
 module _ (p : Plan) (o : InOrder p) (i : ℕ) (l : i < p .kinds) where
-  pub part-room : (j v : ℕ) → j < p .kinds → v ≡ workloadPart (kindOf p j .separation) (kindOf p j .length) (kindOf p i .deadline) → v ≤ 4095
+  pub part-room : (j v : ℕ) → j < p .kinds → v ≡ workloadPart (kindOf p j .separation) (kindOf p j .length) (kindOf p i .deadline) →
+      v ≤ 4095
   part-room j v m e =
       let a = o .kind-at j m in
       let b = o .kind-at i l in
@@ -64,5 +66,6 @@ module _ (p : Plan) (i j s : ℕ) (so : s ≡ sumTo j (partOf p i)) where
   pub foreign-again : (j ≡ i → ⊥) → (kindOf p j .project ≡ kindOf p i .project → ⊥) → s ≡ sumTo (j + 1) (partOf p i)
   foreign-again n m = skipped (part-foreign p i j n m)
 
-  pub other-again : (v : ℕ) → (j ≡ i → ⊥) → kindOf p j .project ≡ kindOf p i .project → v ≡ workloadPart (kindOf p j .separation) (kindOf p j .length) (kindOf p i .deadline) → s + v ≡ sumTo (j + 1) (partOf p i)
+  pub other-again : (v : ℕ) → (j ≡ i → ⊥) → kindOf p j .project ≡ kindOf p i .project →
+      v ≡ workloadPart (kindOf p j .separation) (kindOf p j .length) (kindOf p i .deadline) → s + v ≡ sumTo (j + 1) (partOf p i)
   other-again v n e q = sum-again s j (partOf p i) v so (q ∙ sym (part-other p i j n e))

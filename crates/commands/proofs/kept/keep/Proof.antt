@@ -10,7 +10,8 @@ use Rattle.commands.proofs.kept.keep.Statement.{statement}
 use Rattle.commands.proofs.kept.keep.Tie as tie
 
 abbrev Inv-loop : tie.InvT-loop
-Inv-loop bytes₀ from to count i₀ bytes i = (i ≤ count) × (count ≡ to - from) × (from ≤ to) × (to ≤ length bytes₀) × (bytes ≡ moved bytes₀ from i) × (length bytes ≡ length bytes₀)
+Inv-loop bytes₀ from to count i₀ bytes i =
+    (i ≤ count) × (count ≡ to - from) × (from ≤ to) × (to ≤ length bytes₀) × (bytes ≡ moved bytes₀ from i) × (length bytes ≡ length bytes₀)
 
 abbrev μ-loop : tie.MeasureT-loop
 μ-loop bytes₀ from to count i₀ bytes i = count - i

@@ -14,7 +14,8 @@ use Rattle.layout.proofs.table.first_cells.Statement.{statement}
 use Rattle.layout.proofs.table.first_cells.Tie as tie
 
 abbrev Inv-loop : tie.InvT-loop
-Inv-loop plan first₀ cell₀ j₀ j-end first cell j = (j ≤ j-end) × (j-end ≡ plan .projects) × (first ≡ written j (firstCell plan) (replicate 9 0)) × (cell ≡ firstCell plan j)
+Inv-loop plan first₀ cell₀ j₀ j-end first cell j =
+    (j ≤ j-end) × (j-end ≡ plan .projects) × (first ≡ written j (firstCell plan) (replicate 9 0)) × (cell ≡ firstCell plan j)
 
 abbrev μ-loop : tie.MeasureT-loop
 μ-loop plan first₀ cell₀ j₀ j-end first cell j = j-end - j
@@ -41,7 +42,9 @@ element-copy-out-cell : tie.Need-element-copy-out-cell Inv-loop μ-loop
 element-copy-out-cell c = search needs
 
 add-cell : tie.Need-add-cell Inv-loop μ-loop
-add-cell c = let start = c .before .before in omega (arith, first-cells-most (start .args .t1) (c .before .loop .j) (c .before .loop .cell) (start .pre) (search needs) (search))
+add-cell c =
+    let start = c .before .before in
+    omega (arith, first-cells-most (start .args .t1) (c .before .loop .j) (c .before .loop .cell) (start .pre) (search needs) (search))
 
 add-j : tie.Need-add-j Inv-loop μ-loop
 add-j c = search needs

@@ -14,7 +14,10 @@ use Rattle.layout.proofs.table.row.Statement.{statement}
 use Rattle.layout.proofs.table.row.Tie as tie
 
 abbrev Inv-loop : tie.InvT-loop
-Inv-loop plan first card before slots₀ slot₀ cell₀ s₀ s-end slots slot cell s = (s ≤ s-end) × (s-end ≡ plan .frame) × (cell ≡ cellAt (plan .frame) card s) × (cell + (s-end - s) ≤ 512) × (slot < 9) × (slot ≡ slotOf plan (cellAt (plan .frame) card s - 1)) × (slots ≡ written s (λ (slice : ℕ). slotOf plan (cellAt (plan .frame) card slice)) (replicate 64 0))
+Inv-loop plan first card before slots₀ slot₀ cell₀ s₀ s-end slots slot cell s =
+    (s ≤ s-end) × (s-end ≡ plan .frame) × (cell ≡ cellAt (plan .frame) card s) × (cell + (s-end - s) ≤ 512) × (slot < 9) ×
+    (slot ≡ slotOf plan (cellAt (plan .frame) card s - 1)) ×
+    (slots ≡ written s (λ (slice : ℕ). slotOf plan (cellAt (plan .frame) card slice)) (replicate 64 0))
 
 abbrev μ-loop : tie.MeasureT-loop
 μ-loop plan first card before slots₀ slot₀ cell₀ s₀ s-end slots slot cell s = s-end - s
@@ -26,7 +29,15 @@ mul-cell : tie.Need-mul-cell Inv-loop μ-loop
 mul-cell c = omega (arith, row-most (c .before .args .plan) (c .before .args .card) (c .before .pre .0) (c .before .pre .2))
 
 loop-holds : tie.Need-loop-holds Inv-loop μ-loop
-loop-holds c = (omega arith, refl, search row-start, omega (arith, row-most (c .before .args .plan) (c .before .args .card) (c .before .pre .0) (c .before .pre .2)), search slot-index, search, written-none _ _)
+loop-holds c = (
+  omega arith,
+  refl,
+  search row-start,
+  omega (arith, row-most (c .before .args .plan) (c .before .args .card) (c .before .pre .0) (c .before .pre .2)),
+  search slot-index,
+  search,
+  written-none _ _,
+)
 
 cast-end : tie.Need-cast-end Inv-loop μ-loop
 cast-end c = search needs
@@ -56,7 +67,8 @@ loop-less : tie.Need-loop-less Inv-loop μ-loop
 loop-less c = search needs
 
 loop-again : tie.Need-loop-again Inv-loop μ-loop
-loop-again c = (omega arith, refl, search row-next, omega arith, search row-index, search (row-back, row-slot), search (written-again, row-slot))
+loop-again c =
+    (omega arith, refl, search row-next, omega arith, search row-index, search (row-back, row-slot), search (written-again, row-slot))
 
 returns : tie.Need-returns Inv-loop μ-loop
 unfolding rowOf

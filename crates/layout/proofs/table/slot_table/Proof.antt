@@ -27,6 +27,9 @@ cast-needed-2 c = search needs
 mul-needed : tie.Need-mul-needed
 mul-needed c = fits-under _ _ 513 (search opened-cells) tt
 
+bare-requires : tie.Need-bare-requires
+bare-requires c κs = search needs
+
 returns-2 : tie.Need-returns-2
 returns-2 c = search table-ways
 
@@ -50,6 +53,7 @@ slot-table-spec =
     cast-needed
     cast-needed-2
     mul-needed
+    bare-requires
     returns-2
     write-slots-requires
     same-length

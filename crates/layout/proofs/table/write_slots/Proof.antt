@@ -8,26 +8,32 @@ use lib.ListN.{length, length-set}
 use borrow.Author.Needs.{needs, zero≤}
 use Rattle.laws.specs.Written.{written}
 use Rattle.laws.specs.Written.Properties.{written-none, written-again}
-use Rattle.layout.specs.Walk.Properties.{row-next, rows-none, rows-again, rows-stop, rows-start, rows-back, rows-slot, bytes-start, bytes-over, bytes-room, bytes-done}
+use Rattle.layout.specs.Walk.Properties.{row-next, rows-none, rows-again, rows-stop, rows-start, rows-back, rows-slot, bytes-start}
+use Rattle.layout.specs.Walk.Properties.{bytes-over, bytes-room, bytes-done}
 use Rattle.layout.specs.Walk.{rowsOf}
 use Rattle.layout.specs.Layout.{cellAt, slotOf}
 use Rattle.layout.proofs.table.write_slots.Statement.{statement}
 use Rattle.layout.proofs.table.write_slots.Tie as tie
 
 abbrev Inv-loop : tie.InvT-loop
-Inv-loop plan out first rows₀ before₀ c₀ c-end rows before c = (c ≤ c-end) × (c-end ≡ plan .cards) × (before ≡ slotOf plan (cellAt (plan .frame) c 0 - 1)) × (rows ≡ rowsOf plan c)
+Inv-loop plan out first rows₀ before₀ c₀ c-end rows before c =
+    (c ≤ c-end) × (c-end ≡ plan .cards) × (before ≡ slotOf plan (cellAt (plan .frame) c 0 - 1)) × (rows ≡ rowsOf plan c)
 
 abbrev μ-loop : tie.MeasureT-loop
 μ-loop plan out first rows₀ before₀ c₀ c-end rows before c = c-end - c
 
 abbrev Inv-loop3 : tie.InvT-loop3
-Inv-loop3 plan out₀ rows before at₀ c s₀ c-end s-end out at s = (s ≤ s-end) × (s-end ≡ plan .frame) × (at ≡ cellAt (plan .frame) c s) × (length out ≡ length out₀) × (at + (s-end - s) ≤ length out) × ((l : List ℕ) → out₀ ≡ written at₀ (slotOf plan) l → out ≡ written at (slotOf plan) l)
+Inv-loop3 plan out₀ rows before at₀ c s₀ c-end s-end out at s =
+    (s ≤ s-end) × (s-end ≡ plan .frame) × (at ≡ cellAt (plan .frame) c s) × (length out ≡ length out₀) × (at + (s-end - s) ≤ length out) ×
+    ((l : List ℕ) → out₀ ≡ written at₀ (slotOf plan) l → out ≡ written at (slotOf plan) l)
 
 abbrev μ-loop3 : tie.MeasureT-loop3
 μ-loop3 plan out₀ rows before at₀ c s₀ c-end s-end out at s = s-end - s
 
 abbrev Inv-loop2 : tie.InvT-loop2
-Inv-loop2 plan out₀ rows before at₀ c₀ c-end out at c = (c ≤ c-end) × (c-end ≡ plan .cards) × (at ≡ cellAt (plan .frame) c 0) × (rows ≡ rowsOf plan (plan .cards)) × (length out ≡ length out₀) × (out ≡ written at (slotOf plan) out₀)
+Inv-loop2 plan out₀ rows before at₀ c₀ c-end out at c =
+    (c ≤ c-end) × (c-end ≡ plan .cards) × (at ≡ cellAt (plan .frame) c 0) × (rows ≡ rowsOf plan (plan .cards)) × (length out ≡ length out₀)
+    × (out ≡ written at (slotOf plan) out₀)
 
 abbrev μ-loop2 : tie.MeasureT-loop2
 μ-loop2 plan out₀ rows before at₀ c₀ c-end out at c = c-end - c
@@ -104,7 +110,14 @@ loop3-less : tie.Need-loop3-less Inv-loop μ-loop Inv-loop3 μ-loop3 Inv-loop2 �
 loop3-less c = search needs
 
 loop3-again : tie.Need-loop3-again Inv-loop μ-loop Inv-loop3 μ-loop3 Inv-loop2 μ-loop2
-loop3-again c = (omega arith, refl, search row-next, search needs, rw length-set (omega arith), λ l e. written-again _ _ _ _ _ (c .before .before .loop3 .inv .5 l e) (search rows-slot))
+loop3-again c = (
+  omega arith,
+  refl,
+  search row-next,
+  search needs,
+  rw length-set (omega arith),
+  λ l e. written-again _ _ _ _ _ (c .before .before .loop3 .inv .5 l e) (search rows-slot),
+)
 
 add-c-2 : tie.Need-add-c-2 Inv-loop μ-loop Inv-loop3 μ-loop3 Inv-loop2 μ-loop2
 add-c-2 c = search needs
@@ -113,7 +126,8 @@ loop2-less : tie.Need-loop2-less Inv-loop μ-loop Inv-loop3 μ-loop3 Inv-loop2 �
 loop2-less c = search needs
 
 loop2-again : tie.Need-loop2-again Inv-loop μ-loop Inv-loop3 μ-loop3 Inv-loop2 μ-loop2
-loop2-again c = (omega arith, refl, search bytes-over, search, omega arith, c .before .loop3 .inv .5 _ (c .before .before .before .loop2 .inv .5))
+loop2-again c =
+    (omega arith, refl, search bytes-over, search, omega arith, c .before .loop3 .inv .5 _ (c .before .before .before .loop2 .inv .5))
 
 same-length : tie.Need-same-length Inv-loop μ-loop Inv-loop3 μ-loop3 Inv-loop2 μ-loop2
 same-length c = search needs

@@ -12,7 +12,9 @@ use Rattle.lines.proofs.line.put_row.Statement.{statement}
 use Rattle.lines.proofs.line.put_row.Tie as tie
 
 abbrev Inv-loop : tie.InvT-loop
-Inv-loop out₀ at cards row next₀ card₀ t8 card-end out next card = (card ≤ card-end) × (card-end ≡ cards) × (Puts out₀ at (rowText card (λ (k : ℕ). getD row k 0)) next out) × (next ≤ at + 11 * card) × (length out ≡ length out₀)
+Inv-loop out₀ at cards row next₀ card₀ t8 card-end out next card =
+    (card ≤ card-end) × (card-end ≡ cards) × (Puts out₀ at (rowText card (λ (k : ℕ). getD row k 0)) next out) × (next ≤ at + 11 * card) ×
+    (length out ≡ length out₀)
 
 abbrev μ-loop : tie.MeasureT-loop
 μ-loop out₀ at cards row next₀ card₀ t8 card-end out next card = card-end - card

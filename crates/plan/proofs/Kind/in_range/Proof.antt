@@ -7,12 +7,18 @@ use borrow.Author.Needs.{needs}
 use Rattle.plan.proofs.Kind.in_range.Statement.{statement}
 use Rattle.plan.proofs.Kind.in_range.Tie as tie
 
+at-kind-requires : tie.Need-at-kind-requires
+at-kind-requires c κs = search needs
+
 returns : tie.Need-returns
 unfolding kindInRange
 returns c = search (stages, tests)
 
 timed-requires : tie.Need-timed-requires
 timed-requires c κs = search needs
+
+at-kind-requires-2 : tie.Need-at-kind-requires-2
+at-kind-requires-2 c κs = search needs
 
 returns-2 : tie.Need-returns-2
 unfolding kindInRange
@@ -23,4 +29,4 @@ unfolding kindInRange
 returns-3 c = search (stages, tests)
 
 pub in-range-spec : {M : Type 1} → statement M
-in-range-spec = tie.close (tie.spec returns timed-requires returns-2 returns-3)
+in-range-spec = tie.close (tie.spec at-kind-requires returns timed-requires at-kind-requires-2 returns-2 returns-3)

@@ -6,7 +6,7 @@ use native.Mathlib.Omega.{arith}
 use borrow.Author.Needs.{needs}
 use Rattle.answer.specs.declared.Answer.the-variants.{Good}
 use Rattle.answer.specs.Answer.{eachTo}
-use Rattle.answer.specs.Answer.Properties.{each-none, each-more, each-stop, each-refused, refused, passed}
+use Rattle.answer.specs.Answer.Properties.{each-none, each-more, each-stop, each-opened, refused, passed}
 use Rattle.plan.specs.Order.{projectInRange, projectsInRange}
 use Rattle.plan.proofs.Plan.projects_in_range.Statement.{statement}
 use Rattle.plan.proofs.Plan.projects_in_range.Tie as tie
@@ -32,9 +32,12 @@ element-copy-out-in-range c = search needs
 in-range-requires : tie.Need-in-range-requires Inv-loop μ-loop
 in-range-requires c κs = search needs
 
+at-project-requires : tie.Need-at-project-requires Inv-loop μ-loop
+at-project-requires c κs = search needs
+
 returns : tie.Need-returns Inv-loop μ-loop
 unfolding projectsInRange
-returns c = search (each-refused, refused)
+returns c = search (each-opened, refused)
 
 add-j : tie.Need-add-j Inv-loop μ-loop
 add-j c = search needs
@@ -60,6 +63,7 @@ projects-in-range-spec =
     mul-in-range
     element-copy-out-in-range
     in-range-requires
+    at-project-requires
     returns
     add-j
     loop-less

@@ -9,6 +9,9 @@ use Rattle.plan.proofs.Plan.sizes.Tie as tie
 sized-requires : tie.Need-sized-requires
 sized-requires c κs = search needs
 
+bare-requires : tie.Need-bare-requires
+bare-requires c κs = search needs
+
 returns : tie.Need-returns
 unfolding sizes
 returns c = search stages
@@ -18,4 +21,4 @@ unfolding sizes
 returns-2 c = search stages
 
 pub sizes-spec : {M : Type 1} → statement M
-sizes-spec = tie.close (tie.spec sized-requires returns returns-2)
+sizes-spec = tie.close (tie.spec sized-requires bare-requires returns returns-2)

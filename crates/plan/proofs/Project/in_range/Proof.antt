@@ -15,10 +15,6 @@ cast-within c = search needs
 within-requires : tie.Need-within-requires
 within-requires c κs = search needs
 
-returns : tie.Need-returns
-unfolding inRange
-returns c = search conjunction
-
 cast-within-2 : tie.Need-cast-within-2
 cast-within-2 c = search needs
 
@@ -32,6 +28,10 @@ mul-within c =
 within-requires-2 : tie.Need-within-requires-2
 within-requires-2 c κs = search needs
 
+returns : tie.Need-returns
+unfolding inRange
+returns c = search conjunction
+
 returns-2 : tie.Need-returns-2
 unfolding inRange
 returns-2 c = search conjunction
@@ -42,8 +42,8 @@ in-range-spec =
     (tie.spec
     cast-within
     within-requires
-    returns
     cast-within-2
     mul-within
     within-requires-2
+    returns
     returns-2)

@@ -31,7 +31,8 @@ cast-t6 c = search needs
 
 returns : tie.Need-returns
 unfolding headed headerSpare
-returns c = let e = header-fields (now (c .before .before .before .args .s)) (c .before .number .result) (c .before .number .ensures .0) in (rw (c .empty .ensures, ← e), rw (← e))
+returns c = let e = header-fields (now (c .before .before .before .args .s)) (c .before .number .result) (c .before .number .ensures) in
+    (rw (c .empty .ensures, ← e), rw (← e))
 
 pub header-from-spec : {M : Type 1} → statement M
 header-from-spec =

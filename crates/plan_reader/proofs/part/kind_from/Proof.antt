@@ -28,7 +28,7 @@ cast-t17 c = search needs
 
 returns : tie.Need-returns
 unfolding kindFrom kindSpare
-returns c = let e = kind-fields (now (c .before .before .args .s)) (c .number .result) (c .number .ensures .0) in (rw (← e), rw (← e))
+returns c = let e = kind-fields (now (c .before .before .args .s)) (c .number .result) (c .number .ensures) in (rw (← e), rw (← e))
 
 pub kind-from-spec : {M : Type 1} → statement M
 kind-from-spec =

@@ -1,59 +1,15 @@
 -- `plan_reader::part::number` meets its contract.
 -- Assumes nothing.
-use Rattle.plan_bytes.specs.Bytes.Properties.{number-end, number-none, number-again, number-stop, number-more, number-room}
-use mathlib.Core.Path.{_≡_}
-use Prim.Native.Nat.{_≤_, _<_, _-_, _^_}
-use native.Mathlib.Omega.{arith}
+use Rattle.codec.specs.Bytes.Properties.{number-whole}
 use borrow.Author.Needs.{needs}
-use Rattle.plan_bytes.specs.Bytes.{numberTo}
 use Rattle.plan_reader.proofs.part.number.Statement.{statement}
 use Rattle.plan_reader.proofs.part.number.Tie as tie
 
-abbrev Inv-loop : tie.InvT-loop
-Inv-loop s count sum₀ i₀ sum i = (i ≤ count) × (sum ≡ numberTo i s) × (sum < 256 ^ i)
+number-requires : tie.Need-number-requires
+number-requires c κs = search needs
 
-abbrev μ-loop : tie.MeasureT-loop
-μ-loop s count sum₀ i₀ sum i = count - i
-
-loop-holds : tie.Need-loop-holds Inv-loop μ-loop
-loop-holds c = (omega arith, number-none _, omega arith)
-
-mul-sum : tie.Need-mul-sum Inv-loop μ-loop
-mul-sum c = let l = c .before .loop in let h : l .sum < 256 ^ 6 = number-room (l .sum) (l .i) (search) (omega arith) in omega arith
-
-shared-slice-read-wide : tie.Need-shared-slice-read-wide Inv-loop μ-loop
-shared-slice-read-wide c = search needs
-
-wide-requires : tie.Need-wide-requires Inv-loop μ-loop
-wide-requires c κs = search needs
-
-add-sum : tie.Need-add-sum Inv-loop μ-loop
-add-sum c = let l = c .before .before .before .loop in let h : l .sum < 256 ^ 6 = number-room (l .sum) (l .i) (search) (omega arith) in omega arith
-
-add-i : tie.Need-add-i Inv-loop μ-loop
-add-i c = search needs
-
-loop-less : tie.Need-loop-less Inv-loop μ-loop
-loop-less c = search needs
-
-loop-again : tie.Need-loop-again Inv-loop μ-loop
-loop-again c = (omega arith, search number-again, search number-more)
-
-returns : tie.Need-returns Inv-loop μ-loop
-returns c = (search number-stop, search number-end)
+returns : tie.Need-returns
+returns c = search number-whole
 
 pub number-spec : {M : Type 1} → statement M
-number-spec =
-    tie.close
-    (tie.spec
-    Inv-loop
-    μ-loop
-    loop-holds
-    mul-sum
-    shared-slice-read-wide
-    wide-requires
-    add-sum
-    add-i
-    loop-less
-    loop-again
-    returns)
+number-spec = tie.close (tie.spec number-requires returns)

@@ -22,7 +22,7 @@ cast-t11 c = search needs
 
 returns : tie.Need-returns
 unfolding projectFrom projectSpare
-returns c = let e = project-fields (now (c .before .before .args .s)) (c .number .result) (c .number .ensures .0) in (rw (← e), rw (← e))
+returns c = let e = project-fields (now (c .before .before .args .s)) (c .number .result) (c .number .ensures) in (rw (← e), rw (← e))
 
 pub project-from-spec : {M : Type 1} → statement M
 project-from-spec = tie.close (tie.spec number-requires cast-t5 cast-t8 cast-t11 returns)

@@ -8,23 +8,14 @@ use Rattle.player.proofs.session.start.Tie as tie
 start-requires : tie.Need-start-requires
 start-requires c κs = search needs
 
-put-requires : tie.Need-put-requires
-put-requires c κs = search needs
-
 enum-told : tie.Need-enum-told
 enum-told c = search needs
 
 enum-told-2 : tie.Need-enum-told-2
 enum-told-2 c = search needs
 
-empty-requires : tie.Need-empty-requires
-empty-requires c κs = search needs
-
-over-requires : tie.Need-over-requires
-over-requires c κs = search needs
-
-same-length : tie.Need-same-length
-same-length c = search needs
+refused-requires : tie.Need-refused-requires
+refused-requires c κs = search needs
 
 returns : tie.Need-returns
 returns c = search start-no
@@ -32,8 +23,8 @@ returns c = search start-no
 running-requires : tie.Need-running-requires
 running-requires c κs = search needs
 
-same-length-2 : tie.Need-same-length-2
-same-length-2 c = search needs
+step-of-requires : tie.Need-step-of-requires
+step-of-requires c κs = search needs
 
 returns-2 : tie.Need-returns-2
 returns-2 c = search start-good
@@ -43,13 +34,10 @@ start-spec =
     tie.close
     (tie.spec
     start-requires
-    put-requires
     enum-told
     enum-told-2
-    empty-requires
-    over-requires
-    same-length
+    refused-requires
     returns
     running-requires
-    same-length-2
+    step-of-requires
     returns-2)

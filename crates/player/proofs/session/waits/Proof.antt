@@ -5,14 +5,14 @@ use borrow.Author.Needs.{needs}
 use Rattle.player.proofs.session.waits.Statement.{statement}
 use Rattle.player.proofs.session.waits.Tie as tie
 
-returns : tie.Need-returns
-returns c = search needs
-
 number-requires : tie.Need-number-requires
 number-requires c κs = search needs
 
+returns : tie.Need-returns
+returns c = search waits-on
+
 returns-2 : tie.Need-returns-2
-returns-2 c = search waits-on
+returns-2 c = search needs
 
 pub waits-spec : {M : Type 1} → statement M
-waits-spec = tie.close (tie.spec returns number-requires returns-2)
+waits-spec = tie.close (tie.spec number-requires returns returns-2)

@@ -8,14 +8,8 @@ use Rattle.player.proofs.turn.release.Tie as tie
 release-requires : tie.Need-release-requires
 release-requires c κs = search needs
 
-put-requires : tie.Need-put-requires
-put-requires c κs = search needs
-
-same-length : tie.Need-same-length
-same-length c = search needs
-
 returns : tie.Need-returns
 returns c = search release-told
 
 pub release-spec : {M : Type 1} → statement M
-release-spec = tie.close (tie.spec release-requires put-requires same-length returns)
+release-spec = tie.close (tie.spec release-requires returns)

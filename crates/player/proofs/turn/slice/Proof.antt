@@ -11,15 +11,8 @@ slice-aggregate-slice c = search needs
 slice-requires : tie.Need-slice-requires
 slice-requires c κs = search needs
 
-put-requires : tie.Need-put-requires
-put-requires c κs = search needs
-
-same-length : tie.Need-same-length
-same-length c = search needs
-
 returns : tie.Need-returns
 returns c = search slice-told
 
 pub slice-spec : {M : Type 1} → statement M
-slice-spec =
-    tie.close (tie.spec slice-aggregate-slice slice-requires put-requires same-length returns)
+slice-spec = tie.close (tie.spec slice-aggregate-slice slice-requires returns)

@@ -6,22 +6,25 @@ use native.Mathlib.Omega.{arith}
 use borrow.Author.Needs.{needs}
 use Rattle.laws.specs.Written.{written}
 use Rattle.laws.specs.Written.Properties.{written-none}
-use Rattle.rack.specs.Slice.{unitAfter}
-use Rattle.rack.specs.Slice.Properties.{lowered-not, lowered-some, lowered-one, advanced-is}
+use Rattle.rack.specs.Form.Properties.{places-most}
+use Rattle.rack.specs.Advance.{unitAfter}
+use Rattle.rack.specs.Advance.Properties.{lowered-not, lowered-some, lowered-one, advanced-is}
 use Rattle.rack.proofs.State.advanced.Statement.{statement}
 use Rattle.rack.proofs.State.advanced.Tie as tie
 
 abbrev Inv-loop : tie.InvT-loop
-Inv-loop seat self₀ kinds i₀ self i = (i ≤ kinds) × (kinds ≤ 16) × (self .plan ≡ self₀ .plan) × (self .clock ≡ self₀ .clock) × (self .unit ≡ written i (unitAfter self₀) (self₀ .unit))
+Inv-loop seat self₀ kinds i₀ self i =
+    (i ≤ kinds) × (kinds ≤ 16) × (self .plan ≡ self₀ .plan) × (self .clock ≡ self₀ .clock)
+    × (self .unit ≡ written i (unitAfter self₀) (self₀ .unit))
 
 abbrev μ-loop : tie.MeasureT-loop
 μ-loop seat self₀ kinds i₀ self i = kinds - i
 
-cast-kinds : tie.Need-cast-kinds Inv-loop μ-loop
-cast-kinds c = search needs
+places-requires : tie.Need-places-requires Inv-loop μ-loop
+places-requires c κs = search needs
 
 loop-holds : tie.Need-loop-holds Inv-loop μ-loop
-loop-holds c = (omega arith, omega arith, refl, refl, written-none _ _)
+loop-holds c = (omega arith, search places-most, refl, refl, written-none _ _)
 
 element-copy-out-if1 : tie.Need-element-copy-out-if1 Inv-loop μ-loop
 element-copy-out-if1 c = search needs
@@ -68,7 +71,7 @@ advanced-spec =
     (tie.spec
     Inv-loop
     μ-loop
-    cast-kinds
+    places-requires
     loop-holds
     element-copy-out-if1
     add-i

@@ -22,6 +22,9 @@ returns c = search (opened-no, opened-on)
 in-form-requires : tie.Need-in-form-requires
 in-form-requires c κs = search needs
 
+bare-requires : tie.Need-bare-requires
+bare-requires c κs = search needs
+
 returns-2 : tie.Need-returns-2
 unfolding ready
 returns-2 c = search (opened-on, refused)
@@ -33,4 +36,4 @@ returns-3 c = search (opened-on, passed)
 pub check-spec : {M : Type 1} → statement M
 check-spec =
     tie.close
-    (tie.spec check-requires enum-told enum-told-2 returns in-form-requires returns-2 returns-3)
+    (tie.spec check-requires enum-told enum-told-2 returns in-form-requires bare-requires returns-2 returns-3)

@@ -1,6 +1,7 @@
 -- `rack::State::may_release` meets its contract.
 -- Assumes nothing.
-use Rattle.laws.specs.Tests.{tests}
+use Prim.Native.Nat.{_<_}
+use native.Mathlib.Omega.{arith}
 use Rattle.answer.specs.Answer.Properties.{stages, opened-no, opened-on}
 use Rattle.rack.specs.Rank.{gone}
 use Rattle.rack.specs.Form.Properties.{ready-place, ready-clock}
@@ -22,21 +23,24 @@ returns : tie.Need-returns
 unfolding releaseAnswer
 returns c = search (opened-no, opened-on)
 
-cast-if1 : tie.Need-cast-if1
-cast-if1 c = search needs
+in-use-requires : tie.Need-in-use-requires
+in-use-requires c κs = search needs
+
+bare-requires : tie.Need-bare-requires
+bare-requires c κs = search needs
 
 returns-2 : tie.Need-returns-2
 unfolding releaseAnswer
-returns-2 c = search (opened-on, stages, tests)
+returns-2 c = search (opened-on, stages)
 
 mul-unit : tie.Need-mul-unit
-mul-unit c = search needs
+mul-unit c = let place : c .before .before .before .before .before .before .args .kind < 16 = search ready-place in omega arith
 
 element-copy-out-unit : tie.Need-element-copy-out-unit
 element-copy-out-unit c = search ready-place
 
 mul-may-start : tie.Need-mul-may-start
-mul-may-start c = search needs
+mul-may-start c = let place : c .before .before .before .before .before .before .before .args .kind < 16 = search ready-place in omega arith
 
 element-copy-out-may-start : tie.Need-element-copy-out-may-start
 element-copy-out-may-start c = search ready-place
@@ -49,7 +53,7 @@ may-start-requires c κs = search needs
 
 returns-3 : tie.Need-returns-3
 unfolding releaseAnswer gone
-returns-3 c = search (opened-on, stages, tests)
+returns-3 c = search (opened-on, stages)
 
 pub may-release-spec : {M : Type 1} → statement M
 may-release-spec =
@@ -59,7 +63,8 @@ may-release-spec =
     enum-told
     enum-told-2
     returns
-    cast-if1
+    in-use-requires
+    bare-requires
     returns-2
     mul-unit
     element-copy-out-unit

@@ -2,7 +2,8 @@
 -- Assumes nothing.
 use Rattle.laws.specs.Tests.{tests}
 use Rattle.answer.specs.Answer.Properties.{stages, opened-no, opened-on}
-use Rattle.rack.specs.Slice.{roomAndTime, sliceAnswer}
+use Rattle.rack.specs.Advance.{timeLeft}
+use Rattle.rack.specs.Slice.{roomFor, sliceAnswer}
 use borrow.Author.Needs.{needs}
 use Rattle.rack.proofs.State.may_slice.Statement.{statement}
 use Rattle.rack.proofs.State.may_slice.Tie as tie
@@ -23,19 +24,25 @@ returns c = search (opened-no, opened-on)
 cast-if1 : tie.Need-cast-if1
 cast-if1 c = search needs
 
+bare-requires : tie.Need-bare-requires
+bare-requires c κs = search needs
+
 returns-2 : tie.Need-returns-2
-unfolding sliceAnswer roomAndTime
+unfolding sliceAnswer roomFor timeLeft
 returns-2 c = search (opened-on, stages, tests)
 
+bare-requires-2 : tie.Need-bare-requires-2
+bare-requires-2 c κs = search needs
+
 returns-3 : tie.Need-returns-3
-unfolding sliceAnswer roomAndTime
+unfolding sliceAnswer roomFor timeLeft
 returns-3 c = search (opened-on, stages, tests)
 
 returns-4 : tie.Need-returns-4
-unfolding sliceAnswer roomAndTime
+unfolding sliceAnswer roomFor timeLeft
 returns-4 c = search (opened-on, stages, tests)
 
 pub may-slice-spec : {M : Type 1} → statement M
 may-slice-spec =
     tie.close
-    (tie.spec check-requires enum-told enum-told-2 returns cast-if1 returns-2 returns-3 returns-4)
+    (tie.spec check-requires enum-told enum-told-2 returns cast-if1 bare-requires returns-2 bare-requires-2 returns-3 returns-4)

@@ -7,22 +7,25 @@ use borrow.Author.Needs.{needs}
 use lib.ListN.{replicate}
 use Rattle.laws.specs.Written.{written}
 use Rattle.laws.specs.Written.Properties.{written-none, written-again}
+use Rattle.rack.specs.Form.Properties.{places-most}
 use Rattle.rack.specs.Seat.{worksOf}
 use Rattle.rack.specs.Seat.Properties.{project-small, clock-small, seats-are}
 use Rattle.rack.proofs.State.seats.Statement.{statement}
 use Rattle.rack.proofs.State.seats.Tie as tie
 
 abbrev Inv-loop : tie.InvT-loop
-Inv-loop self plan kinds works₀ due₀ i₀ works due i = (i ≤ kinds) × (kinds ≤ 16) × (works ≡ written i (worksOf self) (replicate 16 0)) × (due ≡ written i (Rattle.rack.specs.Rank.due self) (replicate 16 0))
+Inv-loop self plan kinds works₀ due₀ i₀ works due i =
+    (i ≤ kinds) × (kinds ≤ 16) × (works ≡ written i (worksOf self) (replicate 16 0))
+    × (due ≡ written i (Rattle.rack.specs.Rank.due self) (replicate 16 0))
 
 abbrev μ-loop : tie.MeasureT-loop
 μ-loop self plan kinds works₀ due₀ i₀ works due i = kinds - i
 
-cast-kinds : tie.Need-cast-kinds Inv-loop μ-loop
-cast-kinds c = search needs
+places-requires : tie.Need-places-requires Inv-loop μ-loop
+places-requires c κs = search needs
 
 loop-holds : tie.Need-loop-holds Inv-loop μ-loop
-loop-holds c = (omega arith, omega arith, written-none _ _, written-none _ _)
+loop-holds c = (omega arith, search places-most, written-none _ _, written-none _ _)
 
 mul-works-for : tie.Need-mul-works-for Inv-loop μ-loop
 mul-works-for c = search needs
@@ -73,8 +76,8 @@ loop-again : tie.Need-loop-again Inv-loop μ-loop
 unfolding Rattle.rack.specs.Rank.due
 loop-again c = (omega arith, search, search written-again, search written-again)
 
-lowest-cards-requires : tie.Need-lowest-cards-requires Inv-loop μ-loop
-lowest-cards-requires c κs = search
+project-cards-requires : tie.Need-project-cards-requires Inv-loop μ-loop
+project-cards-requires c κs = search
 
 seats-requires : tie.Need-seats-requires Inv-loop μ-loop
 seats-requires c κs = search needs
@@ -88,7 +91,7 @@ seats-spec =
     (tie.spec
     Inv-loop
     μ-loop
-    cast-kinds
+    places-requires
     loop-holds
     mul-works-for
     element-copy-out-works-for
@@ -106,6 +109,6 @@ seats-spec =
     add-i
     loop-less
     loop-again
-    lowest-cards-requires
+    project-cards-requires
     seats-requires
     returns)

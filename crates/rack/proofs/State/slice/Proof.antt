@@ -2,7 +2,7 @@
 -- Assumes nothing.
 use Rattle.rack.specs.State.Properties.{next-kept, next-moved}
 use Rattle.rack.specs.Slice.{sliceOf}
-use Rattle.rack.specs.Slice.Properties.{slice-ready, slice-kinds, slice-room, slice-time, buffer-kept, seats-fit, buffer-row}
+use Rattle.rack.specs.Slice.Properties.{slice-ready, slice-room, slice-time, buffer-kept, buffer-row}
 use borrow.Author.Needs.{needs}
 use Rattle.rack.proofs.State.slice.Statement.{statement}
 use Rattle.rack.proofs.State.slice.Tie as tie
@@ -23,20 +23,11 @@ returns c = record { result = search next-kept; buffer = search buffer-kept }
 seats-requires : tie.Need-seats-requires
 seats-requires c κs = search slice-ready
 
-cast-clear : tie.Need-cast-clear
-cast-clear c = search needs
-
-clear-requires : tie.Need-clear-requires
-clear-requires c κs = search slice-room
-
-cast-seat-kinds : tie.Need-cast-seat-kinds
-cast-seat-kinds c = search needs
-
-seat-kinds-requires : tie.Need-seat-kinds-requires
-seat-kinds-requires c κs = (search slice-kinds, search seats-fit)
+write-row-requires : tie.Need-write-row-requires
+write-row-requires c κs = (search slice-ready, search slice-room, search)
 
 advanced-requires : tie.Need-advanced-requires
-advanced-requires c κs = (search slice-ready, search slice-time, search)
+advanced-requires c κs = (record { ready = search slice-ready; time = search slice-time }, search)
 
 same-length : tie.Need-same-length
 same-length c = search needs
@@ -54,10 +45,7 @@ slice-spec =
     enum-told-2
     returns
     seats-requires
-    cast-clear
-    clear-requires
-    cast-seat-kinds
-    seat-kinds-requires
+    write-row-requires
     advanced-requires
     same-length
     returns-2)

@@ -1,6 +1,7 @@
 -- `lines::line::Line::put` meets its contract.
 -- Assumes nothing.
 use Rattle.lines.specs.Line.Properties.{prints-short, prints-late, prints-plan, prints-release, prints-slice, prints-bad, prints-end}
+use Rattle.lines.specs.Line.Properties.{prints-nothing}
 use borrow.Author.Needs.{needs}
 use Rattle.lines.proofs.line.Line.put.Statement.{statement}
 use Rattle.lines.proofs.line.Line.put.Tie as tie
@@ -44,6 +45,9 @@ enum-known-self-5 c = search needs
 put-end-requires : tie.Need-put-end-requires
 put-end-requires c κs = search needs
 
+enum-told : tie.Need-enum-told
+enum-told c = search needs
+
 same-length : tie.Need-same-length
 same-length c = search needs
 
@@ -74,6 +78,9 @@ same-length-5 c = search needs
 returns-7 : tie.Need-returns-7
 returns-7 c = search prints-end
 
+returns-8 : tie.Need-returns-8
+returns-8 c = search prints-nothing
+
 pub put-spec : {M : Type 1} → statement M
 put-spec =
     tie.close
@@ -91,6 +98,7 @@ put-spec =
     put-bad-requires
     enum-known-self-5
     put-end-requires
+    enum-told
     same-length
     returns-3
     same-length-2
@@ -100,4 +108,5 @@ put-spec =
     same-length-4
     returns-6
     same-length-5
-    returns-7)
+    returns-7
+    returns-8)

@@ -11,8 +11,8 @@ enum-told c = search needs
 slice-requires : tie.Need-slice-requires
 slice-requires c κs = search needs
 
-running-requires : tie.Need-running-requires
-running-requires c κs = search needs
+after-turn-requires : tie.Need-after-turn-requires
+after-turn-requires c κs = search needs
 
 enum-known-command : tie.Need-enum-known-command
 enum-known-command c = search needs
@@ -20,32 +20,23 @@ enum-known-command c = search needs
 release-requires : tie.Need-release-requires
 release-requires c κs = search needs
 
-running-requires-2 : tie.Need-running-requires-2
-running-requires-2 c κs = search needs
+after-turn-requires-2 : tie.Need-after-turn-requires-2
+after-turn-requires-2 c κs = search needs
 
 enum-told-2 : tie.Need-enum-told-2
 enum-told-2 c = search needs
 
-put-requires : tie.Need-put-requires
-put-requires c κs = search needs
-
 over-requires : tie.Need-over-requires
 over-requires c κs = search needs
 
-same-length : tie.Need-same-length
-same-length c = search needs
+step-of-requires : tie.Need-step-of-requires
+step-of-requires c κs = search needs
 
 returns : tie.Need-returns
 returns c = search obey-slice
 
-same-length-2 : tie.Need-same-length-2
-same-length-2 c = search needs
-
 returns-2 : tie.Need-returns-2
 returns-2 c = search obey-release
-
-same-length-3 : tie.Need-same-length-3
-same-length-3 c = search needs
 
 returns-3 : tie.Need-returns-3
 returns-3 c = search obey-bad
@@ -56,16 +47,13 @@ obey-spec =
     (tie.spec
     enum-told
     slice-requires
-    running-requires
+    after-turn-requires
     enum-known-command
     release-requires
-    running-requires-2
+    after-turn-requires-2
     enum-told-2
-    put-requires
     over-requires
-    same-length
+    step-of-requires
     returns
-    same-length-2
     returns-2
-    same-length-3
     returns-3)

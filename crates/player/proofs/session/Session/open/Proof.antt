@@ -11,6 +11,9 @@ read-requires c κs = search needs
 waits-requires : tie.Need-waits-requires
 waits-requires c κs = search needs
 
+stay-requires : tie.Need-stay-requires
+stay-requires c κs = search needs
+
 returns : tie.Need-returns
 returns c = search open-waits
 
@@ -20,26 +23,14 @@ enum-told c = search needs
 enum-told-2 : tie.Need-enum-told-2
 enum-told-2 c = search needs
 
-put-requires : tie.Need-put-requires
-put-requires c κs = search needs
-
-empty-requires : tie.Need-empty-requires
-empty-requires c κs = search needs
-
-over-requires : tie.Need-over-requires
-over-requires c κs = search needs
-
-same-length : tie.Need-same-length
-same-length c = search needs
+refused-requires : tie.Need-refused-requires
+refused-requires c κs = search needs
 
 returns-2 : tie.Need-returns-2
 returns-2 c = search open-refused
 
 start-requires : tie.Need-start-requires
 start-requires c κs = search needs
-
-same-length-2 : tie.Need-same-length-2
-same-length-2 c = search needs
 
 returns-3 : tie.Need-returns-3
 returns-3 c = search open-started
@@ -50,14 +41,11 @@ open-spec =
     (tie.spec
     read-requires
     waits-requires
+    stay-requires
     returns
     enum-told
     enum-told-2
-    put-requires
-    empty-requires
-    over-requires
-    same-length
+    refused-requires
     returns-2
     start-requires
-    same-length-2
     returns-3)

@@ -1,13 +1,15 @@
 -- `player::session::Session::play` meets its contract.
 -- Assumes nothing.
 use native.Mathlib.Omega.{arith}
+use Rattle.player.specs.Session.Properties.{Playing, playing-starts, playing-done, playing-full, playing-idle, playing-again}
+use Rattle.player.specs.Session.Properties.{taken-fits}
 use borrow.Author.Needs.{needs}
-use Rattle.player.specs.Session.Properties.{Playing, playing-starts, playing-done, playing-full, playing-idle, playing-again, taken-fits}
 use Rattle.player.proofs.session.Session.play.Statement.{statement}
 use Rattle.player.proofs.session.Session.play.Tie as tie
 
 abbrev Inv-loop : tie.InvT-loop
-Inv-loop bytes last out₀ session₀ taken₀ count₀ lines₀ out session taken count lines = Playing session₀ last bytes out₀ session taken count lines out
+Inv-loop bytes last out₀ session₀ taken₀ count₀ lines₀ out session taken count lines =
+    Playing session₀ last bytes out₀ session taken count lines out
 
 abbrev μ-loop : tie.MeasureT-loop
 μ-loop bytes last out₀ session₀ taken₀ count₀ lines₀ out session taken count lines = lines
@@ -36,14 +38,26 @@ part-step-end c = search needs
 step-requires : tie.Need-step-requires Inv-loop μ-loop
 step-requires c κs = search needs
 
+put-requires : tie.Need-put-requires Inv-loop μ-loop
+put-requires c κs = search needs
+
 same-length-2 : tie.Need-same-length-2 Inv-loop μ-loop
 same-length-2 c = search needs
 
 returns-2 : tie.Need-returns-2 Inv-loop μ-loop
-returns-2 c = playing-idle _ _ _ _ _ _ _ _ _ (c .before .before .before .before .before .before .before .before .before .loop .inv) _ _ (omega arith) (c .before .before .before .before .step .ensures) (c .if2 .taken)
+returns-2 c =
+    let printed = c .before .before .before in
+    let stepped = printed .before .before .before .before in
+    let begun = stepped .before .before .before .before in
+    playing-idle _ _ _ _ _ _ _ _ _ (begun .loop .inv) _ _ _ (omega arith) (stepped .step .ensures) (printed .put .ensures) (c .if2 .taken)
 
 add-taken : tie.Need-add-taken Inv-loop μ-loop
-add-taken c = omega (arith, taken-fits _ _ _ _ _ _ _ _ _ (c .before .before .before .before .before .before .before .before .before .before .before .loop .inv) _ _ (omega arith) (c .before .before .before .before .before .before .step .ensures), c .before .before .before .before .before .before .before .before .before .before .before .before .before .before .good .1 .0 .0)
+add-taken c =
+    let printed = c .before .before .before .before .before in
+    let stepped = printed .before .before .before .before in
+    let begun = stepped .before .before .before .before in
+    let fits = taken-fits _ _ _ _ _ _ _ _ _ (begun .loop .inv) _ _ _ (omega arith) (stepped .step .ensures) (printed .put .ensures) in
+    omega (arith, begun .before .before .before .good .1 .0 .0)
 
 sub-lines : tie.Need-sub-lines Inv-loop μ-loop
 sub-lines c = search needs
@@ -74,6 +88,7 @@ play-spec =
     part-step-start
     part-step-end
     step-requires
+    put-requires
     same-length-2
     returns-2
     add-taken

@@ -20,14 +20,11 @@ run-requires c κs = search needs
 enum-told-3 : tie.Need-enum-told-3
 enum-told-3 c = search needs
 
-same-length : tie.Need-same-length
-same-length c = search needs
+stay-requires : tie.Need-stay-requires
+stay-requires c κs = search needs
 
 returns : tie.Need-returns
 returns c = search step-opens
-
-same-length-2 : tie.Need-same-length-2
-same-length-2 c = search needs
 
 returns-2 : tie.Need-returns-2
 returns-2 c = search step-runs
@@ -44,8 +41,7 @@ step-spec =
     enum-told-2
     run-requires
     enum-told-3
-    same-length
+    stay-requires
     returns
-    same-length-2
     returns-2
     returns-3)

@@ -1,0 +1,318 @@
+//! A tuned program of the same rules, to know what the proof costs: the state changed in place, records
+//! checked at each call as the rules want, no images, and sliding windows for the supply.
+//!
+//! Its records are the second program's. It answers with the same word as the C interface.
+
+use second::{KindState, Plan, State};
+
+const LAST_CLOCK: u32 = 1_000_000_000;
+
+/// The word of a refusal.
+fn refused(number: u64, place: usize) -> u64 {
+    number | (place as u64) << 8
+}
+
+/// Is the plan in order?
+pub fn check(plan: &Plan) -> u64 {
+    if sizes_out_of_range(plan) {
+        return 2;
+    }
+    let (p, n) = (usize::from(plan.p), usize::from(plan.n));
+    let unused = plan.projects[p..]
+        .iter()
+        .any(|one| (one.ceiling, one.budget) != (0, 0))
+        || plan.kinds[n..]
+            .iter()
+            .any(|one| (one.project, one.separation, one.deadline, one.length) != (0, 0, 0, 0));
+    match unused {
+        true => 3,
+        false => ranges(plan),
+    }
+}
+
+fn sizes_out_of_range(plan: &Plan) -> bool {
+    plan.m.wrapping_sub(1) >= 8
+        || plan.p.wrapping_sub(1) >= 8
+        || plan.n.wrapping_sub(1) >= 16
+        || plan.frame.wrapping_sub(1) >= 64
+}
+
+/// 4 to 7, of a plan whose sizes are in range.
+fn ranges(plan: &Plan) -> u64 {
+    let frame = u32::from(plan.frame);
+    let mut sum = 0;
+    for (place, project) in plan.projects.iter().take(usize::from(plan.p)).enumerate() {
+        let (q, b) = (u32::from(project.ceiling), u32::from(project.budget));
+        if q == 0 || q > u32::from(plan.m) || b == 0 || b > q * frame {
+            return refused(4, place);
+        }
+        sum += b;
+    }
+    for (place, kind) in plan.kinds.iter().take(usize::from(plan.n)).enumerate() {
+        if kind.project >= plan.p {
+            return refused(5, place);
+        }
+        let (t, d, c) = (kind.separation, kind.deadline, kind.length);
+        if c == 0 || c > d || d > t || t > 4095 {
+            return refused(6, place);
+        }
+    }
+    match sum > u32::from(plan.m) * frame {
+        true => 7,
+        false => 0,
+    }
+}
+
+/// Reads plan bytes; the plan is changed on a good answer only.
+pub fn read(bytes: &[u8], plan: &mut Plan) -> u64 {
+    let Some(&[first, second, third]) = bytes.first_chunk() else {
+        return 1;
+    };
+    let mut found = Plan {
+        m: first >> 4,
+        p: first & 15,
+        n: second >> 3,
+        frame: (second & 7) << 4 | third >> 4,
+        ..Plan::default()
+    };
+    if sizes_out_of_range(&found) {
+        return 2;
+    }
+    let (p, n) = (usize::from(found.p), usize::from(found.n));
+    let total = 3 + 2 * p + 5 * n;
+    let Some(body) = bytes.get(3..total) else {
+        return 1;
+    };
+    let (projects, kinds) = body.split_at(2 * p);
+    let mut spare = u64::from(third & 15);
+    for (place, bytes) in found.projects.iter_mut().zip(projects.chunks_exact(2)) {
+        let bits = u16::from(bytes[0]) << 8 | u16::from(bytes[1]);
+        place.ceiling = (bits >> 12) as u8;
+        place.budget = bits >> 2 & 0x3FF;
+        spare |= u64::from(bits & 3);
+    }
+    for (place, bytes) in found.kinds.iter_mut().zip(kinds.chunks_exact(5)) {
+        let bits = bytes
+            .iter()
+            .fold(0, |bits, &byte| bits << 8 | u64::from(byte));
+        place.project = (bits >> 37) as u8;
+        place.separation = (bits >> 25 & 0xFFF) as u16;
+        place.deadline = (bits >> 13 & 0xFFF) as u16;
+        place.length = (bits >> 1 & 0xFFF) as u16;
+        spare |= bits & 1;
+    }
+    if spare != 0 {
+        return 3;
+    }
+    let word = ranges(&found);
+    if word != 0 {
+        return word;
+    }
+    *plan = found;
+    (total as u64) << 16
+}
+
+/// The cards that a project holds from `first` on, with `budget` cells: the lowest, and how many, at one slice.
+fn cards(first: u32, budget: u32, frame: u32, slice: u32) -> (u32, u32) {
+    let lowest = (first + frame - 1 - slice) / frame;
+    (
+        lowest,
+        (first + budget + frame - 1 - slice) / frame - lowest,
+    )
+}
+
+/// Judges the plan; k is changed on a good answer only.
+pub fn verdict(plan: &Plan, k: &mut [u8; 16]) -> u64 {
+    let word = check(plan);
+    if word != 0 {
+        return word;
+    }
+    // The cards that each project holds at each slice, two frames long so that a window never wraps.
+    let frame = usize::from(plan.frame);
+    let mut held = [[0u8; 128]; 8];
+    let mut first = 0;
+    for (project, held) in plan
+        .projects
+        .iter()
+        .take(usize::from(plan.p))
+        .zip(&mut held)
+    {
+        let budget = u32::from(project.budget);
+        for slice in 0..frame {
+            let (_, count) = cards(first, budget, frame as u32, slice as u32);
+            held[slice] = count as u8;
+            held[slice + frame] = count as u8;
+        }
+        first += budget;
+    }
+    let kinds = &plan.kinds[..usize::from(plan.n)];
+    let mut found = [0; 16];
+    for (i, kind) in kinds.iter().enumerate() {
+        let d = u32::from(kind.deadline);
+        let mut w = 0;
+        for (j, other) in kinds.iter().enumerate() {
+            if j != i && other.project == kind.project {
+                let (t, c) = (u32::from(other.separation), u32::from(other.length));
+                w += d / t * c + c.min(d % t);
+            }
+        }
+        let held = &held[usize::from(kind.project)];
+        let ceiling = plan.projects[usize::from(kind.project)].ceiling;
+        let mut least = u32::MAX;
+        for width in 1..=ceiling {
+            let asked = u32::from(width) * u32::from(kind.length) + w;
+            let supply = supply(held, frame, width, d as usize);
+            if asked <= supply {
+                found[i] = width;
+                break;
+            }
+            least = least.min(asked - supply);
+        }
+        if found[i] == 0 {
+            return refused(8, i) | u64::from(least) << 32;
+        }
+    }
+    *k = found;
+    0
+}
+
+/// S(k,t): whole frames, and the least window of what is left of t.
+fn supply(held: &[u8; 128], frame: usize, width: u8, t: usize) -> u32 {
+    let (whole, rest) = (t / frame, t % frame);
+    let capped = |&cards: &u8| u32::from(cards.min(width));
+    let in_frame: u32 = held[..frame].iter().map(capped).sum();
+    let mut least = 0;
+    if rest > 0 {
+        let mut window: u32 = held[..rest].iter().map(capped).sum();
+        least = window;
+        let (leaving, entering) = (&held[..frame - 1], &held[rest..rest + frame - 1]);
+        for (out, into) in leaving.iter().zip(entering) {
+            window = window + capped(into) - capped(out);
+            least = least.min(window);
+        }
+    }
+    whole as u32 * in_frame + least
+}
+
+/// Starts fresh; the state is changed on a good answer only.
+pub fn fresh(plan: &Plan, state: &mut State) -> u64 {
+    let word = verdict(plan, &mut [0; 16]);
+    if word == 0 {
+        *state = State {
+            plan: *plan,
+            ..State::default()
+        };
+    }
+    word
+}
+
+/// The record order and 10.
+fn state_check(state: &State) -> u64 {
+    let word = check(&state.plan);
+    if word != 0 {
+        return word;
+    }
+    if state.clock > LAST_CLOCK {
+        return 10;
+    }
+    let n = usize::from(state.plan.n);
+    for (unit, kind) in state.kinds.iter().zip(&state.plan.kinds).take(n) {
+        let in_form = match unit.released {
+            true => unit.at <= state.clock && unit.left <= kind.length,
+            false => unit.at == 0 && unit.left == 0,
+        };
+        if !in_form {
+            return 10;
+        }
+    }
+    match state.kinds[n..]
+        .iter()
+        .any(|&unit| unit != KindState::default())
+    {
+        true => 10,
+        false => 0,
+    }
+}
+
+/// Releases a unit of a kind, in place.
+pub fn release(state: &mut State, kind: u64, e: u64) -> u64 {
+    let word = state_check(state);
+    if word != 0 {
+        return word;
+    }
+    if kind >= u64::from(state.plan.n) {
+        return 12;
+    }
+    let of_plan = &state.plan.kinds[kind as usize & 15];
+    let unit = &mut state.kinds[kind as usize & 15];
+    if e == 0 || e > u64::from(of_plan.length) {
+        return 13;
+    }
+    if unit.released && state.clock - unit.at < u32::from(of_plan.separation) {
+        return 14;
+    }
+    if unit.left > 0 {
+        return 15;
+    }
+    *unit = KindState {
+        released: true,
+        at: state.clock,
+        left: e as u16,
+    };
+    0
+}
+
+/// Runs a slice, in place.
+pub fn slice(state: &mut State, row: &mut [u8]) -> u64 {
+    let word = state_check(state);
+    if word != 0 {
+        return word;
+    }
+    let plan = &state.plan;
+    let Some(row) = row.get_mut(..usize::from(plan.m)) else {
+        return 9;
+    };
+    if state.clock == LAST_CLOCK {
+        return 11;
+    }
+    // For each project the kinds with slices left, a bit each; and when each is due.
+    let mut working = [0u32; 8];
+    let mut due = [0u32; 16];
+    let n = usize::from(plan.n);
+    for (i, (unit, kind)) in state.kinds.iter().zip(&plan.kinds).take(n).enumerate() {
+        working[usize::from(kind.project) & 7] |= u32::from(unit.left > 0) << i;
+        due[i] = unit.at + u32::from(kind.deadline);
+    }
+    row.fill(0);
+    let frame = u32::from(plan.frame);
+    let now = state.clock % frame;
+    let mut first = 0;
+    for (project, mut waiting) in plan.projects.iter().zip(working).take(usize::from(plan.p)) {
+        let budget = u32::from(project.budget);
+        let (lowest, count) = cards(first, budget, frame, now);
+        first += budget;
+        for card in lowest..lowest + count {
+            let Some(best) = earliest(waiting, &due) else {
+                break;
+            };
+            waiting &= !(1 << best);
+            row[card as usize] = best as u8 + 1;
+            state.kinds[best].left -= 1;
+        }
+    }
+    state.clock += 1;
+    0
+}
+
+/// The kind that is due first among those that wait, the lower number on a tie.
+fn earliest(mut waiting: u32, due: &[u32; 16]) -> Option<usize> {
+    let mut best = waiting.checked_ilog2()? as usize & 15;
+    while waiting != 0 {
+        let i = waiting.trailing_zeros() as usize & 15;
+        waiting &= waiting - 1;
+        if (due[i], i) < (due[best], best) {
+            best = i;
+        }
+    }
+    Some(best)
+}

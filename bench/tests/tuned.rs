@@ -1,0 +1,72 @@
+//! The tuned program gives what the second program gives, on fixed and generated records.
+
+use bench::tuned;
+use compare::interface::word;
+use generate::{fixed_plan_records, fixed_state_records, fixed_streams, Generator};
+use second::{Plan, State};
+
+#[test]
+fn plans() {
+    let mut g = Generator::new(51);
+    let generated: Vec<Plan> = (0..500).map(|_| g.plan_record()).collect();
+    for plan in fixed_plan_records().into_iter().chain(generated) {
+        assert_eq!(
+            tuned::check(&plan),
+            word(second::check(&plan), 0),
+            "{plan:?}"
+        );
+        let (answer, expected) = second::verdict(&plan);
+        let mut k = [7; 16];
+        assert_eq!(tuned::verdict(&plan, &mut k), word(answer, 0), "{plan:?}");
+        assert_eq!(k, if answer.is_good() { expected } else { [7; 16] });
+        let (answer, expected) = second::fresh(&plan);
+        let mut state = State::default();
+        assert_eq!(tuned::fresh(&plan, &mut state), word(answer, 0));
+        assert_eq!(state, expected);
+    }
+}
+
+#[test]
+fn bytes() {
+    let mut g = Generator::new(52);
+    let generated: Vec<_> = (0..500).map(|_| g.stream()).collect();
+    for stream in fixed_streams().into_iter().chain(generated) {
+        let (answer, expected, taken) = second::read(&stream.bytes);
+        let mut plan = Plan::default();
+        let found = tuned::read(&stream.bytes, &mut plan);
+        assert_eq!(
+            (found, plan),
+            (word(answer, taken), expected),
+            "{}",
+            stream.name
+        );
+    }
+}
+
+#[test]
+fn states() {
+    let mut g = Generator::new(53);
+    let generated: Vec<State> = (0..2000).map(|_| g.state_record()).collect();
+    for state in fixed_state_records().into_iter().chain(generated) {
+        let (kind, e) = g.release_numbers(&state);
+        let (answer, expected) = second::release(&state, kind, e);
+        let mut next = state;
+        assert_eq!(
+            tuned::release(&mut next, kind, e),
+            word(answer, 0),
+            "{state:?}"
+        );
+        assert_eq!(next, expected);
+
+        let lent = g.row_buffer(&state);
+        let (mut row, mut other) = (lent.clone(), lent);
+        let (answer, expected) = second::slice(&state, &mut other);
+        let mut next = state;
+        assert_eq!(
+            tuned::slice(&mut next, &mut row),
+            word(answer, 0),
+            "{state:?}"
+        );
+        assert_eq!((next, row), (expected, other));
+    }
+}

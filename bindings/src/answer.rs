@@ -1,0 +1,71 @@
+//! What a call gives back: one word of 64 bits, decoded.
+
+/// A number, where it points to, how many bytes, and by how much.
+#[derive(Clone, Copy, Debug, Default, PartialEq, Eq, Hash)]
+pub struct Answer {
+    /// 0 for a good answer, else the number of the refusal.
+    pub number: u8,
+    /// The project or the kind that a refusal is about, where its number has one.
+    pub place: u8,
+    /// Bytes taken or written.
+    pub count: u16,
+    /// By how many slices a unit is too long.
+    pub excess: u32,
+}
+
+impl Answer {
+    /// The answer that a word carries.
+    pub fn of_word(word: u64) -> Answer {
+        Answer {
+            number: word as u8,
+            place: (word >> 8) as u8,
+            count: (word >> 16) as u16,
+            excess: (word >> 32) as u32,
+        }
+    }
+
+    /// The word that carries this answer.
+    pub fn word(self) -> u64 {
+        u64::from(self.number)
+            | u64::from(self.place) << 8
+            | u64::from(self.count) << 16
+            | u64::from(self.excess) << 32
+    }
+
+    /// Whether the call was accepted.
+    pub fn is_good(self) -> bool {
+        self.number == 0
+    }
+}
+
+/// Each number with a short sentence, as in the header.
+pub const NUMBERS: [(u8, &str); 16] = [
+    (0, "good"),
+    (1, "fewer bytes than a plan takes"),
+    (2, "cards, projects, kinds or frame out of range"),
+    (3, "a spare bit or an unused place is not zero"),
+    (4, "a project's ceiling or budget is out of range"),
+    (5, "a kind names a project that is not there"),
+    (
+        6,
+        "a kind is not 1 <= length <= deadline <= separation <= 4095",
+    ),
+    (7, "the budgets sum above the cards times the frame"),
+    (8, "not admitted: a kind's unit is too long"),
+    (9, "a buffer is shorter than needed"),
+    (10, "the state is out of form"),
+    (11, "the clock is at its end"),
+    (12, "there is no such kind"),
+    (13, "the unit's length is 0 or above its kind's"),
+    (
+        14,
+        "the kind's last release was less than its separation ago",
+    ),
+    (15, "slices of the kind's earlier unit are left"),
+];
+
+/// A number in words.
+pub fn in_words(number: u8) -> &'static str {
+    let found = NUMBERS.iter().find(|(known, _)| *known == number);
+    found.map_or("no number of this version", |(_, words)| words)
+}

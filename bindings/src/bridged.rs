@@ -1,0 +1,136 @@
+//! The functions of `include/parchbeetle.h` on a machine that the library is not for: `bridge.c`, built
+//! for x86-64 and run by an emulator, makes the calls. One child serves each thread, one call after the
+//! other.
+
+use std::cell::RefCell;
+use std::io::{Read, Write};
+use std::process::{Child, ChildStdin, ChildStdout, Command, Stdio};
+
+struct Bridge {
+    child: Child,
+    to: ChildStdin,
+    from: ChildStdout,
+    bytes: Vec<u8>,
+}
+
+thread_local! {
+    static BRIDGE: RefCell<Bridge> = RefCell::new(Bridge::start());
+}
+
+impl Drop for Bridge {
+    fn drop(&mut self) {
+        // It is between two calls, and has nothing to lose.
+        let _ = self.child.kill();
+        let _ = self.child.wait();
+    }
+}
+
+impl Bridge {
+    /// The words that start it are the build script's.
+    fn start() -> Bridge {
+        let mut words = env!("PARCHBEETLE_BRIDGE").split(' ');
+        let mut child = Command::new(words.next().unwrap_or_default())
+            .args(words)
+            .stdin(Stdio::piped())
+            .stdout(Stdio::piped())
+            .spawn()
+            .expect("the bridge to the library cannot be started");
+        let (Some(to), Some(from)) = (child.stdin.take(), child.stdout.take()) else {
+            unreachable!("both are pipes");
+        };
+        Bridge {
+            child,
+            to,
+            from,
+            bytes: Vec::new(),
+        }
+    }
+
+    /// Sends a call; the function's number is the bridge's.
+    fn send(&mut self, function: u8, buffers: [&[u8]; 2], numbers: [u64; 2]) {
+        self.bytes.clear();
+        self.bytes.push(function);
+        for buffer in buffers {
+            self.bytes.extend((buffer.len() as u32).to_be_bytes());
+        }
+        for number in numbers {
+            self.bytes.extend(number.to_be_bytes());
+        }
+        for buffer in buffers {
+            self.bytes.extend(buffer);
+        }
+        self.to.write_all(&self.bytes).expect("the bridge ended");
+    }
+
+    /// What comes back: the answer, and so many bytes of the buffers.
+    fn received(&mut self, count: usize) -> (u64, &[u8]) {
+        self.bytes.resize(8 + count, 0);
+        self.from
+            .read_exact(&mut self.bytes)
+            .expect("the bridge ended");
+        let (answer, buffers) = self.bytes.split_at(8);
+        let mut own = [0; 8];
+        own.copy_from_slice(answer);
+        (u64::from_be_bytes(own), buffers)
+    }
+}
+
+/// One call; the first buffer as it is after it comes back, the second is changed in place.
+fn call(function: u8, given: &[u8], lent: &mut [u8], numbers: [u64; 2]) -> (u64, Vec<u8>) {
+    BRIDGE.with_borrow_mut(|bridge| {
+        bridge.send(function, [given, lent], numbers);
+        let (answer, buffers) = bridge.received(given.len() + lent.len());
+        let (first, second) = buffers.split_at(given.len());
+        lent.copy_from_slice(second);
+        (answer, first.to_vec())
+    })
+}
+
+/// A call whose first buffer is only read.
+fn reading(function: u8, given: &[u8], lent: &mut [u8]) -> u64 {
+    let (answer, after) = call(function, given, lent, [0; 2]);
+    assert!(
+        after == given,
+        "function {function} changed a buffer that it reads"
+    );
+    answer
+}
+
+/// A call whose first buffer is changed in place.
+fn changing(function: u8, state: &mut [u8], lent: &mut [u8], numbers: [u64; 2]) -> u64 {
+    let (answer, after) = call(function, state, lent, numbers);
+    state.copy_from_slice(&after);
+    answer
+}
+
+pub fn check(plan: &[u8]) -> u64 {
+    reading(0, plan, &mut [])
+}
+
+pub fn read(bytes: &[u8], plan: &mut [u8]) -> u64 {
+    reading(1, bytes, plan)
+}
+
+pub fn write(plan: &[u8], out: &mut [u8]) -> u64 {
+    reading(2, plan, out)
+}
+
+pub fn slot_table(plan: &[u8], out: &mut [u8]) -> u64 {
+    reading(3, plan, out)
+}
+
+pub fn verdict(plan: &[u8], k: &mut [u8]) -> u64 {
+    reading(4, plan, k)
+}
+
+pub fn fresh(plan: &[u8], state: &mut [u8]) -> u64 {
+    reading(5, plan, state)
+}
+
+pub fn release(state: &mut [u8], kind: u64, e: u64) -> u64 {
+    changing(6, state, &mut [], [kind, e])
+}
+
+pub fn slice(state: &mut [u8], row: &mut [u8]) -> u64 {
+    changing(7, state, row, [0; 2])
+}

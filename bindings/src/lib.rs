@@ -1,0 +1,36 @@
+//! Safe bindings of the proved static library, whose C interface is `include/parchbeetle.h`.
+//!
+//! `calls` has one function for each of the library's, on slices of any length, with the answer
+//! decoded. `record` has the plan and the state as records, and their images. The library is for
+//! x86-64, where it is linked; elsewhere an emulated child makes the calls (`bridge.c`).
+
+#![warn(missing_docs)]
+
+mod answer;
+#[cfg(not(target_arch = "x86_64"))]
+mod bridged;
+mod calls;
+#[cfg(target_arch = "x86_64")]
+#[allow(unsafe_code)]
+mod linked;
+mod record;
+
+pub use answer::{in_words, Answer, NUMBERS};
+pub use calls::{check, fresh, read, release, slice, slot_table, verdict, write};
+pub use record::{Kind, Plan, Project, State, Unit};
+
+/// Whether the library is linked, so that a call takes no more than its own time.
+pub const LINKED: bool = cfg!(target_arch = "x86_64");
+
+/// Bytes of a plan image.
+pub const PLAN_IMAGE: usize = 140;
+/// Bytes of a state image.
+pub const STATE_IMAGE: usize = 256;
+/// Bytes of k.
+pub const K_BYTES: usize = 16;
+/// The most bytes that a plan takes.
+pub const MOST_PLAN_BYTES: usize = 99;
+/// The most bytes that a slot table takes.
+pub const MOST_TABLE_BYTES: usize = 512;
+/// The most bytes that a row takes.
+pub const MOST_ROW_BYTES: usize = 8;

@@ -1,0 +1,31 @@
+-- The three demands: `Outcomes` (1), `Verdicts` (2) and `Deadlines` (3) state them, the last over `Run`, `Since`, `Named` and
+-- `Shown`; `Sufficient` has a refused plan that runs well, and `Uses` puts every statement to work. The other modules tie the
+-- theory of one project (`analysis`) to the rack.
+-- Assumes nothing.
+-- ---- the statements
+pub mod Run
+pub mod Since
+pub mod Named
+pub mod Shown
+pub mod Outcomes
+pub mod Numbers
+pub mod Verdicts
+pub mod Deadlines
+pub mod Sufficient
+-- ---- the statements at work
+pub mod Uses
+-- ---- what a row is
+pub mod Row
+pub mod Stands
+pub mod Cards
+-- ---- the rack as a project sees it: the ranking, and the rack's calls as steps of the theory
+pub mod View
+-- ---- runs
+pub mod Safe
+pub mod Served
+pub mod InTime
+pub mod Budget
+pub mod Refusals
+pub mod Eight
+pub mod Kept
+pub mod KeptShown

@@ -1,0 +1,115 @@
+-- Demand 1, for every operation of document 01: any input is answered, by one outcome, and a refusal changes nothing.
+-- No operation has a `requires`, and a proved function ends; so whatever the input, the one outcome is reached.
+-- Assumes nothing.
+use mathlib.Core.Path.{_≡_, refl, sym, ap, _∙_}
+use mathlib.Core.Logic.{_≢_}
+use mathlib.Core.List.{List}
+use Prim.Native.Nat.{ℕ}
+use lib.ListN.{length, replicate}
+use Rattle.plan.specs.declared.Plan.{Plan}
+use Rattle.answer.specs.declared.Answer.{Answer}
+use Rattle.answer.specs.declared.Answer.the-variants.{Good, No}
+use Rattle.answer.specs.declared.Refusal.{Refusal}
+use Rattle.answer.specs.Answer.{number}
+use Rattle.answer.specs.Outcome.{One, Lent}
+use Rattle.plan.specs.Record.{noPlan}
+use Rattle.plan_bytes.specs.declared.Written.{Written}
+use Rattle.plan_bytes.specs.Reading.{readAnswer, readOf}
+use Rattle.plan_bytes.specs.Writing.{writeAnswer, Writes}
+use Rattle.plan_reader.specs.OneOutcome.{read-one-outcome}
+use Rattle.plan_writer.specs.OneOutcome.{write-one-outcome}
+use Rattle.layout.specs.declared.table.TableWritten.{TableWritten}
+use Rattle.layout.specs.Table.{tableAnswer, Tabled}
+use Rattle.layout.specs.OneOutcome.{slot-table-one-outcome}
+use Rattle.verdict.specs.Verdict.{judged}
+use Rattle.verdict.specs.OneOutcome.{judge-one-outcome}
+use Rattle.verdict.specs.Admission.Properties.{none-refused}
+use Rattle.rack.specs.declared.State.{State}
+use Rattle.rack.specs.declared.Next.{Next}
+use Rattle.rack.specs.State.{noState}
+use Rattle.rack.specs.Start.{startOf}
+use Rattle.rack.specs.Start.Properties.{start-refused}
+use Rattle.rack.specs.Release.{releaseOf}
+use Rattle.rack.specs.Release.Properties.{release-refused}
+use Rattle.rack.specs.Slice.{Sliced}
+use Rattle.rack.specs.Slice.Properties.{slice-refused}
+use Rattle.rack.specs.OneOutcome.{start-one-outcome, release-one-outcome, slice-one-outcome}
+
+-- an answer that is not good, by its number
+refusal : (a : Answer) → number a ≢ 0 → (w : Refusal) × (a ≡ No w)
+refusal Good h = absurd (h refl)
+refusal (No w) h = (w, refl)
+
+-- ---- reading a plan
+
+pub reading : (bytes : List ℕ) → One (λ r. r ≡ readOf bytes)
+reading = read-one-outcome
+
+-- "A refused read gives an all-zero plan and 0 bytes taken"
+pub reading-refused : (bytes : List ℕ) → number (readOf bytes .answer) ≢ 0 →
+    (readOf bytes .plan ≡ noPlan) × (readOf bytes .taken ≡ 0)
+unfolding readOf
+reading-refused bytes h = let t = refusal (readAnswer bytes) h in (rw (t .1), rw (t .1))
+
+-- ---- writing a plan
+
+pub writing : (p : Plan) (out : List ℕ) → One (λ (o : Lent Written). Writes p out (o .result) (o .buffer))
+writing = write-one-outcome
+
+-- "0 on a refusal. Lent buffers keep every byte on a refusal"
+pub writing-refused : (p : Plan) (out after : List ℕ) (r : Written) → Writes p out r after → number (r .answer) ≢ 0 →
+    (r .count ≡ 0) × (after ≡ out)
+writing-refused p out after r c h =
+    let t = refusal (r .answer) h in
+    let a : writeAnswer p out ≡ No (t .0) = ap (λ (x : Written). x .answer) (sym (c .result)) ∙ t .1 in
+    (ap (λ (x : Written). x .count) (c .result) ∙ (rw a), c .buffer ∙ (rw a))
+
+-- ---- writing the slot table
+
+pub tabling : (p : Plan) (out : List ℕ) → One (λ (o : Lent TableWritten). Tabled p out (o .result) (o .buffer))
+tabling = slot-table-one-outcome
+
+-- "Lent buffers keep every byte on a refusal"
+pub tabling-refused : (p : Plan) (out after : List ℕ) (r : TableWritten) → Tabled p out r after → number (r .answer) ≢ 0 →
+    (r .count ≡ 0) × (after ≡ out)
+tabling-refused p out after r c h =
+    let t = refusal (r .answer) h in
+    let a : tableAnswer p (length out) ≡ No (t .0) = ap (λ (x : TableWritten). x .answer) (sym (c .result)) ∙ t .1 in
+    (ap (λ (x : TableWritten). x .count) (c .result) ∙ (rw a), c .buffer ∙ (rw a))
+
+-- ---- the verdict
+
+pub judging : (p : Plan) → One (λ v. v ≡ judged p)
+judging = judge-one-outcome
+
+-- "A refused verdict gives k 0 for every kind"
+pub judging-refused : (p : Plan) → number (judged p .answer) ≢ 0 → judged p .width ≡ replicate 16 0
+judging-refused p h = let t = refusal (judged p .answer) h in none-refused p (t .0) (t .1)
+
+-- ---- a fresh start
+
+pub starting : (p : Plan) → One (λ n. n ≡ startOf p)
+starting = start-one-outcome
+
+-- "a refused fresh start gives an all-zero state"
+pub starting-refused : (p : Plan) → number (startOf p .answer) ≢ 0 → startOf p .state ≡ noState
+starting-refused p h = let t = refusal (startOf p .answer) h in start-refused p (t .0) (t .1)
+
+-- ---- a release
+
+pub releasing : (s : State) (i e : ℕ) → One (λ n. n ≡ releaseOf s i e)
+releasing = release-one-outcome
+
+-- "a refused slice or release gives back the state handed in"
+pub releasing-refused : (s : State) (i e : ℕ) → number (releaseOf s i e .answer) ≢ 0 → releaseOf s i e .state ≡ s
+releasing-refused s i e h = let t = refusal (releaseOf s i e .answer) h in release-refused s i e (t .0) (t .1)
+
+-- ---- a slice
+
+pub slicing : (s : State) (bytes : List ℕ) → One (λ (o : Lent Next). Sliced s bytes (o .result) (o .buffer))
+slicing = slice-one-outcome
+
+-- "a refused slice .. gives back the state handed in", and the lent row keeps every byte
+pub slicing-refused : (s : State) (bytes after : List ℕ) (next : Next) → Sliced s bytes next after → number (next .answer) ≢ 0 →
+    (next .state ≡ s) × (after ≡ bytes)
+slicing-refused s bytes after next c h = let t = refusal (next .answer) h in slice-refused s bytes after next (t .0) c (t .1)

@@ -1,0 +1,409 @@
+-- The demands in use: each theorem applied to plan A and the player's example at its tightest, so that what it says is a number.
+-- What is computed from the definitions stands in `Uses.Figures`; here the definitions are shut, and each line is a theorem at work.
+-- Assumes nothing.
+use mathlib.Core.Path.{_≡_, refl, sym, ap, _∙_}
+use mathlib.Core.Logic.{_≢_}
+use mathlib.Core.Bool.{Bool, true, false, _&&_, true≢false}
+use mathlib.Core.List.{List, [], _∷_, _++_}
+use Prim.Native.Nat.{ℕ, zero, suc, _+_, _-_, _≤_, _<_}
+use native.Mathlib.Omega.{arith}
+use lib.Dec.{ltb}
+use lib.ListN.{length, getD, take, drop, replicate}
+use borrow.Author.Tests.{ltb-true}
+use Rattle.laws.specs.Tests.{and-left, and-right}
+use Rattle.laws.specs.Count.{countTo}
+use Rattle.answer.specs.declared.Answer.the-variants.{Good}
+use Rattle.answer.specs.Answer.{number, place, excess}
+use Rattle.answer.specs.Numbers.{among, placed}
+use Rattle.plan.specs.Example.{planA, planB, bytesA}
+use Rattle.plan.specs.Order.{checked}
+use Rattle.plan.specs.Order.Properties.{in-order}
+use Rattle.codec.specs.Bytes.{AreBytes}
+use Rattle.plan_bytes.specs.Parts.{encoded}
+use Rattle.plan_bytes.specs.declared.Reading.{Reading}
+use Rattle.plan_bytes.specs.Reading.{readOf}
+use Rattle.plan_bytes.specs.declared.Written.{Written}
+use Rattle.plan_bytes.specs.Writing.{writeAnswer, Writes}
+use Rattle.layout.specs.declared.table.TableWritten.{TableWritten}
+use Rattle.layout.specs.Table.{tableAnswer, Tabled}
+use Rattle.verdict.specs.declared.Verdict.{Verdict}
+use Rattle.verdict.specs.Verdict.{ceilingOn, judged}
+use Rattle.verdict.specs.Admission.{given, Fits, NotAdmitted}
+use Rattle.rack.specs.declared.State.{State}
+use Rattle.rack.specs.declared.Next.{Next}
+use Rattle.rack.specs.State.{noState, unitOf}
+use Rattle.rack.specs.Form.{Ready}
+use Rattle.rack.specs.Form.Properties.{ready-says}
+use Rattle.rack.specs.Rank.{outranks, rank}
+use Rattle.rack.specs.Row.{holds, takes, rowByte}
+use Rattle.rack.specs.Start.{startAnswer, startOf}
+use Rattle.rack.specs.Release.{releaseAnswer, releaseOf}
+use Rattle.rack.specs.Slice.{sliceAnswer, sliceOf, Sliced}
+use Rattle.demands.specs.Run.{release, nextAfter, runFrom, after, noSlice, rowWritten}
+use Rattle.demands.specs.Named.{namesKind, namesProject, bytesIn, bytesNaming, Orderly, Apart}
+use Rattle.demands.specs.Shown.{shown, upTo, none, lastFrom, leftOf, restarted, kindsLeft}
+use Rattle.demands.specs.Outcomes.{reading, reading-refused, writing, writing-refused, tabling, tabling-refused}
+use Rattle.answer.specs.Outcome.{Lent}
+use Rattle.demands.specs.Numbers.{check-numbers, read-numbers, write-numbers, slot-table-numbers}
+use Rattle.demands.specs.Numbers.{judge-numbers, start-numbers, release-numbers, slice-numbers}
+use Rattle.demands.specs.Outcomes.{judging, judging-refused, starting, starting-refused, releasing, releasing-refused}
+use Rattle.demands.specs.Outcomes.{slicing, slicing-refused}
+use Rattle.demands.specs.Verdicts.{admitted-when, least-given, refused-when, written-then-read, read-then-written, only-encoding}
+use Rattle.demands.specs.Verdicts.{stands-when, nothing-left, all-stand, on-its-own, earliest-first, ascending, none-idle}
+use Rattle.demands.specs.Deadlines.{in-time, in-time-so-far, left-in-time, rows-orderly, rows-serve, one-kind-a-card, rows-name}
+use Rattle.demands.specs.Deadlines.{served-apart, budget-at-most, budget-exactly, never-out-of-form, never-left-over, told-early}
+use Rattle.demands.specs.Deadlines.{clock-tells, left-shown, last-shown, unit-shown, in-time-shown, work-shown, budget-shown}
+use Rattle.demands.specs.Sufficient.{runs-well}
+use Rattle.demands.specs.Uses.Figures.{tick, row, releases, threeSlices, fourSlices, example, rows, earlier, later, begun, fourRows}
+use Rattle.demands.specs.Uses.Figures.{oneSlice, running, longer, both, waiting, verdicts, ranks, answers}
+pub mod Figures
+pub mod Worst
+
+-- ---- demand 1: one outcome, and a refusal that changes nothing
+
+-- reading plan A's bytes takes 22, and reading two takes none
+pub read-takes : reading bytesA .outcome .taken ≡ 22
+read-takes = ap (λ (r : Reading). r .taken) (reading bytesA .meets ∙ verdicts .read-A)
+
+pub read-nothing : readOf (0x22 ∷ 0x18 ∷ []) .taken ≡ 0
+read-nothing = reading-refused (0x22 ∷ 0x18 ∷ []) (λ z. omega (arith, answers .read-short)) .1
+
+-- writing plan A into 23 bytes writes 22 and keeps the last, and into 21 it keeps them all
+pub writes-plan : (o : Lent Written) → Writes planA (replicate 23 7) (o .result) (o .buffer) →
+    (o .result .count ≡ 22) × (o .buffer ≡ bytesA ++ 7 ∷ [])
+writes-plan o c = (ap (λ (x : Lent Written). x .result .count) same, ap (λ (x : Lent Written). x .buffer) same)
+  where
+    said : Lent Written
+    said = record { result = record { answer = Good; count = 22 }; buffer = bytesA ++ 7 ∷ [] }
+
+    same : o ≡ said
+    same = writing planA (replicate 23 7) .only o c ∙ sym (writing planA (replicate 23 7) .only said (answers .writes))
+
+pub writes-nothing : (r : Written) (after : List ℕ) → Writes planA (replicate 21 7) r after → after ≡ replicate 21 7
+writes-nothing r after c = writing-refused planA (replicate 21 7) after r c refused .1
+  where
+    refused : number (r .answer) ≢ 0
+    refused z = omega (arith, ap (λ (x : Written). number (x .answer)) (c .result), answers .write-short)
+
+-- its slot table takes eight bytes of nine, and none of seven
+pub writes-table : (o : Lent TableWritten) → Tabled planA (replicate 9 7) (o .result) (o .buffer) →
+    (o .result .count ≡ 8) × (o .buffer ≡ 1 ∷ 1 ∷ 1 ∷ 2 ∷ 2 ∷ 2 ∷ 2 ∷ 2 ∷ 7 ∷ [])
+writes-table o c = (ap (λ (x : Lent TableWritten). x .result .count) same, ap (λ (x : Lent TableWritten). x .buffer) same)
+  where
+    said : Lent TableWritten
+    said = record { result = record { answer = Good; count = 8 }; buffer = 1 ∷ 1 ∷ 1 ∷ 2 ∷ 2 ∷ 2 ∷ 2 ∷ 2 ∷ 7 ∷ [] }
+
+    same : o ≡ said
+    same = tabling planA (replicate 9 7) .only o c ∙ sym (tabling planA (replicate 9 7) .only said (answers .tables))
+
+pub tables-nothing : (r : TableWritten) (after : List ℕ) → Tabled planA (replicate 7 7) r after → after ≡ replicate 7 7
+tables-nothing r after c = tabling-refused planA (replicate 7 7) after r c refused .1
+  where
+    refused : number (r .answer) ≢ 0
+    refused z = omega (arith, ap (λ (x : TableWritten). number (x .answer)) (c .result), answers .table-short)
+
+-- the verdict and the fresh start
+pub gives-ones : judging planA .outcome .width ≡ 1 ∷ 1 ∷ 1 ∷ replicate 13 0
+gives-ones = ap (λ (v : Verdict). v .width) (judging planA .meets) ∙ answers .widths-A
+
+pub gives-none : judged longer .width ≡ replicate 16 0
+gives-none = judging-refused longer (λ z. omega (arith, verdicts .eight .0))
+
+pub starts-at-none : starting planA .outcome .state .clock ≡ 0
+starts-at-none = ap (λ (n : Next). n .state .clock) (starting planA .meets ∙ answers .starts)
+
+pub starts-nothing : startOf longer .state ≡ noState
+starts-nothing = starting-refused longer (λ z. omega (arith, answers .start-eight))
+
+-- a release, and one that is told 14
+pub releases-one : releasing (after planA fourSlices) 1 2 .outcome .answer ≡ Good
+releases-one = ap (λ (n : Next). n .answer) (releasing (after planA fourSlices) 1 2 .meets) ∙ running .release-good
+
+pub releases-nothing : releaseOf (after planA fourSlices) 2 1 .state ≡ after planA fourSlices
+releases-nothing = releasing-refused (after planA fourSlices) 2 1 (λ z. omega (arith, running .release-early))
+
+-- a slice writes two bytes of three, and none of one
+pub slices-two : (o : Lent Next) → Sliced (after planA releases) (7 ∷ 7 ∷ 7 ∷ []) (o .result) (o .buffer) → o .buffer ≡ 1 ∷ 2 ∷ 7 ∷ []
+slices-two o c = ap (λ (x : Lent Next). x .buffer) same
+  where
+    s : State
+    s = after planA releases
+
+    said : Lent Next
+    said = record { result = sliceOf s 3; buffer = 1 ∷ 2 ∷ 7 ∷ [] }
+
+    same : o ≡ said
+    same = slicing s (7 ∷ 7 ∷ 7 ∷ []) .only o c ∙ sym (slicing s (7 ∷ 7 ∷ 7 ∷ []) .only said (running .slices))
+
+pub slices-nothing : (next : Next) (left : List ℕ) → Sliced (after planA releases) (7 ∷ []) next left → left ≡ 7 ∷ []
+slices-nothing next left c = slicing-refused (after planA releases) (7 ∷ []) left next c refused .1
+  where
+    refused : number (next .answer) ≢ 0
+    refused z = omega (arith, ap (λ (n : Next). number (n .answer)) (c .result), running .slice-short)
+
+-- ---- demand 1: the numbers
+
+-- plan A has nothing to refuse, and is told 0
+pub in-order-none : number (checked planA) ≡ 0
+in-order-none = check-numbers planA .good .1 (verdicts .order-A)
+
+pub admitted-none : number (judged planA .answer) ≡ 0
+admitted-none = judge-numbers planA .good .1 (verdicts .good-A)
+
+-- a refused start has a kind's place, and no other refusal here has one, or an excess
+pub kind-place : place (startAnswer longer) < 16
+kind-place = start-numbers longer .place-most
+
+pub not-good : startAnswer longer ≢ Good
+not-good g = omega (arith, start-numbers longer .good .1 g, answers .start-told)
+
+pub read-excess : excess (readOf (0x22 ∷ 0x18 ∷ []) .answer) ≡ 0
+read-excess = read-numbers (0x22 ∷ 0x18 ∷ []) .its-excess (λ z. omega (arith, answers .read-short))
+
+pub write-place : place (writeAnswer planA (replicate 21 7)) ≡ 0
+write-place = write-numbers planA (replicate 21 7) .its-place (ap (among placed) (answers .write-short) ∙ answers .nine-bare)
+
+pub table-place : place (tableAnswer planA 7) ≡ 0
+table-place = slot-table-numbers planA 7 .its-place (ap (among placed) (answers .table-short) ∙ answers .nine-bare)
+
+pub release-excess : excess (releaseAnswer (after planA fourSlices) 2 1) ≡ 0
+release-excess = release-numbers (after planA fourSlices) 2 1 .its-excess (λ z. omega (arith, running .release-told))
+
+pub slice-place : place (sliceAnswer (after planA releases) 1) ≡ 0
+slice-place = slice-numbers (after planA releases) 1 .its-place (ap (among placed) (running .slice-told) ∙ answers .nine-bare)
+
+-- ---- demand 2: the verdict
+
+-- plan A is admitted, since each kind fits at 1
+pub admitted-at-one : judged planA .answer ≡ Good
+admitted-at-one = admitted-when planA .1 (in-order planA (verdicts .order-A), fits)
+  where
+    most : (i : ℕ) → i < 3 → 1 ≤ ceilingOn planA i
+    most zero l = omega arith
+    most (suc zero) l = omega arith
+    most (suc (suc zero)) l = omega arith
+    most (suc (suc (suc i))) l = absurd (omega arith)
+
+    fits : (i : ℕ) → i < 3 → (k : ℕ) × Fits planA i k
+    fits i l = (1, record { width = record { some = omega arith; most = most i l }; room = verdicts .room-A i l })
+
+-- with one slice more for kind 0 it is not: with q 1 the only k is 1, and 7 are asked of 6
+pub not-admitted : judged longer .answer ≢ Good
+not-admitted good =
+    let t = admitted-when longer .0 good .1 0 (omega arith) in
+    let one : t .0 ≡ 1 = omega (arith, t .1 .width .some, t .1 .width .most) in
+    omega (arith, rw one at (t .1 .room), verdicts .asked-longer, verdicts .given-longer)
+
+-- plan B's kind 0 fits at no k below 2
+pub two-at-least : (k : ℕ) → Fits planB 0 k → 2 ≤ k
+two-at-least k fits = omega (arith, least-given planB (verdicts .good-B) 0 (omega arith) .1 k fits, verdicts .width-B)
+
+-- 8, place 0, excess 1: at k 1 the seven slices asked are exactly one more than the supply
+pub one-too-many : given longer 0 1 + 1 ≤ 7
+one-too-many =
+    let refused = refused-when longer 0 1 .0 (verdicts .eight) .1 in
+    omega (arith, refused .excess .least 1 (record { some = omega arith; most = omega arith }), verdicts .asked-longer)
+
+-- and the other way round
+pub told-by-eight : let a = judged longer .answer in (number a ≡ 8) × (place a ≡ 0) × (excess a ≡ 1)
+told-by-eight = refused-when longer 0 1 .1 (in-order longer (verdicts .order-longer), first)
+  where
+    only-one : (k : ℕ) → 0 < k → k ≤ 1 → k ≡ 1
+    only-one k a b = omega arith
+
+    none : (k : ℕ) → Fits longer 0 k → ⊥
+    none k f =
+        let room = rw (only-one k (f .width .some) (f .width .most)) at (f .room) in
+        omega (arith, room, verdicts .asked-longer, verdicts .given-longer)
+
+    first : NotAdmitted longer 0 1
+    first = record {
+      its-kind = omega arith;
+      first = λ j l. absurd (omega arith);
+      no-width = none;
+      excess = record {
+        least = λ k w. rw (only-one k (w .some) (w .most)) (omega (arith, verdicts .asked-longer, verdicts .given-longer));
+        attained = (1, record { some = omega arith; most = omega arith }, omega (arith, verdicts .asked-longer, verdicts .given-longer));
+      };
+    }
+
+-- ---- demand 2: plan bytes
+
+abbrev allSmall : List ℕ → Bool
+allSmall [] = true
+allSmall (x ∷ l) = ltb x 256 && allSmall l
+
+are-bytes : (l : List ℕ) → allSmall l ≡ true → AreBytes l
+are-bytes [] e i = omega arith
+are-bytes (x ∷ l) e zero = ltb-true x 256 (and-left (ltb x 256) (allSmall l) e)
+are-bytes (x ∷ l) e (suc i) = are-bytes l (and-right (ltb x 256) (allSmall l) e) i
+
+-- a byte behind plan A's is not taken
+pub twenty-two : readOf (encoded planA ++ 7 ∷ []) .taken ≡ 22
+twenty-two =
+    let read = written-then-read planA (record { eight = refl; sixteen = refl }) (verdicts .order-A) (7 ∷ []) in
+    ap (λ (r : Reading). r .taken) read ∙ verdicts .size-A
+
+-- writing what plan A's bytes were read as gives them back
+pub back-again : encoded planA ≡ take 22 bytesA
+back-again =
+    rw (verdicts .read-A) at (read-then-written bytesA (are-bytes bytesA refl) (ap (λ (r : Reading). r .answer) (verdicts .read-A)))
+
+-- and bytes that are read as the same plan are the same, but for what stands behind
+pub same-bytes : take 22 (bytesA ++ 7 ∷ []) ≡ take 22 bytesA
+same-bytes =
+    let behind = ap (λ (r : Reading). r .answer) (verdicts .read-behind) in
+    let alone = ap (λ (r : Reading). r .answer) (verdicts .read-A) in
+    let plan = ap (λ (r : Reading). r .plan) (verdicts .read-behind ∙ sym (verdicts .read-A)) in
+    rw (verdicts .read-behind, verdicts .read-A) at
+    (only-encoding (bytesA ++ 7 ∷ []) bytesA (are-bytes (bytesA ++ 7 ∷ []) refl) (are-bytes bytesA refl) behind alone plan)
+
+-- ---- demand 2: the row
+
+ready-both : Ready both
+ready-both = ready-says both (ranks .ready-both)
+
+ready-waiting : Ready waiting
+ready-waiting = ready-says waiting (ranks .ready-waiting)
+
+-- project 1 holds both cards: kind 1, due first, stands on the lower and kind 2 on the other
+pub lower-card : rowByte both 0 ≡ 2
+lower-card = stands-when both ready-both 0 1 .1 (omega arith, omega arith, ranks .first-held, ranks .first-rank)
+
+pub higher-card : rowByte both 1 ≡ 3
+higher-card = stands-when both ready-both 1 2 .1 (omega arith, omega arith, ranks .second-held, ranks .second-rank)
+
+pub its-place : rank both 2 ≡ countTo 1 (holds planA 1 3)
+its-place = stands-when both ready-both 1 2 .0 higher-card .3
+
+pub its-card : holds planA 1 3 1 ≡ true
+its-card = on-its-own both ready-both 1 2 higher-card
+
+pub due-first : outranks both 1 2 ≡ true
+due-first = ascending both ready-both 0 1 1 2 lower-card higher-card refl (omega arith)
+
+pub both-used : 0 < rowByte both 1
+both-used = none-idle both ready-both 1 1 (omega arith) (ranks .second-held) (omega (arith, ranks .two-held, ranks .two-active))
+
+pub both-stand : (card : ℕ) × (card < 2) × (rowByte both card ≡ 3)
+both-stand = all-stand both ready-both 2 (omega arith) (omega arith) (omega (arith, ranks .two-held, ranks .two-active))
+
+-- kind 0 has nothing left, and stands nowhere
+pub nowhere : rowByte both 0 ≢ 1
+nowhere = nothing-left both ready-both 0 0 refl
+
+-- where the project holds one card, the kind that waits is due later
+pub waits-for-one : outranks waiting 1 2 ≡ true
+waits-for-one = earliest-first waiting ready-waiting 1 1 2 (ranks .on-one) (omega arith) refl (ranks .works) (ranks .no-card)
+
+-- ---- demand 3: in time
+
+-- kind 1 has its two slices in exactly its four
+pub two-in-four : bytesNaming (namesKind 1) (take 4 fourRows) ≡ 2
+two-in-four = in-time planA (running .admitted-A) earlier later 1 2 (running .kind-one) (omega (arith, running .four-rows))
+
+-- after them nothing is to come, and nothing is left
+pub none-to-come : 2 - bytesNaming (namesKind 1) fourRows ≤ 0
+none-to-come =
+    let few : length fourRows ≤ 4 = omega (arith, running .four-rows) in
+    rw (running .four-rows) at (in-time-so-far planA (running .admitted-A) earlier later 1 2 (running .kind-one) few)
+
+pub none-left : unitOf (runFrom begun later) 1 .left ≤ 0
+none-left =
+    rw (running .four-rows) at (left-in-time planA (running .admitted-A) earlier later 1 2 (running .kind-one) (running .still-last))
+
+-- and where there are as many cards as kinds, two units of one slice have it in the same slice, on a refused plan
+pub one-in-one : bytesNaming (namesKind 1) (take 1 oneSlice) ≡ 1
+one-in-one = runs-well (release 0 1 ∷ []) (tick ∷ []) 1 1 (running .enough-good) (omega (arith, running .enough-rows))
+
+-- ---- demand 3: the first row of the example
+
+first-row : Orderly planA (getD rows 0 noSlice .row)
+first-row = rows-orderly planA (running .admitted-A) example 0 (omega (arith, running .rows-long))
+
+-- it has two bytes
+pub two-bytes : length (getD rows 0 noSlice .row) ≡ 2
+two-bytes = first-row .cards
+
+-- its first names kind 0 and no other
+pub none-other : (k : ℕ) → namesKind k (getD (getD rows 0 noSlice .row) 0 0) ≡ true → 0 ≡ k
+none-other k names = first-row .one-unit 0 0 k (running .names-none) names
+
+-- kind 0 stands once at most, and so do the kinds of project 0, whose ceiling is 1
+pub once : bytesIn (namesKind 0) (getD rows 0 noSlice .row) ≤ 1
+once = first-row .one-card 0
+
+pub ceiling-one : bytesIn (namesProject planA 0) (getD rows 0 noSlice .row) ≤ 1
+ceiling-one = first-row .ceiling 0 (omega arith)
+
+-- it takes from kind 1's two what it says
+pub taken-from-two :
+    let s = after planA releases in
+    unitOf (sliceOf s 2 .state) 1 .left + bytesIn (namesKind 1) (rowWritten s row) ≡ 2
+taken-from-two = rows-serve planA (running .admitted-A) releases row 1 (running .accepted) (omega arith) ∙ running .two-left
+
+-- card 0 is taken by kind 0 alone, and card 1's byte names kind 1
+pub card-none : (k : ℕ) → k < 3 → takes (after planA releases) k 0 ≡ true → 0 ≡ k
+card-none k l takes-it = one-kind-a-card planA (running .admitted-A) releases 0 0 k (omega arith) l (running .takes-none) takes-it
+
+pub card-one-taken : (i : ℕ) → namesKind i (getD (rowWritten (after planA releases) row) 1 0) ≡ true → i < 3
+card-one-taken i names = rows-name planA (running .admitted-A) releases row 1 i (running .accepted) (omega arith) .0 names .0
+
+pub card-one : namesKind 1 (getD (rowWritten (after planA releases) row) 1 0) ≡ true
+card-one = rows-name planA (running .admitted-A) releases row 1 1 (running .accepted) (omega arith) .1 (omega arith, running .takes-one)
+
+-- kinds 0 and 1 are served, on two cards
+pub two-cards : Apart 0 1 (rowWritten (after planA releases) row)
+two-cards =
+    served-apart planA (running .admitted-A) releases row 0 1 (running .accepted) (omega arith) (omega arith) (omega arith)
+    (running .less-none) (running .less-one)
+
+-- ---- demand 3: project 0's budget of 3 in the example's frame
+
+pub three-at-most : bytesNaming (namesProject planA 0) (take 4 (drop 0 rows)) ≤ 3
+three-at-most = budget-at-most planA (running .admitted-A) example 0 0 (omega arith) (omega (arith, running .rows-long))
+
+pub three-exactly : bytesNaming (namesProject planA 0) (take 4 (drop 0 rows)) ≡ 3
+three-exactly = budget-exactly planA (running .admitted-A) example 0 0 (omega arith) (omega (arith, running .rows-long)) (running .busy)
+
+pub three-by-rows : bytesNaming (namesProject planA 0) (take 4 (drop 0 rows)) ≡ 3
+three-by-rows = budget-shown planA (running .admitted-A) example 0 0 (omega arith) (omega (arith, running .rows-long)) (running .busy-shown)
+
+pub one-by-rows : kindsLeft planA 0 (upTo 0 (shown (startOf planA .state) example)) ≡ 1
+one-by-rows = sym (work-shown planA (running .admitted-A) example 0 0 (omega (arith, running .rows-long)) .1) ∙ running .one-active
+
+-- ---- demand 3: refusals on the way, and the clock
+
+-- the release of kind 1 at exactly its separation
+pub not-ten : number (nextAfter (after planA fourSlices) (release 1 2) .answer) ≢ 10
+not-ten = never-out-of-form planA (running .admitted-A) fourSlices (release 1 2)
+
+pub not-fifteen : number (nextAfter (after planA fourSlices) (release 1 2) .answer) ≢ 15
+not-fifteen = never-left-over planA (running .admitted-A) fourSlices (release 1 2)
+
+pub not-fourteen : number (releaseOf (after planA fourSlices) 1 2 .answer) ≢ 14
+not-fourteen h = true≢false (sym (told-early planA (running .admitted-A) fourSlices 1 2 .0 h .2) ∙ rw (running .since-four))
+
+-- and one slice before it
+pub fourteen : number (releaseOf (after planA threeSlices) 1 2 .answer) ≡ 14
+fourteen = told-early planA (running .admitted-A) threeSlices 1 2 .1 (omega arith, running .fits, rw (running .since-three))
+
+pub four : after planA example .clock ≡ 4
+four = clock-tells planA (running .admitted-A) example ∙ running .rows-long
+
+-- ---- demand 3: from what the example shows
+
+-- of kind 2's two slices one has been named in three rows
+pub one-named : leftOf (lastFrom 2 none (shown (startOf planA .state) threeSlices)) ≡ 1
+one-named = sym (left-shown planA (running .admitted-A) threeSlices 2 (omega arith)) ∙ running .one-left
+
+-- kind 1 is not released again in its four slices, and all that was asked is named or left
+pub not-again : restarted 1 (shown begun later) ≡ false
+not-again = last-shown planA (running .admitted-A) earlier later 1 2 (running .kind-one) .0 (running .still-last)
+
+pub named-or-left : unitOf (runFrom begun later) 1 .left + bytesNaming (namesKind 1) fourRows ≡ 2
+named-or-left = unit-shown planA (running .admitted-A) earlier later 1 2 (running .kind-one) (running .not-again)
+
+pub none-by-rows : 2 - bytesNaming (namesKind 1) fourRows ≤ 0
+none-by-rows =
+    rw (running .four-rows) at (in-time-shown planA (running .admitted-A) earlier later 1 2 (running .kind-one) (running .not-again))

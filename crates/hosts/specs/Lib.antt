@@ -1,0 +1,5 @@
+-- What a host is promised: a chain of calls of the C interface on one image is a run of the rack, and demand 3 holds of what it sees.
+-- Assumes nothing.
+pub mod Chain
+pub mod Events
+pub mod Promised

@@ -1,0 +1,307 @@
+-- What a host is promised that starts a state's image fresh from a plan's image and then makes any calls on it, each on the bytes that
+-- the last one left: it sees a run of the rack, and demand 3 holds of what it sees. The image of the plan and the lent buffers are any
+-- bytes.
+-- Assumes nothing.
+use mathlib.Core.Path.{_≡_, refl, sym, ap, subst, _∙_}
+use mathlib.Core.Logic.{_≢_, _↔_}
+use mathlib.Core.Bool.{Bool, true}
+use mathlib.Core.List.{List, [], _∷_, _++_}
+use Prim.Native.Nat.{ℕ, _+_, _≤_, _<_}
+use native.Mathlib.Omega.{arith}
+use lib.ListN.{length, getD, take, drop}
+use Rattle.answer.specs.declared.Answer.{Answer}
+use Rattle.answer.specs.declared.Answer.the-variants.{Good, No}
+use Rattle.answer.specs.Answer.{number, _andThen_, ifGood}
+use Rattle.answer.specs.Answer.Properties.{andThen-left, andThen-right}
+use Rattle.answer.specs.Word.{told, numberIn}
+use Rattle.answer.specs.Numbers.{small}
+use Rattle.plan.specs.declared.Plan.{Plan}
+use Rattle.plan.specs.Order.{within, budgetOf, kindOf}
+use Rattle.layout.specs.Layout.{held}
+use Rattle.rack.specs.declared.State.{State}
+use Rattle.rack.specs.State.{freshOf, unitOf}
+use Rattle.rack.specs.Start.{startAnswer, startOf}
+use Rattle.rack.specs.Start.Properties.{start-good}
+use Rattle.rack.specs.Release.{releaseOf}
+use Rattle.rack.specs.Slice.{sliceOf, bufferAfter}
+use Rattle.images.specs.Image.{planSize, stateSize, planFrom, stateFrom, stateImage}
+use Rattle.images.specs.Lent.{room}
+use Rattle.images.specs.Typed.{StateTyped}
+use Rattle.images.specs.Typed.Properties.{plan-found-typed, start-typed}
+use Rattle.images.specs.RoundTrip.{state-round-trip}
+use Rattle.parchbeetle.specs.Exports.{freshAnswer, Starts, Releases, Slices}
+use Rattle.parchbeetle.specs.Words.{fresh-listed}
+use Rattle.demands.specs.Run.{Call, slice, release, nextAfter, runFrom, after, rowWritten, slicesOf}
+use Rattle.demands.specs.Run.Properties.{run-plan}
+use Rattle.demands.specs.Named.{namesKind, namesProject, bytesIn, bytesNaming, Orderly}
+use Rattle.demands.specs.Since.{never, sinceFrom, fewer}
+use Rattle.demands.specs.Shown.{Event, shown, kindsLeft, upTo}
+use Rattle.demands.specs.Numbers.{verdictOrder, releaseOrder, sliceOrder, release-numbers, slice-numbers}
+use Rattle.demands.specs.Deadlines as rack
+use Rattle.hosts.specs.Chain.{Seen, Called, Chain, seenOf, allSeen}
+use Rattle.hosts.specs.Chain.Properties.{uncounted, call-is, next-typed, chain-is-run, run-typed}
+use Rattle.hosts.specs.Events.{eventsSeen, rowsIn, bytesOver, sinceSeen}
+use Rattle.hosts.specs.Events.Properties.{number-told, accepted-good, small-slice, small-release, events-shown}
+use Rattle.hosts.specs.Events.Properties.{rowsOf, rows-shown, rows-count, rows-take, rows-drop, rows-at, rows-named, since-shown}
+
+-- the rows written, as a host sees them
+abbrev pub rowsSeen : ℕ → List Call → List Seen → List (List ℕ)
+rowsSeen cards calls seens = rowsIn (eventsSeen cards calls seens)
+
+fresh-small : small (9 ∷ verdictOrder) ≡ true
+unfolding small
+fresh-small = refl
+
+-- ---- one call
+
+-- an accepted slice
+sliced-good : (s : State) (row : List ℕ) (word : ℕ) → word ≡ told (sliceOf s (length row) .answer) 0 → numberIn word ≡ 0
+    → sliceOf s (length row) .answer ≡ Good
+unfolding sliceOf
+sliced-good s row word e z = accepted-good sliceOrder _ small-slice (slice-numbers s (length row)) (sym (ap numberIn e) ∙ z)
+
+-- the number that is seen is the rack's
+seen-number : (s : State) (call : Call) (seen : Seen) → seen ≡ seenOf s call → numberIn (seen .word) ≡ number (nextAfter s call .answer)
+unfolding sliceOf releaseOf
+seen-number s (slice row) seen e = ap (λ (x : Seen). numberIn (x .word)) e
+    ∙ number-told sliceOrder _ small-slice (slice-numbers s (length row))
+seen-number s (release i l) seen e = ap (λ (x : Seen). numberIn (x .word)) e
+    ∙ number-told releaseOrder _ small-release (release-numbers s i l)
+
+-- no call changes the plan
+kept-plan : (s : State) (call : Call) → nextAfter s call .state .plan ≡ s .plan
+unfolding runFrom
+kept-plan s call = run-plan (call ∷ []) s
+
+-- ---- a host
+
+module _ (plan state first : List ℕ) (word : ℕ) (fresh : Starts plan state word first) (accepted : numberIn word ≡ 0) where
+  -- the plan that the image says
+  abbrev p : Plan
+  p = planFrom plan
+
+  -- what stands behind the state in its buffer
+  abbrev rest : List ℕ
+  rest = drop stateSize state
+
+  fresh-good : freshAnswer plan state ≡ Good
+  fresh-good =
+      let a = freshAnswer plan state in
+      accepted-good (9 ∷ verdictOrder) a fresh-small (fresh-listed plan state) (ap numberIn (sym (fresh .result ∙ uncounted a)) ∙ accepted)
+
+  start-answer-good : startAnswer p ≡ Good
+  unfolding freshAnswer
+  start-answer-good =
+      andThen-left (startAnswer p) (room state stateSize)
+      (andThen-right (room plan planSize) (startAnswer p andThen room state stateSize) fresh-good)
+
+  -- the fresh start was accepted, so the plan is admitted
+  pub admitted : startOf p .answer ≡ Good
+  unfolding startOf
+  admitted = start-answer-good
+
+  start : State
+  start = startOf p .state
+
+  start-is : start ≡ freshOf p
+  unfolding start
+  start-is = start-good p admitted
+
+  start-plan : start .plan ≡ p
+  start-plan = ap (λ (s : State). s .plan) start-is
+
+  typed : StateTyped start
+  typed = rw start-is (start-typed p (plan-found-typed plan))
+
+  first-stands : first ≡ stateImage start ++ rest
+  first-stands = fresh .buffer ∙ ap (λ (a : Answer). ifGood a (stateImage (freshOf p) ++ rest) state) fresh-good
+      ∙ ap (λ (s : State). stateImage s ++ rest) (sym start-is)
+
+  at-plan : (calls : List Call) → after p calls .plan ≡ p
+  unfolding start
+  at-plan calls = run-plan calls start ∙ start-plan
+
+  at-typed : (calls : List Call) → StateTyped (after p calls)
+  unfolding start
+  at-typed calls = run-typed calls start typed
+
+  -- ---- a chain of calls is a run
+
+  module _ (calls : List Call) (seens : List Seen) (end : List ℕ) (chain : Chain first calls seens end) where
+    both : (seens ≡ allSeen start calls) × (end ≡ stateImage (runFrom start calls) ++ rest)
+    both = chain-is-run calls seens start typed rest end (subst (λ (l : List ℕ). Chain l calls seens end) first-stands chain)
+
+    -- each call's number is the rack's answer, and each row the rack's row
+    pub seen-is-run : seens ≡ allSeen (startOf p .state) calls
+    unfolding start
+    seen-is-run = both .0
+
+    -- the bytes stand for the state of that run, and those behind it keep their value
+    pub bytes-are-state : end ≡ stateImage (after p calls) ++ drop stateSize state
+    unfolding start
+    bytes-are-state = both .1
+
+    -- so that state is what an image reader finds
+    pub state-found : stateFrom end ≡ after p calls
+    state-found = ap stateFrom bytes-are-state ∙ state-round-trip (after p calls) (at-typed calls) rest
+
+    events-are : eventsSeen (p .cards) calls seens ≡ shown (startOf p .state) calls
+    unfolding start
+    events-are = ap (eventsSeen (p .cards) calls) seen-is-run ∙ events-shown (p .cards) calls start (ap (λ (q : Plan). q .cards) start-plan)
+
+    rows-are : rowsSeen (p .cards) calls seens ≡ rowsOf (slicesOf (startOf p .state) calls)
+    rows-are = ap rowsIn events-are ∙ rows-shown calls (startOf p .state)
+
+    part : (test : ℕ → Bool) (x n : ℕ)
+        → bytesOver test (take n (drop x (rowsSeen (p .cards) calls seens))) ≡ bytesNaming test
+        (take n (drop x (slicesOf (startOf p .state) calls)))
+    part test x n =
+        let ws = slicesOf (startOf p .state) calls in
+        ap (λ (r : List (List ℕ)). bytesOver test (take n (drop x r))) rows-are
+        ∙ ap (λ (r : List (List ℕ)). bytesOver test (take n r)) (rows-drop x ws)
+        ∙ ap (bytesOver test) (rows-take n (drop x ws))
+        ∙ rows-named test (take n (drop x ws))
+
+    -- the next call
+    pub next-is-run : (call : Call) (seen : Seen) (next : List ℕ) → Called end call seen next
+        → (seen ≡ seenOf (after p calls) call) × (next ≡ stateImage (nextAfter (after p calls) call .state) ++ drop stateSize state)
+    next-is-run call seen next c =
+        call-is (after p calls) (at-typed calls) rest call seen next (subst (λ (l : List ℕ). Called l call seen next) bytes-are-state c)
+
+    -- ---- 2. No card serves two units, no unit holds two cards, no project exceeds its ceiling
+
+    -- every row written
+    pub rows-orderly : (x : ℕ) →
+        let rows = rowsSeen (p .cards) calls seens in
+        x < length rows →
+        Orderly p (getD rows x [])
+    rows-orderly x l =
+        let ws = slicesOf (startOf p .state) calls in
+        let m : x < length ws = omega (arith, rows-count ws, ap length rows-are) in
+        subst (Orderly p) (sym (ap (λ (r : List (List ℕ)). getD r x []) rows-are ∙ rows-at x ws)) (rack.rows-orderly p admitted calls x m)
+
+    -- ---- 3. Budget
+
+    -- in any F accepted slices in a row, the bytes that name kinds of project j are at most B
+    pub budget-at-most : (x j : ℕ) →
+        let rows = rowsSeen (p .cards) calls seens in
+        j < p .projects →
+        x + p .frame ≤ length rows →
+        bytesOver (namesProject p j) (take (p .frame) (drop x rows)) ≤ budgetOf p j
+    budget-at-most x j l enough =
+        let ws = slicesOf (startOf p .state) calls in
+        let m : x + p .frame ≤ length ws = omega (arith, rows-count ws, ap length rows-are) in
+        rw (part (namesProject p j) x (p .frame)) (rack.budget-at-most p admitted calls x j l m)
+
+    -- and exactly B if at each of those slices at least as many of its kinds have work left, by what was seen until then, as it holds cards
+    pub budget-exactly : (x j : ℕ) →
+        let events = eventsSeen (p .cards) calls seens in
+        let rows = rowsIn events in
+        j < p .projects →
+        x + p .frame ≤ length rows →
+        ((y : ℕ) → y < p .frame → held p j (x + y) ≤ kindsLeft p j (upTo (x + y) events)) →
+        bytesOver (namesProject p j) (take (p .frame) (drop x rows)) ≡ budgetOf p j
+    budget-exactly x j l enough busy =
+        let ws = slicesOf (startOf p .state) calls in
+        let m : x + p .frame ≤ length ws = omega (arith, rows-count ws, ap length rows-are) in
+        part (namesProject p j) x (p .frame)
+        ∙ rack.budget-shown p admitted calls x j l m
+        (λ y k. subst (λ (es : List Event). held p j (x + y) ≤ kindsLeft p j (upTo (x + y) es)) events-are (busy y k))
+
+    -- ---- 5. The clock
+
+    -- it is the number of accepted slices since the fresh start
+    pub clock-tells : stateFrom end .clock ≡ length (rowsSeen (p .cards) calls seens)
+    clock-tells =
+        ap (λ (s : State). s .clock) state-found ∙ rack.clock-tells p admitted calls
+        ∙ sym (ap length rows-are ∙ rows-count (slicesOf (startOf p .state) calls))
+
+    -- ---- a release after these calls
+
+    module _ (i e : ℕ) (told-number : ℕ) (next : List ℕ) (call : Releases end i e told-number next) where
+      released-both : (record { word = told-number; row = [] } ≡ seenOf (after p calls) (release i e)) ×
+          (next ≡ stateImage (releaseOf (after p calls) i e .state) ++ rest)
+      released-both = next-is-run (release i e) (record { word = told-number; row = [] }) next (call, refl)
+
+      released-word : told-number ≡ told (releaseOf (after p calls) i e .answer) 0
+      released-word = ap (λ (s : Seen). s .word) (released-both .0)
+
+      released-number : numberIn told-number ≡ number (releaseOf (after p calls) i e .answer)
+      unfolding releaseOf
+      released-number = ap numberIn released-word ∙ number-told releaseOrder _ small-release (release-numbers (after p calls) i e)
+
+      released-good : numberIn told-number ≡ 0 → releaseOf (after p calls) i e .answer ≡ Good
+      unfolding releaseOf
+      released-good z =
+          accepted-good releaseOrder _ small-release (release-numbers (after p calls) i e) (sym (ap numberIn released-word) ∙ z)
+
+      -- ---- 1. In time
+
+      -- it is accepted: the rows of the next D accepted slices name the kind e times
+      pub in-time : (more : List Call) (later : List Seen) (last : List ℕ) →
+          let rows = rowsSeen (p .cards) more later in
+          let deadline = kindOf p i .deadline in
+          numberIn told-number ≡ 0 →
+          Chain next more later last →
+          deadline ≤ length rows →
+          bytesOver (namesKind i) (take deadline rows) ≡ e
+      in-time more later last z chain enough =
+          let s = releaseOf (after p calls) i e .state in
+          let d = kindOf p i .deadline in
+          let t = next-typed (after p calls) (at-typed calls) rest (release i e) in
+          let run = chain-is-run more later s t rest last (subst (λ (l : List ℕ). Chain l more later last) (released-both .1) chain) in
+          let q : s .plan ≡ p = one-plan in
+          let es = ap (eventsSeen (p .cards) more) (run .0) ∙ events-shown (p .cards) more s (ap (λ (r : Plan). r .cards) q) in
+          let rs : rowsSeen (p .cards) more later ≡ rowsOf (slicesOf s more) = ap rowsIn es ∙ rows-shown more s in
+          let ws = slicesOf s more in
+          let m : d ≤ length ws = omega (arith, rows-count ws, ap length rs) in
+          ap (λ (r : List (List ℕ)). bytesOver (namesKind i) (take d r)) rs
+          ∙ ap (bytesOver (namesKind i)) (rows-take d ws)
+          ∙ rows-named (namesKind i) (take d ws)
+          ∙ rack.in-time p admitted calls more i e (released-good z) m
+        where
+          one-plan : releaseOf (after p calls) i e .state .plan ≡ p
+          one-plan = kept-plan (after p calls) (release i e) ∙ at-plan calls
+
+      -- ---- 4. Refusals on the way
+
+      -- 14 says the truth: it is given exactly where 12 and 13 are not, and fewer than T accepted slices are gone since the last
+      -- accepted release of the kind
+      pub told-early :
+          let since = sinceSeen i never (eventsSeen (p .cards) calls seens) in
+          (numberIn told-number ≡ 14) ↔
+          ((i < p .kinds) × (within (kindOf p i .length) e ≡ true) × (fewer (kindOf p i .separation) since ≡ true))
+      told-early =
+          let since : sinceSeen i never (eventsSeen (p .cards) calls seens) ≡ sinceFrom i (startOf p .state) never calls =
+          ap (sinceSeen i never) events-are ∙ since-shown i calls (startOf p .state) never in
+          rw (since, released-number) (rack.told-early p admitted calls i e)
+
+    -- ---- a slice after these calls
+
+    -- what its row says is what is done: each kind's left falls by the bytes that name it
+    pub rows-serve : (row cards next : List ℕ) (told-number i : ℕ) →
+        Slices end row told-number next cards →
+        numberIn told-number ≡ 0 →
+        i < p .kinds →
+        unitOf (stateFrom next) i .left + bytesIn (namesKind i) (take (p .cards) cards) ≡ unitOf (stateFrom end) i .left
+    rows-serve row cards next told-number i call z l =
+        let s = after p calls in
+        let v = next-is-run (slice row) (record { word = told-number; row = cards }) next call in
+        let w : told-number ≡ told (sliceOf s (length row) .answer) 0 = ap (λ (x : Seen). x .word) (v .0) in
+        let b : take (p .cards) cards ≡ rowWritten s row =
+        ap (λ (x : Seen). take (p .cards) (x .row)) (v .0) ∙ ap (λ (q : Plan). take (q .cards) (bufferAfter s row)) (sym (at-plan calls)) in
+        let n : stateFrom next ≡ sliceOf s (length row) .state =
+        ap stateFrom (v .1) ∙ state-round-trip (sliceOf s (length row) .state) (next-typed s (at-typed calls) rest (slice row)) rest in
+        rw (n, state-found, b) (rack.rows-serve p admitted calls row i (sliced-good s row told-number w z) l)
+
+    -- ---- 4. Refusals on the way
+
+    -- 10 never occurs
+    pub never-out-of-form : (call : Call) (seen : Seen) (next : List ℕ) → Called end call seen next → numberIn (seen .word) ≢ 10
+    never-out-of-form call seen next c z =
+        rack.never-out-of-form p admitted calls call (sym (seen-number (after p calls) call seen (next-is-run call seen next c .0)) ∙ z)
+
+    -- 15 never occurs
+    pub never-left-over : (call : Call) (seen : Seen) (next : List ℕ) → Called end call seen next → numberIn (seen .word) ≢ 15
+    never-left-over call seen next c z =
+        rack.never-left-over p admitted calls call (sym (seen-number (after p calls) call seen (next-is-run call seen next c .0)) ∙ z)

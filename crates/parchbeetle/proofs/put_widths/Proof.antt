@@ -1,0 +1,57 @@
+-- `parchbeetle::put_widths` meets its contract.
+-- Assumes nothing.
+use borrow.Author.Needs.{needs}
+use native.Mathlib.Omega.{arith}
+use mathlib.Core.Path.{_≡_, refl}
+use Prim.Native.Nat.{_≤_, _-_}
+use lib.ListN.{length, length-set}
+use Rattle.laws.specs.Written.{written}
+use Rattle.laws.specs.Written.Properties.{written-none, written-again, written-stop}
+use Rattle.parchbeetle.specs.Exports.{widthAt}
+use Rattle.parchbeetle.proofs.put_widths.Statement.{statement}
+use Rattle.parchbeetle.proofs.put_widths.Tie as tie
+
+abbrev Inv-loop : tie.InvT-loop
+Inv-loop k₀ width i₀ k i = (i ≤ 16) × (k ≡ written i (widthAt width) k₀) × (length k ≡ length k₀)
+
+abbrev μ-loop : tie.MeasureT-loop
+μ-loop k₀ width i₀ k i = 16 - i
+
+loop-holds : tie.Need-loop-holds Inv-loop μ-loop
+loop-holds c = (omega arith, written-none _ _, refl)
+
+array-read-k : tie.Need-array-read-k Inv-loop μ-loop
+array-read-k c = search needs
+
+slice-write-k : tie.Need-slice-write-k Inv-loop μ-loop
+slice-write-k c = search needs
+
+add-i : tie.Need-add-i Inv-loop μ-loop
+add-i c = search needs
+
+loop-less : tie.Need-loop-less Inv-loop μ-loop
+loop-less c = search needs
+
+loop-again : tie.Need-loop-again Inv-loop μ-loop
+loop-again c = (omega arith, search written-again, simp length-set (omega arith))
+
+same-length : tie.Need-same-length Inv-loop μ-loop
+same-length c = search needs
+
+returns : tie.Need-returns Inv-loop μ-loop
+returns c = search written-stop
+
+pub put-widths-spec : {M : Type 1} → statement M
+put-widths-spec =
+    tie.close
+    (tie.spec
+    Inv-loop
+    μ-loop
+    loop-holds
+    array-read-k
+    slice-write-k
+    add-i
+    loop-less
+    loop-again
+    same-length
+    returns)

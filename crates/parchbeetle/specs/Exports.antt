@@ -1,0 +1,105 @@
+-- What each exported function answers, and what the lent buffers hold then.
+-- Assumes nothing.
+use Prim.Native.Nat.{ℕ}
+use mathlib.Core.Bool.{not}
+use mathlib.Core.List.{List, _++_}
+use lib.ListN.{length, drop, getD}
+use Rattle.laws.specs.Written.{written}
+use Rattle.answer.specs.declared.Answer.{Answer}
+use Rattle.answer.specs.Answer.{bare, refuse, _andThen_, ifGood}
+use Rattle.plan.specs.Order.{checked}
+use Rattle.plan_bytes.specs.Parts.{encoded, size}
+use Rattle.plan_bytes.specs.Reading.{readOf}
+use Rattle.plan_bytes.specs.Writing.{writeAnswer}
+use Rattle.layout.specs.Table.{tableAnswer, tableLength, tableOver}
+use Rattle.verdict.specs.Verdict.{judged}
+use Rattle.rack.specs.State.{freshOf}
+use Rattle.rack.specs.Start.{startAnswer}
+use Rattle.rack.specs.Release.{releaseAnswer, released}
+use Rattle.rack.specs.Advance.{advanced}
+use Rattle.rack.specs.Slice.{sliceAnswer}
+use Rattle.rack.specs.Row.{rowOver}
+use Rattle.images.specs.Image.{planSize, stateSize, planFrom, planImage, stateFrom, stateImage, releasedTold}
+use Rattle.images.specs.Lent.{room}
+use Rattle.answer.specs.Word.{told}
+use Rattle.answer.specs.Outcome.{LeavesTwo}
+use Rattle.parchbeetle.specs.Outcome.{Outcome}
+pub mod Properties
+
+-- ---- a plan's image
+
+-- `parchbeetle_check`: 9 for the image, then the record order
+unfoldable pub checkAnswer : List ℕ → Answer
+checkAnswer plan = room plan planSize andThen checked (planFrom plan)
+
+-- `parchbeetle_read`: the order of reading, then 9 for the lent image
+unfoldable pub readsAnswer : List ℕ → List ℕ → Answer
+readsAnswer bytes plan = readOf bytes .answer andThen room plan planSize
+
+-- the plan that was read as an image, and "how many bytes it took"
+abbrev pub Reads : List ℕ → List ℕ → ℕ → List ℕ → Type 0
+Reads bytes plan r after =
+    Outcome (readsAnswer bytes plan) (readOf bytes .taken) (planImage (readOf bytes .plan) ++ drop planSize plan) plan r after
+
+-- `parchbeetle_write`: 9 for the image, then as writing a plan answers
+unfoldable pub writesAnswer : List ℕ → List ℕ → Answer
+writesAnswer plan out = room plan planSize andThen writeAnswer (planFrom plan) out
+
+-- the plan's bytes, and their count
+abbrev pub WritesBytes : List ℕ → List ℕ → ℕ → List ℕ → Type 0
+WritesBytes plan out r after =
+    Outcome (writesAnswer plan out) (size (planFrom plan)) (encoded (planFrom plan) ++ drop (size (planFrom plan)) out) out r after
+
+-- `parchbeetle_slot_table`: 9 for the image, then as writing a slot table answers
+unfoldable pub slotsAnswer : List ℕ → List ℕ → Answer
+slotsAnswer plan out = room plan planSize andThen tableAnswer (planFrom plan) (length out)
+
+-- the slot table, and the count of its bytes
+abbrev pub WritesSlots : List ℕ → List ℕ → ℕ → List ℕ → Type 0
+WritesSlots plan out r after = Outcome (slotsAnswer plan out) (tableLength (planFrom plan)) (tableOver (planFrom plan) out) out r after
+
+-- `parchbeetle_verdict`: 9 for the image, the record order, 8, then 9 for the lent k
+unfoldable pub verdictAnswer : List ℕ → List ℕ → Answer
+verdictAnswer plan k = room plan planSize andThen (judged (planFrom plan) .answer andThen room k 16)
+
+-- a verdict's k for kind i
+abbrev pub widthAt : List ℕ → ℕ → ℕ
+widthAt width i = getD width i 0
+
+-- each kind's k, a byte each
+abbrev pub Judges : List ℕ → List ℕ → ℕ → List ℕ → Type 0
+Judges plan k r after = Outcome (verdictAnswer plan k) 0 (written 16 (widthAt (judged (planFrom plan) .width)) k) k r after
+
+-- ---- a state's image
+
+-- `parchbeetle_fresh`: 9 for the plan's image, the record order, 8, then 9 for the lent image
+unfoldable pub freshAnswer : List ℕ → List ℕ → Answer
+freshAnswer plan state = room plan planSize andThen (startAnswer (planFrom plan) andThen room state stateSize)
+
+-- the fresh state of the plan
+abbrev pub Starts : List ℕ → List ℕ → ℕ → List ℕ → Type 0
+Starts plan state r after = Outcome (freshAnswer plan state) 0 (stateImage (freshOf (planFrom plan)) ++ drop stateSize state) state r after
+
+-- whether an image is a state's: 9, the record order, and 10 where a released byte is neither 0 nor 1
+unfoldable pub stateAnswer : List ℕ → Answer
+stateAnswer state = room state stateSize andThen (checked (planFrom state) andThen refuse (not (releasedTold state)) (bare 10))
+
+-- `parchbeetle_release`: the image, then as a release answers
+unfoldable pub releasesAnswer : List ℕ → ℕ → ℕ → Answer
+releasesAnswer state kind e = stateAnswer state andThen releaseAnswer (stateFrom state) kind e
+
+-- the state after the release
+abbrev pub Releases : List ℕ → ℕ → ℕ → ℕ → List ℕ → Type 0
+Releases state kind e r after =
+    Outcome (releasesAnswer state kind e) 0 (stateImage (released (stateFrom state) kind e) ++ drop stateSize state) state r after
+
+-- `parchbeetle_slice`: the image, then as a slice answers
+unfoldable pub slicesAnswer : List ℕ → List ℕ → Answer
+slicesAnswer state row = stateAnswer state andThen sliceAnswer (stateFrom state) (length row)
+
+-- the state after the slice, and its row
+abbrev pub Slices : List ℕ → List ℕ → ℕ → List ℕ → List ℕ → Type 0
+Slices state row =
+    let a = slicesAnswer state row in
+    LeavesTwo (told a 0) (ifGood a (stateImage (advanced (stateFrom state)) ++ drop stateSize state) state)
+    (ifGood a (rowOver (stateFrom state) row) row)

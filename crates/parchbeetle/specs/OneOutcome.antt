@@ -1,0 +1,41 @@
+-- Each exported function's contract admits one outcome: the number it answers, and what each lent buffer holds then.
+-- Assumes nothing.
+use mathlib.Core.Path.{_≡_}
+use mathlib.Core.List.{List}
+use Prim.Native.Nat.{ℕ}
+use Rattle.answer.specs.Outcome.{One, Lent, LentTwo}
+use Rattle.answer.specs.Outcome.Properties.{is-one, leaves-one, leaves-two-one}
+use Rattle.answer.specs.Word.{told}
+use Rattle.parchbeetle.specs.Exports.{checkAnswer, Reads, WritesBytes, WritesSlots, Judges, Starts, Releases, Slices}
+
+-- `parchbeetle_check`
+pub parchbeetle-check-one-outcome : (plan : List ℕ) → One (λ r. r ≡ told (checkAnswer plan) 0)
+parchbeetle-check-one-outcome plan = is-one _
+
+-- `parchbeetle_read`
+pub parchbeetle-read-one-outcome : (bytes plan : List ℕ) → One (λ (o : Lent ℕ). Reads bytes plan (o .result) (o .buffer))
+parchbeetle-read-one-outcome bytes plan = leaves-one _ _
+
+-- `parchbeetle_write`
+pub parchbeetle-write-one-outcome : (plan out : List ℕ) → One (λ (o : Lent ℕ). WritesBytes plan out (o .result) (o .buffer))
+parchbeetle-write-one-outcome plan out = leaves-one _ _
+
+-- `parchbeetle_slot_table`
+pub parchbeetle-slot-table-one-outcome : (plan out : List ℕ) → One (λ (o : Lent ℕ). WritesSlots plan out (o .result) (o .buffer))
+parchbeetle-slot-table-one-outcome plan out = leaves-one _ _
+
+-- `parchbeetle_verdict`
+pub parchbeetle-verdict-one-outcome : (plan k : List ℕ) → One (λ (o : Lent ℕ). Judges plan k (o .result) (o .buffer))
+parchbeetle-verdict-one-outcome plan k = leaves-one _ _
+
+-- `parchbeetle_fresh`
+pub parchbeetle-fresh-one-outcome : (plan state : List ℕ) → One (λ (o : Lent ℕ). Starts plan state (o .result) (o .buffer))
+parchbeetle-fresh-one-outcome plan state = leaves-one _ _
+
+-- `parchbeetle_release`
+pub parchbeetle-release-one-outcome : (state : List ℕ) (kind e : ℕ) → One (λ (o : Lent ℕ). Releases state kind e (o .result) (o .buffer))
+parchbeetle-release-one-outcome state kind e = leaves-one _ _
+
+-- `parchbeetle_slice`
+pub parchbeetle-slice-one-outcome : (state row : List ℕ) → One (λ (o : LentTwo ℕ). Slices state row (o .result) (o .buffer) (o .second))
+parchbeetle-slice-one-outcome state row = leaves-two-one _ _ _

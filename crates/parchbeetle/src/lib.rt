@@ -1,0 +1,184 @@
+// The functions that another language calls, on numbers and byte slices. A plan and a state cross
+// as images in lent buffers, and every function answers one number.
+ghost use mathlib.Core.Path.{_≡_};
+ghost use Prim.Native.Nat.{_≤_, min};
+ghost use lib.ListN.{length};
+ghost use Rattle.laws.specs.Written.{written};
+ghost use Rattle.answer.specs.Word.{told};
+ghost use Rattle.parchbeetle.specs.Exports.{checkAnswer, Reads, WritesBytes, WritesSlots, widthAt, Judges, Starts, Releases, Slices};
+use answer::Answer;
+use plan::Plan;
+use rack::State;
+
+// Whether the plan of an image is in order.
+#[no_mangle]
+pub extern "C" fn parchbeetle_check(plan: &[u8]) -> u64
+    ensures { λ r. ⌜ r ≡ told (checkAnswer (now (plan .entry))) 0 ⌝ }
+{
+    let found = image_reader::plan_of(plan);
+    let seen = found.answer;
+    let Answer::Good = seen else {
+        return seen.told(0);
+    };
+    let given = found.plan;
+    let checked = given.check();
+    checked.told(0)
+}
+
+// Reads plan bytes into an image.
+#[no_mangle]
+pub extern "C" fn parchbeetle_read(bytes: &[u8], plan: &mut [u8]) -> u64
+    ensures { λ r. ⌜ Reads (now (bytes .entry)) (now (plan .entry)) r (now (plan .exit)) ⌝ }
+{
+    let reading = plan_reader::read(bytes);
+    let answer = reading.answer;
+    let Answer::Good = answer else {
+        return answer.told(0);
+    };
+    let stored = image_writer::put_plan(reading.plan, plan);
+    let Answer::Good = stored else {
+        return stored.told(0);
+    };
+    let taken = reading.taken as u16;
+    stored.told(taken)
+}
+
+// Writes the bytes of an image's plan.
+#[no_mangle]
+pub extern "C" fn parchbeetle_write(plan: &[u8], out: &mut [u8]) -> u64
+    ensures { λ r. ⌜ WritesBytes (now (plan .entry)) (now (out .entry)) r (now (out .exit)) ⌝ }
+{
+    let found = image_reader::plan_of(plan);
+    let seen = found.answer;
+    let Answer::Good = seen else {
+        return seen.told(0);
+    };
+    let done = plan_writer::write(found.plan, out);
+    let answer = done.answer;
+    let written = done.count as u16;
+    answer.told(written)
+}
+
+// Writes the slot table of an image's plan.
+#[no_mangle]
+pub extern "C" fn parchbeetle_slot_table(plan: &[u8], out: &mut [u8]) -> u64
+    ensures { λ r. ⌜ WritesSlots (now (plan .entry)) (now (out .entry)) r (now (out .exit)) ⌝ }
+{
+    let found = image_reader::plan_of(plan);
+    let seen = found.answer;
+    let Answer::Good = seen else {
+        return seen.told(0);
+    };
+    let table = layout::slot_table(found.plan, out);
+    let answer = table.answer;
+    let slots = table.count as u16;
+    answer.told(slots)
+}
+
+fn put_widths(width: [u8; Plan::KINDS], k: &mut [u8])
+    requires { ⌜ 16 ≤ length (now k) ⌝ }
+    ensures { λ _. ⌜ now (k .exit) ≡ written 16 (widthAt width) (now (k .entry)) ⌝ }
+{
+    for i in 0..Plan::KINDS {
+        k[i] = width[i];
+    }
+}
+
+// The verdict on an image's plan: document 01's k for each kind, a byte each.
+#[no_mangle]
+pub extern "C" fn parchbeetle_verdict(plan: &[u8], k: &mut [u8]) -> u64
+    ensures { λ r. ⌜ Judges (now (plan .entry)) (now (k .entry)) r (now (k .exit)) ⌝ }
+{
+    let found = image_reader::plan_of(plan);
+    let seen = found.answer;
+    let Answer::Good = seen else {
+        return seen.told(0);
+    };
+    let verdict = verdict::judge(found.plan);
+    let answer = verdict.answer;
+    let Answer::Good = answer else {
+        return answer.told(0);
+    };
+    if k.len() < Plan::KINDS {
+        return Answer::bare(9).told(0);
+    }
+    let width = verdict.width;
+    put_widths(width, k);
+    answer.told(0)
+}
+
+// The fresh state of an image's plan, as an image.
+#[no_mangle]
+pub extern "C" fn parchbeetle_fresh(plan: &[u8], state: &mut [u8]) -> u64
+    ensures { λ r. ⌜ Starts (now (plan .entry)) (now (state .entry)) r (now (state .exit)) ⌝ }
+{
+    let found = image_reader::plan_of(plan);
+    let seen = found.answer;
+    let Answer::Good = seen else {
+        return seen.told(0);
+    };
+    let start = State::start(found.plan);
+    let answer = start.answer;
+    let Answer::Good = answer else {
+        return answer.told(0);
+    };
+    image_writer::put_state(start.state, state).told(0)
+}
+
+// The kind, or 16: no plan has so many, so that what is too large stays so.
+fn limited_kind(kind: u64) -> usize
+    ensures { λ r. ⌜ r ≡ min kind 16 ⌝ }
+{
+    if kind < Plan::KINDS as u64 {
+        return kind as usize;
+    }
+    Plan::KINDS
+}
+
+// The length, or 65536: no kind's length is so large.
+fn limited_length(e: u64) -> u32
+    ensures { λ r. ⌜ r ≡ min e 65536 ⌝ }
+{
+    if e < 65536 {
+        return e as u32;
+    }
+    65536
+}
+
+// Releases a unit of a kind, in a state's image.
+#[no_mangle]
+pub extern "C" fn parchbeetle_release(state: &mut [u8], kind: u64, e: u64) -> u64
+    ensures { λ r. ⌜ Releases (now (state .entry)) kind e r (now (state .exit)) ⌝ }
+{
+    let found = image_reader::state_of(state);
+    let seen = found.answer;
+    let Answer::Good = seen else {
+        return seen.told(0);
+    };
+    let given = found.state;
+    let next = given.release(limited_kind(kind), limited_length(e));
+    let answer = next.answer;
+    let Answer::Good = answer else {
+        return answer.told(0);
+    };
+    image_writer::put_state(next.state, state).told(0)
+}
+
+// Runs a slice, in a state's image, and writes its row.
+#[no_mangle]
+pub extern "C" fn parchbeetle_slice(state: &mut [u8], row: &mut [u8]) -> u64
+    ensures { λ r. ⌜ Slices (now (state .entry)) (now (row .entry)) r (now (state .exit)) (now (row .exit)) ⌝ }
+{
+    let found = image_reader::state_of(state);
+    let seen = found.answer;
+    let Answer::Good = seen else {
+        return seen.told(0);
+    };
+    let given = found.state;
+    let after = given.slice(row);
+    let answer = after.answer;
+    let Answer::Good = answer else {
+        return answer.told(0);
+    };
+    image_writer::put_state(after.state, state).told(0)
+}

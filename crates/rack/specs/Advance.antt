@@ -1,0 +1,31 @@
+-- Document 01, "Slice", and the refusal 11: the state that follows.
+-- Assumes nothing.
+use Prim.Native.Nat.{ℕ, _+_, _-_, _<_}
+use mathlib.Core.Bool.{cond}
+use lib.Dec.{eqb}
+use Rattle.laws.specs.Written.{written}
+use Rattle.answer.specs.declared.Answer.{Answer}
+use Rattle.answer.specs.Answer.{bare, refuse}
+use Rattle.unit.specs.declared.Unit.{Unit}
+use Rattle.rack.specs.declared.State.{State}
+use Rattle.rack.specs.State.{lastClock, unitOf, kindPlaces}
+use Rattle.rack.specs.Form.{Ready}
+use Rattle.rack.specs.Rank.{served}
+pub mod Properties
+
+-- "Each chosen kind's left falls by one"
+unfoldable pub unitAfter : State → ℕ → Unit
+unitAfter s i = record { released = unitOf s i .released; at = unitOf s i .at; left = unitOf s i .left - cond (served s i) 1 0 }
+
+-- ".. the clock rises by one"
+unfoldable pub advanced : State → State
+advanced s = record { plan = s .plan; clock = s .clock + 1; unit = written (kindPlaces s) (unitAfter s) (s .unit) }
+
+-- "11: clock is 1,000,000,000"
+unfoldable pub timeLeft : State → Answer
+timeLeft s = refuse (eqb (s .clock) lastClock) (bare 11)
+
+-- what advancing needs: none of the record order, 10 and 11
+pub record Advanceable (s : State) : Type 0 where
+  pub ready : Ready s
+  pub time : s .clock < lastClock

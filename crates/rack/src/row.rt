@@ -1,0 +1,123 @@
+// The row that a state shows.
+//
+// Every kind's rank is counted once, and every project's cards are found once. From the two each
+// kind has its seat: the card that it takes, plus 1, or 0 where it is not served. The row and the
+// state that follows both go by the seats.
+//
+// Of n kinds, a of them with slices left, on m cards for p projects, that is a·n steps for the
+// ranks and 3n + p + m for the rest.
+ghost use mathlib.Core.Path.{_≡_};
+ghost use Prim.Native.Nat.{ℕ, _+_, _≤_, _<_};
+ghost use lib.ListN.{length};
+ghost use Rattle.laws.specs.Written.{written};
+ghost use Rattle.plan.specs.Order.{InOrder};
+ghost use Rattle.seats.specs.Seats.{at};
+ghost use Rattle.rack.specs.State.{lastClock};
+ghost use Rattle.rack.specs.Form.{Ready};
+ghost use Rattle.rack.specs.Row.{rowOver};
+ghost use Rattle.rack.specs.Seat.{idle, worksFor, ProjectCards, seatsOf, seated};
+use crate::State;
+use layout::cards_below;
+use plan::Kind;
+use plan::Plan;
+use seats::seats;
+use unit::Unit;
+
+// Each project's lowest card in this slice, and the card after its last.
+struct Cards {
+    low: [u8; 8],
+    end: [u8; 8],
+}
+
+// One walk over the projects: each one's cells begin where the last one's end.
+fn project_cards(plan: Plan, clock: u32) -> Cards
+    requires { ⌜ InOrder plan ⌝ }
+    ensures { λ r. ⌜ ProjectCards plan clock (r .low) (r .end) ⌝ }
+{
+    let slice = (clock % plan.frame as u32) as u8;
+    let mut low = [0u8; 8];
+    let mut end = [0u8; 8];
+    let mut cell: u16 = 0;
+    let mut card: u8 = 0;
+    for j in 0..plan.projects as usize {
+        low[j] = card;
+        cell += plan.project[j].budget;
+        card = cards_below(cell, plan.frame, slice) as u8;
+        end[j] = card;
+    }
+    Cards { low, end }
+}
+
+// No kind on any card yet.
+fn clear(out: &mut [u8], cards: usize)
+    requires { ⌜ cards ≤ length (now out) ⌝ }
+    ensures { λ _. ⌜ now (out .exit) ≡ written cards idle (now (out .entry)) ⌝ }
+{
+    for card in 0..cards {
+        out[card] = 0;
+    }
+}
+
+// Each kind's number plus 1 on the card where it sits.
+fn seat_kinds(out: &mut [u8], seat: &[u8; 16], kinds: usize)
+    requires { ⌜ (kinds ≤ 16) × ((k : ℕ) → at (now seat) k ≤ length (now out)) ⌝ }
+    ensures { λ _. ⌜ now (out .exit) ≡ seated (at (now (seat .entry))) kinds (now (out .entry)) ⌝ }
+{
+    for i in 0..kinds {
+        let number = seat[i] as usize;
+        if number == 0 {
+            continue;
+        }
+        out[number - 1] = i as u8 + 1;
+    }
+}
+
+// For a kind with slices left its project plus 1; else 0.
+fn works_for(unit: Unit, kind: Kind) -> u8
+    requires { ⌜ kind .project < 8 ⌝ }
+    ensures { λ r. ⌜ r ≡ worksFor unit kind ⌝ }
+{
+    if unit.left == 0 {
+        return 0;
+    }
+    kind.project + 1
+}
+
+// Release clock plus D.
+fn due_clock(unit: Unit, kind: Kind) -> u32
+    requires { ⌜ unit .at ≤ lastClock ⌝ }
+    ensures { λ r. ⌜ r ≡ unit .at + kind .deadline ⌝ }
+{
+    unit.at + kind.deadline as u32
+}
+
+impl State {
+    // Where every kind sits in this slice.
+    pub(crate) fn seats(self) -> [u8; 16]
+        requires { ⌜ Ready self ⌝ }
+        ensures { λ r. ⌜ r ≡ seatsOf self ⌝ }
+    {
+        let plan = self.plan;
+        let kinds = self.places();
+        let mut works = [0u8; 16];
+        let mut due = [0u32; 16];
+        for i in 0..kinds {
+            works[i] = works_for(self.unit[i], plan.kind[i]);
+            due[i] = due_clock(self.unit[i], plan.kind[i]);
+        }
+        let cards = project_cards(plan, self.clock);
+        let low = cards.low;
+        let end = cards.end;
+        seats(&works, &due, &low, &end, kinds)
+    }
+
+    // Writes the row into a lent one, by the seats.
+    pub(crate) fn write_row(self, seat: &[u8; 16], out: &mut [u8])
+        requires { ⌜ Ready self × (self .plan .cards ≤ length (now out)) × (now seat ≡ seatsOf self) ⌝ }
+        ensures { λ _. ⌜ now (out .exit) ≡ rowOver self (now (out .entry)) ⌝ }
+    {
+        let plan = self.plan;
+        clear(out, plan.cards as usize);
+        seat_kinds(out, seat, self.places());
+    }
+}

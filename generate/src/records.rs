@@ -1,0 +1,219 @@
+//! Records in and out of range, states in and out of form, and what is lent or asked with them.
+
+use crate::Generator;
+use second::bytes::plan_bytes;
+use second::plan::{Plan, MOST_KINDS};
+use second::rack::{fresh, KindState, State, LAST_CLOCK};
+
+impl Generator {
+    /// A plan record: admitted, good, just refused, with one to three fields spoiled, or of any fields.
+    pub fn plan_record(&mut self) -> Plan {
+        match self.below(16) {
+            0..=5 => self.admitted_plan(),
+            6 | 7 => self.good_plan(),
+            8 | 9 => self.just_refused_plan(),
+            10..=14 => {
+                let mut plan = if self.one_in(2) {
+                    self.admitted_plan()
+                } else {
+                    self.good_plan()
+                };
+                for _ in 0..self.between(1, 3) {
+                    self.spoil_record(&mut plan);
+                }
+                plan
+            }
+            _ => self.arbitrary_plan(),
+        }
+    }
+
+    /// A state "in form" on this plan, most not reachable from a fresh start.
+    pub fn state_in_form(&mut self, plan: &Plan) -> State {
+        let last = u64::from(LAST_CLOCK);
+        let clock = match self.below(8) {
+            0 => 0,
+            1 => last,
+            2 => last - 1,
+            3 => self.between(0, last),
+            4 => last - self.below(5000),
+            _ => self.below(10_000),
+        };
+        let mut state = State {
+            plan: *plan,
+            clock: clock as u32,
+            ..State::default()
+        };
+        for (kind, place) in plan.used_kinds().iter().zip(&mut state.kinds) {
+            if self.one_in(4) {
+                continue;
+            }
+            let t = u64::from(kind.separation);
+            let ago = match self.below(8) {
+                0 => 0,
+                1 => t,
+                2 => t.saturating_sub(1),
+                3 => t + 1,
+                4 => u64::from(kind.deadline),
+                5 => self.below(clock + 1),
+                _ => self.below(2 * t + 2),
+            };
+            let c = u64::from(kind.length);
+            let left = match self.below(4) {
+                0 => 0,
+                1 => c,
+                _ => self.between(0, c),
+            };
+            *place = KindState {
+                released: true,
+                at: clock.saturating_sub(ago) as u32,
+                left: left as u16,
+            };
+        }
+        state
+    }
+
+    /// A state reached from a fresh start on this plan, if it is admitted; else one in form.
+    pub fn state_reached(&mut self, plan: &Plan) -> State {
+        let (answer, state) = fresh(plan);
+        if !answer.is_good() {
+            return self.state_in_form(plan);
+        }
+        let count = self.below(60);
+        self.run(state, count).1
+    }
+
+    /// One step out of form: the clock, a kind never released, a release clock, what is left, or a place beyond n.
+    fn spoil_state(&mut self, state: &mut State) {
+        let used = u64::from(state.plan.n).clamp(1, MOST_KINDS);
+        let i = self.below(used) as usize;
+        let c = u64::from(state.plan.kinds[i].length);
+        match self.below(6) {
+            0 => {
+                state.clock = self.one_of(&[u64::from(LAST_CLOCK) + 1, u64::from(u32::MAX)]) as u32
+            }
+            1 => {
+                state.kinds[i] = KindState {
+                    released: false,
+                    at: self.below(3) as u32,
+                    left: self.below(3) as u16,
+                }
+            }
+            2 => {
+                let late = u64::from(state.clock) + self.between(1, 2);
+                state.kinds[i].released = true;
+                state.kinds[i].at = late.min(u64::from(u32::MAX)) as u32;
+            }
+            3 => {
+                state.kinds[i].released = true;
+                state.kinds[i].left = self.one_of(&[c + 1, 65535]).min(65535) as u16;
+            }
+            4 => state.kinds[i].released = !state.kinds[i].released,
+            _ => {
+                let beyond = &mut state.kinds[self.between(used, MOST_KINDS).min(15) as usize];
+                match self.below(3) {
+                    0 => beyond.released = !beyond.released,
+                    1 => beyond.at = self.between(0, 2) as u32,
+                    _ => beyond.left = self.between(0, 2) as u16,
+                }
+            }
+        }
+    }
+
+    /// A state record: fresh, reached, in form, just out of form, or of any fields; on any plan record.
+    pub fn state_record(&mut self) -> State {
+        let plan = match self.below(4) {
+            0 => self.plan_record(),
+            1 => self.good_plan(),
+            _ => self.admitted_plan(),
+        };
+        match self.below(8) {
+            0 => State {
+                plan,
+                ..State::default()
+            },
+            1 | 2 => self.state_reached(&plan),
+            3 | 4 => self.state_in_form(&plan),
+            5 | 6 => {
+                let mut state = if self.one_in(2) {
+                    self.state_reached(&plan)
+                } else {
+                    self.state_in_form(&plan)
+                };
+                for _ in 0..self.between(1, 2) {
+                    self.spoil_state(&mut state);
+                }
+                state
+            }
+            _ => {
+                let mut state = State {
+                    plan,
+                    clock: self.number() as u32,
+                    ..State::default()
+                };
+                for place in &mut state.kinds {
+                    *place = KindState {
+                        released: self.one_in(2),
+                        at: self.number() as u32,
+                        left: self.number() as u16,
+                    };
+                }
+                state
+            }
+        }
+    }
+
+    /// A kind and a length e for a release of this state: due, at each edge, or far beyond any byte.
+    pub fn release_numbers(&mut self, state: &State) -> (u64, u64) {
+        let n = u64::from(state.plan.n);
+        let kind = match self.below(12) {
+            0 => n,
+            1 => self.below(16),
+            2 => self.one_of(&[16, 17, 255, 256, 1 << 16, 1 << 32, u64::MAX, self.seed]),
+            // Would be a kind below n if only its low bits were looked at.
+            3 => self.below(n) + self.one_of(&[1 << 4, 1 << 8, 1 << 16, 1 << 32]),
+            _ => self.below(n),
+        };
+        let c = match state.plan.kinds.get(kind as usize) {
+            Some(kind) if kind.length > 0 => u64::from(kind.length),
+            _ => 1,
+        };
+        let e = match self.below(12) {
+            0 => 0,
+            1 => c + 1,
+            2 => self.one_of(&[4095, 4096, 65535, 65536, 1 << 32, u64::MAX, self.seed]),
+            // Would be in 1..C if only its low bits were looked at.
+            3 => self.between(1, c) + self.one_of(&[1 << 12, 1 << 16, 1 << 32]),
+            4 | 5 => c,
+            _ => self.between(1, c),
+        };
+        (kind, e)
+    }
+
+    /// A lent buffer of arbitrary bytes, from none to a few more than needed.
+    pub fn buffer(&mut self, needed: usize) -> Vec<u8> {
+        let needed = needed as u64;
+        let count = match self.below(8) {
+            0 => 0,
+            1 => needed.saturating_sub(1),
+            2 | 3 => needed,
+            4 => self.between(needed, needed + 4),
+            _ => self.between(0, needed + 4),
+        };
+        self.arbitrary_bytes(count)
+    }
+
+    /// A buffer for the writer of plan bytes: "A plan takes 3 + 2p + 5n bytes".
+    pub fn write_buffer(&mut self, plan: &Plan) -> Vec<u8> {
+        self.buffer(plan_bytes(plan.p, plan.n))
+    }
+
+    /// A buffer for the slot table: "card by card, F bytes each".
+    pub fn table_buffer(&mut self, plan: &Plan) -> Vec<u8> {
+        self.buffer(usize::from(plan.m) * usize::from(plan.frame))
+    }
+
+    /// A buffer for a slice: "The row written has m bytes".
+    pub fn row_buffer(&mut self, state: &State) -> Vec<u8> {
+        self.buffer(usize::from(state.plan.m))
+    }
+}

@@ -1,0 +1,44 @@
+/* A card host: makes a plan, starts on it, releases two units, and runs slices until none is left of them. */
+#include <stdio.h>
+
+#include "parchbeetle.h"
+
+static int good(const char *what, uint64_t answer) {
+    unsigned number = PARCHBEETLE_NUMBER(answer);
+    printf("%s: %s", what, parchbeetle_words(number));
+    if (number == 8) {
+        printf(" (kind %u, by %u)", PARCHBEETLE_PLACE(answer), PARCHBEETLE_EXCESS(answer));
+    }
+    printf("\n");
+    return number == 0;
+}
+
+int main(void) {
+    uint8_t plan[PARCHBEETLE_PLAN_IMAGE] = {0}, state[PARCHBEETLE_STATE_IMAGE], row[2];
+    parchbeetle_set_plan_cards(plan, sizeof row);
+    parchbeetle_set_plan_frame(plan, 4);
+    parchbeetle_set_plan_projects(plan, 1);
+    parchbeetle_set_project_ceiling(plan, 0, 2);
+    parchbeetle_set_project_budget(plan, 0, 7);
+    parchbeetle_set_plan_kinds(plan, 2);
+    for (size_t kind = 0; kind < 2; kind++) {
+        parchbeetle_set_kind_separation(plan, kind, 8);
+        parchbeetle_set_kind_deadline(plan, kind, 8);
+        parchbeetle_set_kind_length(plan, kind, 5);
+    }
+    while (!good("start", parchbeetle_fresh(plan, sizeof plan, state, sizeof state))) {
+        parchbeetle_set_kind_length(plan, 0, parchbeetle_kind_length(plan, 0) - 1);
+    }
+    good("release of kind 0", parchbeetle_release(state, sizeof state, 0, 4));
+    good("release of kind 1", parchbeetle_release(state, sizeof state, 1, 2));
+    good("again", parchbeetle_release(state, sizeof state, 1, 2));
+    while (parchbeetle_unit_left(state, 0) + parchbeetle_unit_left(state, 1) > 0) {
+        printf("slice %u:", parchbeetle_state_clock(state));
+        parchbeetle_slice(state, sizeof state, row, sizeof row);
+        for (unsigned card = 0; card < sizeof row; card++) {
+            row[card] == 0 ? printf(" idle") : printf(" kind %u", row[card] - 1u);
+        }
+        printf("\n");
+    }
+    return 0;
+}

@@ -191,7 +191,8 @@ def other_name(function, words, source):
             return f"has a one-outcome theorem over a `{name}` that is not the one beside the answers"
     for kind in [kind for _, kind in function.parameters] + [function.result]:
         name = type_of(kind, function.own_type)
-        if re.fullmatch(r"[A-Z]\w*", name) and name != "Bool" and name in specs and not re.search(rf"\.declared\.(?:\w+\.)*{name}$", specs[name]):
+        named = re.fullmatch(r"[A-Z]\w*", name) and name != "Bool" and name in specs
+        if named and not re.search(rf"\.declared\.(?:\w+\.)*{name}$", specs[name]):
             return f"has a one-outcome theorem over a `{name}` that is not the code's"
     return None
 

@@ -14,7 +14,7 @@ use std::process::ExitCode;
 use std::time::Instant;
 
 const USAGE: &str = "\
-usage: compare --play PLAYER [--seed N] [--count N] [--streams N] [--numbers]
+usage: compare --play PLAYER [--seed N] [--count N] [--streams N] [--one-in N] [--numbers]
        compare --self-test [--seed N]
        compare --again 'CALL' | --again 'stream HEX' --play PLAYER
 
@@ -22,6 +22,7 @@ usage: compare --play PLAYER [--seed N] [--count N] [--streams N] [--numbers]
   --seed N      the seed of the generated cases (1)
   --count N     about so many generated records, beside the fixed ones (1000000)
   --streams N   generated streams, beside the fixed ones (20000); 0: no streams at all
+  --one-in N    of the fixed streams one in N, beside those that document 01 gives or that fail (1)
   --numbers     also shows how often each number was given back
   --self-test   compares the second program with copies that have a fault; each must be found
   --again       runs a call or a stream of a printed difference once more
@@ -34,6 +35,7 @@ struct Arguments {
     seed: u64,
     count: u64,
     streams: u64,
+    one_in: usize,
     numbers: bool,
     self_test: bool,
     again: Option<String>,
@@ -46,6 +48,7 @@ fn arguments() -> Result<Arguments, String> {
         seed: 1,
         count: 1_000_000,
         streams: 20_000,
+        one_in: 1,
         numbers: false,
         self_test: false,
         again: None,
@@ -64,6 +67,7 @@ fn arguments() -> Result<Arguments, String> {
             "--seed" => found.seed = number(value()?)?,
             "--count" => found.count = number(value()?)?,
             "--streams" => found.streams = number(value()?)?,
+            "--one-in" => found.one_in = number(value()?)?.max(1) as usize,
             "--numbers" => found.numbers = true,
             "--self-test" => found.self_test = true,
             "--again" => found.again = Some(value()?),
@@ -113,6 +117,7 @@ fn run(arguments: &Arguments) -> io::Result<Result<u8, String>> {
     let part = |generated| Part {
         fixed: true,
         generated,
+        one_in: arguments.one_in,
         seed: arguments.seed,
     };
     let found = records(&Proved, part(arguments.count), &mut tally);
@@ -195,6 +200,7 @@ fn self_test(seed: u64) -> io::Result<bool> {
         let part = |fixed, generated| Part {
             fixed,
             generated,
+            one_in: 1,
             seed,
         };
         [part(true, 0), part(false, generated)]
@@ -237,6 +243,7 @@ fn self_test(seed: u64) -> io::Result<bool> {
     let part = |generated| Part {
         fixed: true,
         generated,
+        one_in: 1,
         seed,
     };
     let mut tally = Tally::default();

@@ -70,6 +70,7 @@ fn a_difference_is_found_made_small_and_printed_as_bytes() {
     let part = Part {
         fixed: false,
         generated: 20_000,
+        one_in: 1,
         seed: 7,
     };
     let side = Faulty(Fault::Ties);

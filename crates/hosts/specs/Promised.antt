@@ -30,7 +30,6 @@ use Rattle.images.specs.Typed.{StateTyped}
 use Rattle.images.specs.Typed.Properties.{plan-found-typed, start-typed}
 use Rattle.images.specs.RoundTrip.{state-round-trip}
 use Rattle.parchbeetle.specs.Exports.{freshAnswer, Starts, Releases, Slices}
-use Rattle.parchbeetle.specs.Words.{fresh-listed}
 use Rattle.demands.specs.Run.{Call, slice, release, nextAfter, runFrom, after, rowWritten, slicesOf}
 use Rattle.demands.specs.Run.Properties.{run-plan}
 use Rattle.demands.specs.Named.{namesKind, namesProject, bytesIn, bytesNaming, Orderly}
@@ -38,8 +37,9 @@ use Rattle.demands.specs.Since.{never, sinceFrom, fewer}
 use Rattle.demands.specs.Shown.{Event, shown, kindsLeft, upTo}
 use Rattle.demands.specs.Numbers.{verdictOrder, releaseOrder, sliceOrder, release-numbers, slice-numbers}
 use Rattle.demands.specs.Deadlines as rack
+use Rattle.hosts.specs.Words.{fresh-listed, uncounted}
 use Rattle.hosts.specs.Chain.{Seen, Called, Chain, seenOf, allSeen}
-use Rattle.hosts.specs.Chain.Properties.{uncounted, call-is, next-typed, chain-is-run, run-typed}
+use Rattle.hosts.specs.Chain.Properties.{call-is, next-typed, chain-is-run, run-typed}
 use Rattle.hosts.specs.Events.{eventsSeen, rowsIn, bytesOver, sinceSeen}
 use Rattle.hosts.specs.Events.Properties.{number-told, accepted-good, small-slice, small-release, events-shown}
 use Rattle.hosts.specs.Events.Properties.{rowsOf, rows-shown, rows-count, rows-take, rows-drop, rows-at, rows-named, since-shown}
@@ -87,7 +87,8 @@ module _ (plan state first : List ℕ) (word : ℕ) (fresh : Starts plan state w
   fresh-good : freshAnswer plan state ≡ Good
   fresh-good =
       let a = freshAnswer plan state in
-      accepted-good (9 ∷ verdictOrder) a fresh-small (fresh-listed plan state) (ap numberIn (sym (fresh .result ∙ uncounted a)) ∙ accepted)
+      accepted-good (9 ∷ verdictOrder) a fresh-small (fresh-listed plan state)
+      (ap numberIn (sym (fresh .result ∙ ap (told a) (uncounted a))) ∙ accepted)
 
   start-answer-good : startAnswer p ≡ Good
   unfolding freshAnswer

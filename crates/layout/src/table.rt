@@ -48,7 +48,8 @@ fn first_cells(plan: Plan) -> [u16; 9]
 
 // A card's slots. `before` is the slot of the cell before its first.
 fn row(plan: Plan, first: &[u16; 9], card: u8, before: u8) -> [u8; Plan::FRAME]
-    requires { ⌜ (InOrder plan) × (now first ≡ firstCells plan) × (card < plan .cards) × (before ≡ slotOf plan (cellAt (plan .frame) card 0 - 1)) ⌝ }
+    requires { ⌜ (InOrder plan) × (now first ≡ firstCells plan) × (card < plan .cards)
+        × (before ≡ slotOf plan (cellAt (plan .frame) card 0 - 1)) ⌝ }
     ensures { λ r. ⌜ r ≡ rowOf plan card ⌝ }
 {
     let mut slots = [0u8; Plan::FRAME];

@@ -7,7 +7,7 @@ use Rattle.answer.specs.Outcome.{Lent}
 use Rattle.lines.specs.declared.line.Line.{Line}
 use Rattle.lines.specs.Line.{Prints}
 
--- `Line::put`: one at most, for a line has room for the numbers of its types and not for every number; that there is one is the contract's own proof
+-- `Line::put`: one at most, since a line has room for the numbers of its types only; that there is one is the contract's own proof
 pub put-one-outcome : (self : Line) (row out : List ℕ) (at : ℕ) (o p : Lent ℕ)
     → Prints self row out at (o .result) (o .buffer) → Prints self row out at (p .result) (p .buffer) → o ≡ p
 put-one-outcome self row out at o p a b =

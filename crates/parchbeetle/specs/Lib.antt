@@ -3,4 +3,3 @@
 pub mod Outcome
 pub mod Exports
 pub mod OneOutcome
-pub mod Words

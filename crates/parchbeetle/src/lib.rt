@@ -135,14 +135,17 @@ fn limited_kind(kind: u64) -> usize
     Plan::KINDS
 }
 
-// The length, or 65536: no kind's length is so large.
+// No kind's length is so large.
+const TOO_LONG: u32 = 65536;
+
+// The length, or a length that is too large.
 fn limited_length(e: u64) -> u32
     ensures { λ r. ⌜ r ≡ min e 65536 ⌝ }
 {
-    if e < 65536 {
+    if e < TOO_LONG as u64 {
         return e as u32;
     }
-    65536
+    TOO_LONG
 }
 
 // Releases a unit of a kind, in a state's image.

@@ -102,8 +102,10 @@ impl State {
         let mut works = [0u8; 16];
         let mut due = [0u32; 16];
         for i in 0..kinds {
-            works[i] = works_for(self.unit[i], plan.kind[i]);
-            due[i] = due_clock(self.unit[i], plan.kind[i]);
+            let unit = self.unit[i];
+            let kind = plan.kind[i];
+            works[i] = works_for(unit, kind);
+            due[i] = due_clock(unit, kind);
         }
         let cards = project_cards(plan, self.clock);
         let low = cards.low;

@@ -26,17 +26,13 @@ use Rattle.images.specs.Typed.Properties.{release-typed, slice-typed}
 use Rattle.images.specs.RoundTrip.{state-round-trip, state-told}
 use Rattle.parchbeetle.specs.Exports.{stateAnswer, releasesAnswer, slicesAnswer}
 use Rattle.demands.specs.Run.{Call, slice, release, nextAfter, runFrom}
+use Rattle.hosts.specs.Words.{uncounted}
 use Rattle.hosts.specs.Chain.{Seen, Called, Chain, seenOf, allSeen}
 
 -- the record order is asked once
 once : (c x y : Answer) → (c andThen Good) andThen ((c andThen x) andThen y) ≡ (c andThen x) andThen y
 once Good x y = refl
 once (No r) x y = refl
-
--- a call that counts nothing
-pub uncounted : (a : Answer) → told a (ifGood a 0 0) ≡ told a 0
-uncounted Good = refl
-uncounted (No r) = refl
 
 -- ---- one call on the image of a state
 
@@ -87,8 +83,8 @@ module _ (s : State) (typed : StateTyped s) (rest : List ℕ) where
       (λ k. record { word = w k; row = r k }, i ∙ left (sliceAnswer s (length row)) (advanced s))
   call-is (release i e) seen after c =
       let f = release-answer i e in
-      let w : seen .word ≡ told (releaseAnswer s i e) 0 = c .0 .result ∙ uncounted (releasesAnswer image i e)
-      ∙ ap (λ (a : Answer). told a 0) f in
+      let g = releasesAnswer image i e in
+      let w : seen .word ≡ told (releaseAnswer s i e) 0 = c .0 .result ∙ ap (told g) (uncounted g) ∙ ap (λ (a : Answer). told a 0) f in
       let r = c .1 in
       let j = c .0 .buffer
       ∙ ap₂ (λ (a : Answer) (v : State). ifGood a (stateImage (released v i e) ++ drop stateSize image) image) f stands in

@@ -15,11 +15,11 @@ use Rattle.laws.specs.Sum.{sumTo}
 use Rattle.laws.specs.Sum.Properties.{sum-none, sum-suc, sum-cong}
 use Rattle.laws.specs.First.Properties.{first-le, first-holds, first-some}
 use Rattle.laws.specs.Count.{countTo}
-use Rattle.laws.specs.Count.Properties.{count-le, count-cong, count-between, between-yes}
+use Rattle.laws.specs.Count.Properties.{count-cong, count-between, between-yes}
 use Rattle.plan.specs.declared.Plan.{Plan}
 use Rattle.plan.specs.Order.{budgetOf, budgets, projectOf, InOrder}
 use Rattle.layout.specs.Cards.{cardsBelow, heldFrom}
-use Rattle.layout.specs.Cards.Properties.{below-start, below-grows, below-frame, below-cell, past-cell, run-card, run-closed}
+use Rattle.layout.specs.Cards.Properties.{below-grows, below-frame, below-cell, past-cell, run-card, run-closed}
 use Rattle.layout.specs.Cards.Properties.{run-least, run-most, run-ceiling, run-frame}
 use Rattle.layout.specs.Layout.{cellAt, firstCell, owns, slotOf, held}
 
@@ -136,7 +136,7 @@ module _ (p : Plan) (j slice : ℕ) (l : slice < p .frame) where
   unfolding owns
   owns-card card = rw (first-next p j) (run-card (p .frame) slice l (firstCell p j) (budgetOf p j) card)
 
-  pub card-owned : (card : ℕ) → cardsBelow (p .frame) (firstCell p j) slice ≤ card →
+  card-owned : (card : ℕ) → cardsBelow (p .frame) (firstCell p j) slice ≤ card →
       card < cardsBelow (p .frame) (firstCell p (j + 1)) slice → owns p j (cellAt (p .frame) card slice) ≡ true
   card-owned card a b =
       owns-card card
@@ -239,25 +239,6 @@ module _ (p : Plan) (o : InOrder p) (j : ℕ) (l : j < p .projects) where
       (λ s q. held-from (a + s))
       ∙ run-frame (firstCell p j) (budgetOf p j) (p .frame) a (o .counts .some-slice)
 
--- the projects together hold no more cards than there are
-pub held-together : (p : Plan) → InOrder p → (s : ℕ) → sumTo (p .projects) (λ j. held p j s) ≤ p .cards
-held-together p o s = omega (arith, upTo (p .projects) (omega arith), below-cards p o s (p .projects) (omega arith))
-  where
-    slice-in' : s % p .frame < p .frame
-    slice-in' = mod-lt s (o .counts .some-slice)
-
-    upTo : (n : ℕ) → n ≤ p .projects → sumTo n (λ j. held p j s) ≡ cardsBelow (p .frame) (firstCell p n) (s % p .frame)
-    upTo zero h = sym (sum-none (λ j. held p j s)) ∙ sym (rw (first-start p) (below-start (p .frame) (s % p .frame) slice-in'))
-    upTo (suc n) h =
-        omega (
-          arith,
-          sum-suc n (λ j. held p j s),
-          upTo n (omega arith),
-          held-closed p o n (omega arith) s,
-          ap (λ (i : ℕ). cardsBelow (p .frame) (firstCell p i) (s % p .frame)) (add-one n),
-          below-grows (p .frame) (s % p .frame) slice-in' (firstCell p n) (firstCell p (suc n)) (first-grows p n (suc n) (omega arith)),
-        )
-
 -- ---- h(s) of any plan
 
 -- "taken modulo F"
@@ -268,7 +249,3 @@ held-period p j s = rw (add-mod-right s (p .frame))
 pub held-mod : (p : Plan) (j s : ℕ) → held p j (s % p .frame) ≡ held p j s
 unfolding held
 held-mod p j s = rw (mod-mod s (p .frame))
-
-pub held-cards : (p : Plan) (j s : ℕ) → held p j s ≤ p .cards
-unfolding held
-held-cards p j s = count-le (p .cards) (λ card. owns p j (cellAt (p .frame) card (s % p .frame)))

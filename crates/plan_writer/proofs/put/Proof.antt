@@ -18,7 +18,11 @@ put-projects-requires c κs = omega (arith, c .before .before .before .put-heade
 put-kinds-requires : tie.Need-put-kinds-requires
 unfolding size
 put-kinds-requires c κs =
-    omega (arith, c .before .before .before .before .before .before .before .put-header .kept .1 .0, c .before .before .before .put-projects .kept .1 .0)
+    omega (
+      arith,
+      c .before .before .before .before .before .before .before .put-header .kept .1 .0,
+      c .before .before .before .put-projects .kept .1 .0,
+    )
 
 same-length : tie.Need-same-length
 same-length c = search needs

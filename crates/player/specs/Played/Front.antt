@@ -181,7 +181,10 @@ answer-is s w e = e
 -- an answer that is not 1 stays the same, whatever follows
 pub read-more : (s t : List ℕ) → (number (readOf s .answer) ≡ 1 → ⊥) → readOf (s ++ t) ≡ readOf s
 read-more s t ne =
-    elim (decLt (length s) 3) [ yes l ↦ absurd (ne (ap number (answer-is s _ (sym (read-short s (bare 1) refl l))))) | no l ↦ long (omega arith) ]
+    elim (decLt (length s) 3) [
+      | yes l ↦ absurd (ne (ap number (answer-is s _ (sym (read-short s (bare 1) refl l)))))
+      | no l ↦ long (omega arith)
+    ]
   where
     long : 3 ≤ length s → readOf (s ++ t) ≡ readOf s
     long three = by-counts (sizes (headed s)) refl

@@ -27,35 +27,23 @@ places-requires c κs = search needs
 loop-holds : tie.Need-loop-holds Inv-loop μ-loop
 loop-holds c = (omega arith, search places-most, written-none _ _, written-none _ _)
 
-mul-works-for : tie.Need-mul-works-for Inv-loop μ-loop
-mul-works-for c = search needs
+mul-unit : tie.Need-mul-unit Inv-loop μ-loop
+mul-unit c = search needs
 
-element-copy-out-works-for : tie.Need-element-copy-out-works-for Inv-loop μ-loop
-element-copy-out-works-for c = search needs
+element-copy-out-unit : tie.Need-element-copy-out-unit Inv-loop μ-loop
+element-copy-out-unit c = search needs
 
-mul-works-for-2 : tie.Need-mul-works-for-2 Inv-loop μ-loop
-mul-works-for-2 c = search needs
+mul-kind : tie.Need-mul-kind Inv-loop μ-loop
+mul-kind c = search needs
 
-element-copy-out-works-for-2 : tie.Need-element-copy-out-works-for-2 Inv-loop μ-loop
-element-copy-out-works-for-2 c = search needs
+element-copy-out-kind : tie.Need-element-copy-out-kind Inv-loop μ-loop
+element-copy-out-kind c = search needs
 
 works-for-requires : tie.Need-works-for-requires Inv-loop μ-loop
 works-for-requires c κs = search project-small
 
 array-write-works : tie.Need-array-write-works Inv-loop μ-loop
 array-write-works c = search needs
-
-mul-due-clock : tie.Need-mul-due-clock Inv-loop μ-loop
-mul-due-clock c = search needs
-
-element-copy-out-due-clock : tie.Need-element-copy-out-due-clock Inv-loop μ-loop
-element-copy-out-due-clock c = search needs
-
-mul-due-clock-2 : tie.Need-mul-due-clock-2 Inv-loop μ-loop
-mul-due-clock-2 c = search needs
-
-element-copy-out-due-clock-2 : tie.Need-element-copy-out-due-clock-2 Inv-loop μ-loop
-element-copy-out-due-clock-2 c = search needs
 
 due-clock-requires : tie.Need-due-clock-requires Inv-loop μ-loop
 due-clock-requires c κs = search clock-small
@@ -93,16 +81,12 @@ seats-spec =
     μ-loop
     places-requires
     loop-holds
-    mul-works-for
-    element-copy-out-works-for
-    mul-works-for-2
-    element-copy-out-works-for-2
+    mul-unit
+    element-copy-out-unit
+    mul-kind
+    element-copy-out-kind
     works-for-requires
     array-write-works
-    mul-due-clock
-    element-copy-out-due-clock
-    mul-due-clock-2
-    element-copy-out-due-clock-2
     due-clock-requires
     mul-due
     array-write-due

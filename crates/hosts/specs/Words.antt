@@ -98,7 +98,8 @@ counted : (a : Answer) (n : ℕ) → (a ≡ Good → n < 65536) → ifGood a n 0
 counted Good n h = h refl
 counted (No w) n h = omega arith
 
-uncounted : (a : Answer) → ifGood {A = ℕ} a 0 0 ≡ 0
+-- a call that counts nothing
+pub uncounted : (a : Answer) → ifGood {A = ℕ} a 0 0 ≡ 0
 uncounted Good = refl
 uncounted (No w) = refl
 

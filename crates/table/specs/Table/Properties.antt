@@ -22,7 +22,7 @@ use Rattle.plan_bytes.specs.Parts.{size, headerBytes, projectBytes, kindBytes, 
 use Rattle.plan_bytes.specs.Parts.{projectFrom, kindFrom, projectsFrom, kindsFrom, headed, decoded}
 use Rattle.plan_bytes.specs.Reading.{headerSpare, projectSpare, kindSpare, projectsSpare, kindsSpare, placesSpare, spareZero}
 use Rattle.plan_bytes.specs.Reading.{bodyAnswer, readAnswer, readOf}
-use Rattle.verdict.specs.Workload.{besides, partOf, workload}
+use Rattle.workload.specs.Workload.{besides, partOf, workload}
 use Rattle.verdict.specs.Verdict.{widthOf, excessOf, fitted, admitted, judged}
 use Rattle.table.specs.Table.{Table}
 

@@ -20,7 +20,7 @@ use Rattle.answer.specs.Answer.Properties.{each-opened}
 use Rattle.plan.specs.Order.{kindOf, checked, InOrder}
 use Rattle.plan.specs.Order.Properties.{in-order, in-order-good}
 use Rattle.supply.specs.Fit.Properties.{width-most, width-fits, width-least, width-some, width-none, excess-most, excess-attained}
-use Rattle.verdict.specs.Workload.{workload}
+use Rattle.workload.specs.Workload.{workload}
 use Rattle.verdict.specs.Verdict.{projectOn, ceilingOn, heldOn, widthOf, excessOf, fitted, admitted, verdictOf, judged}
 use Rattle.verdict.specs.Admission.{Fits, Excess, NotAdmitted}
 

@@ -24,8 +24,8 @@ use Rattle.supply.specs.declared.Fit.{Fit}
 use Rattle.supply.specs.Fit.{heldAt, fitOf}
 use Rattle.supply.specs.Fit.Properties.{fit-framed, excess-most}
 use Rattle.verdict.specs.declared.Verdict.{Verdict}
-use Rattle.verdict.specs.Workload.{workload}
-use Rattle.verdict.specs.Workload.Properties.{workload-most}
+use Rattle.workload.specs.Workload.{workload}
+use Rattle.workload.specs.Workload.Properties.{workload-most}
 use Rattle.verdict.specs.Verdict.{projectOn, ceilingOn, heldOn, widthOf, excessOf, fitted, admitted, verdictOf, judged}
 use Rattle.verdict.specs.Steps.{runCards, projectCards, allCards, fitOn}
 

@@ -1,4 +1,4 @@
--- `verdict::workload` meets its contract.
+-- `workload::workload` meets its contract.
 -- Assumes nothing.
 use mathlib.Core.Path.{_≡_, refl}
 use Prim.Native.Nat.{_≤_, _-_, _*_}
@@ -7,10 +7,10 @@ use borrow.Author.Needs.{needs}
 use Rattle.laws.specs.Sum.{sumTo}
 use Rattle.laws.specs.Sum.Properties.{sum-none, sum-stop}
 use Rattle.plan.specs.Order.{kindOf}
-use Rattle.verdict.specs.Workload.{partOf, workload}
-use Rattle.verdict.specs.Workload.Properties.{own-again, foreign-again, other-again, part-room}
-use Rattle.verdict.proofs.workload.Statement.{statement}
-use Rattle.verdict.proofs.workload.Tie as tie
+use Rattle.workload.specs.Workload.{partOf, workload}
+use Rattle.workload.specs.Workload.Properties.{own-again, foreign-again, other-again, part-room}
+use Rattle.workload.proofs.workload.Statement.{statement}
+use Rattle.workload.proofs.workload.Tie as tie
 
 abbrev Inv-loop : tie.InvT-loop
 Inv-loop i plan kind sum₀ j₀ j-end sum j =

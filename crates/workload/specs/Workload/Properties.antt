@@ -11,7 +11,7 @@ use Rattle.plan.specs.declared.Plan.{Plan}
 use Rattle.plan.specs.Order.{kindOf, InOrder}
 use Rattle.supply.specs.Workload.{workloadPart}
 use Rattle.supply.specs.Workload.Properties.{part-most}
-use Rattle.verdict.specs.Workload.{besides, partOf, workload}
+use Rattle.workload.specs.Workload.{besides, partOf, workload}
 
 -- ---- who has a part
 

@@ -1,0 +1,2 @@
+-- Laws of the record order with one budget open: what a good answer says, and that nothing less is asked.
+-- Assumes nothing.

@@ -1,0 +1,2 @@
+-- Laws of the least budget.
+-- Assumes nothing.

@@ -22,5 +22,5 @@ pub check-one-outcome : (self : Plan) → One (λ r. r ≡ checked self)
 check-one-outcome self = is-one _
 
 -- `Plan::check_open`
-pub check-open-one-outcome : (self : Plan) (open : ℕ) → One (λ r. r ≡ checkedOpen self open)
-check-open-one-outcome self open = is-one _
+pub check-open-one-outcome : (self : Plan) (project : ℕ) → One (λ r. r ≡ checkedOpen self project)
+check-open-one-outcome self project = is-one _

@@ -14,7 +14,7 @@ use Rattle.plan.specs.Order.{Sized, ProjectInRange, KindInRange}
 pub mod Properties
 
 -- "Leave one project's budget open": the plan with b written in as project j's budget, and all else kept
-unfoldable pub withBudget : Plan → ℕ → ℕ → Plan
+abbrev pub withBudget : Plan → ℕ → ℕ → Plan
 withBudget p j b =
     record {
       cards = p .cards;

@@ -11,13 +11,13 @@ use crate::check::within;
 use answer::Answer;
 
 impl Project {
-    fn in_range_open(self, cards: u8, frame: u8, open: bool) -> bool
-        ensures { λ r. ⌜ r ≡ (within cards (self .ceiling) && (open || within (self .ceiling * frame) (self .budget))) ⌝ }
+    fn in_range_open(self, cards: u8, frame: u8, skipped: bool) -> bool
+        ensures { λ r. ⌜ r ≡ (within cards (self .ceiling) && (skipped || within (self .ceiling * frame) (self .budget))) ⌝ }
     {
         if !within(self.ceiling as u16, cards as u16) {
             return false;
         }
-        if open {
+        if skipped {
             return true;
         }
         within(self.budget, self.ceiling as u16 * frame as u16)
@@ -25,22 +25,22 @@ impl Project {
 }
 
 impl Plan {
-    fn project_there(self, open: usize) -> Answer
-        ensures { λ r. ⌜ r ≡ projectThere self open ⌝ }
+    fn project_there(self, project: usize) -> Answer
+        ensures { λ r. ⌜ r ≡ projectThere self project ⌝ }
     {
-        if self.projects as usize <= open {
+        if self.projects as usize <= project {
             return Answer::bare(27);
         }
         Answer::Good
     }
 
-    fn projects_in_range_open(self, open: usize) -> Answer
+    fn projects_in_range_open(self, project: usize) -> Answer
         requires { ⌜ self .projects ≤ 8 ⌝ }
-        ensures { λ r. ⌜ r ≡ projectsInRangeOpen self open ⌝ }
+        ensures { λ r. ⌜ r ≡ projectsInRangeOpen self project ⌝ }
     {
         for j in 0..self.projects {
-            let is_open = j as usize == open;
-            if !self.project[j as usize].in_range_open(self.cards, self.frame, is_open) {
+            let skipped = j as usize == project;
+            if !self.project[j as usize].in_range_open(self.cards, self.frame, skipped) {
                 return Answer::at_project(4, j);
             }
         }
@@ -48,15 +48,15 @@ impl Plan {
     }
 
     // 27, 4, 5/6.
-    fn ranges_open(self, open: usize) -> Answer
+    fn ranges_open(self, project: usize) -> Answer
         requires { ⌜ (self .projects ≤ 8) × (self .kinds ≤ 16) ⌝ }
-        ensures { λ r. ⌜ r ≡ rangesOpen self open ⌝ }
+        ensures { λ r. ⌜ r ≡ rangesOpen self project ⌝ }
     {
-        let there = self.project_there(open);
+        let there = self.project_there(project);
         let Answer::Good = there else {
             return there;
         };
-        let projects = self.projects_in_range_open(open);
+        let projects = self.projects_in_range_open(project);
         let Answer::Good = projects else {
             return projects;
         };
@@ -65,8 +65,8 @@ impl Plan {
 
     // Whether the record is in order but for the budget of one project, which is left open, and for
     // the sum of the budgets.
-    pub fn check_open(self, open: usize) -> Answer
-        ensures { λ r. ⌜ r ≡ checkedOpen self open ⌝ }
+    pub fn check_open(self, project: usize) -> Answer
+        ensures { λ r. ⌜ r ≡ checkedOpen self project ⌝ }
     {
         let sizes = self.sizes();
         let Answer::Good = sizes else {
@@ -76,6 +76,6 @@ impl Plan {
         let Answer::Good = unused else {
             return unused;
         };
-        self.ranges_open(open)
+        self.ranges_open(project)
     }
 }

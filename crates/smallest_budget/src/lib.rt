@@ -5,10 +5,13 @@
 // greater budget never takes a fit away, so the least one is found by halving: at most ten
 // judgements of the project's kinds, the one at qF among them.
 ghost use mathlib.Core.Path.{_≡_};
-ghost use Prim.Native.Nat.{_*_, _≤_, _<_};
+ghost use mathlib.Core.Bool.{cond};
+ghost use Prim.Native.Nat.{_+_, _*_, _≤_, _<_};
 ghost use Rattle.answer.specs.declared.Answer.the-variants.{Good};
+ghost use Rattle.answer.specs.Answer.{_andThen_};
+ghost use Rattle.plan.specs.Order.{budgetsFit};
 ghost use Rattle.plan.specs.Open.{withBudget, InOrderOpen};
-ghost use Rattle.smallest_budget.specs.Smallest.{mostBudget, servedWith, leastBudget, sumFits, smallestWith, smallestOf};
+ghost use Rattle.smallest_budget.specs.Smallest.{mostBudget, servedWith, leastBudget, servedAtMost, sumFits, smallestWith, smallestOf};
 ghost use Rattle.smallest_budget.specs.Steps.{cardsWith, workloadsOf};
 use answer::Answer;
 use plan::Plan;
@@ -90,17 +93,17 @@ fn least_budget(plan: Plan, project: u8, workloads: &[u32; Plan::KINDS], most: u
     ensures { λ r. ⌜ r ≡ leastBudget plan project ⌝ }
 {
     let mut below: u16 = 0;
-    let mut serves = most;
-    while below + 1 < serves {
-        let middle = (below + serves) / 2;
+    let mut enough = most;
+    while below + 1 < enough {
+        let middle = (below + enough) / 2;
         let served = served_with(plan, project, workloads, middle);
-        if served.number() == 0 {
-            serves = middle;
-        } else {
+        let Answer::Good = served else {
             below = middle;
-        }
+            continue;
+        };
+        enough = middle;
     }
-    serves
+    enough
 }
 
 // 7 with this budget written in. Nothing before it is refused then.

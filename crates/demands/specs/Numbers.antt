@@ -1,4 +1,4 @@
--- Document 01, "Numbers given back when we say no": the numbers that each call lists, and what each number comes with.
+-- Documents 01, "Numbers given back when we say no", and 02: the numbers that each call lists, and what each number comes with.
 -- Assumes nothing.
 use mathlib.Core.Path.{refl}
 use mathlib.Core.Bool.{not, _&&_}
@@ -15,6 +15,9 @@ use Rattle.plan.specs.Order.{within, sized, tidyProjects, tidyKinds, inRange, t
 use Rattle.plan.specs.Order.{sizes, unused, projectInRange, projectsInRange, kindInRange, kindInRangeAt, kindsInRange}
 use Rattle.plan.specs.Order.{budgetsFit, ranges, checked}
 use Rattle.plan.specs.Order.Properties.{sizes-says, in-order}
+use Rattle.plan.specs.Open.{withBudget, projectThere, inRangeOpen, projectInRangeOpen, projectsInRangeOpen, rangesOpen, checkedOpen}
+use Rattle.plan.specs.Open.{InOrderOpen}
+use Rattle.plan.specs.Open.Properties.{open-order}
 use Rattle.plan_bytes.specs.Parts.{headed, decoded, size}
 use Rattle.plan_bytes.specs.Reading.{spareZero, bodyAnswer, readAnswer, readOf}
 use Rattle.plan_bytes.specs.Writing.{writeAnswer}
@@ -22,6 +25,9 @@ use Rattle.layout.specs.Table.{tableAnswer, tableLength}
 use Rattle.verdict.specs.Verdict.{widthOf, excessOf, fitted, admitted, judged}
 use Rattle.verdict.specs.Steps.{fitOn}
 use Rattle.verdict.specs.Steps.Properties.{excess-room}
+use Rattle.smallest_budget.specs.Smallest.{excessWith, lacks, mostBudget, leastBudget, fittedWith, servedWith, smallestAnswer, smallestOf}
+use Rattle.smallest_budget.specs.Steps.{fitWith}
+use Rattle.smallest_budget.specs.Steps.Properties.{with-room}
 use Rattle.unit.specs.Start.{early, startable}
 use Rattle.rack.specs.declared.State.{State}
 use Rattle.rack.specs.State.{lastClock, unitOf, kindAt, used}
@@ -49,6 +55,10 @@ writeOrder = 9 ∷ recordOrder
 -- "Starting fresh and the verdict add 8"
 abbrev pub verdictOrder : List ℕ
 verdictOrder = 8 ∷ recordOrder
+
+-- "2, 3, then 27 ..; the rest of the record order, ..; then 8 ..; then 7"
+abbrev pub smallestOrder : List ℕ
+smallestOrder = 27 ∷ verdictOrder
 
 -- "the record order, 10": what a slice and a release begin with
 abbrev pub stateOrder : List ℕ
@@ -138,6 +148,43 @@ pub judge-numbers : (p : Plan) → Numbered verdictOrder (judged p .answer)
 unfolding judged covers among
 judge-numbers p =
     andThen-numbered _ _ _ (wider _ recordOrder _ refl (check-numbers p)) (λ e. admitted-numbers p (in-order p e))
+
+-- ---- the smallest budget
+
+ranges-open-numbers : (p : Plan) (j : ℕ) → p .projects ≤ 8 → p .kinds ≤ 16 → Numbered smallestOrder (rangesOpen p j)
+unfolding rangesOpen projectThere projectsInRangeOpen kindsInRange among covers
+ranges-open-numbers p j a b =
+    andThen-numbered _ _ _ (refuse-numbered _ (not (ltb j (p .projects))) _ (bare-numbered _ 27 (λ z. omega arith) refl))
+    (λ c. andThen-numbered _ _ _ (each-numbered _ (p .projects) (projectInRangeOpen p j) projects)
+    (λ e. each-numbered _ (p .kinds) (kindInRangeAt p) (λ i l. wider _ recordOrder _ refl (kind-numbers p i (omega arith)))))
+  where
+    projects : (i : ℕ) → i < p .projects → Numbered smallestOrder (projectInRangeOpen p j i)
+    projects i l = refuse-numbered _ (not (inRangeOpen p j i)) _ (project-numbered _ 4 i refl refl (omega arith))
+
+-- `Plan::check_open`
+pub check-open-numbers : (p : Plan) (j : ℕ) → Numbered smallestOrder (checkedOpen p j)
+unfolding checkedOpen among covers
+check-open-numbers p j =
+    andThen-numbered _ _ _ (wider _ recordOrder _ refl (sizes-numbers p))
+    (λ e. andThen-numbered _ _ _ (wider _ recordOrder _ refl (unused-numbers p))
+    (λ f. ranges-open-numbers p j (sizes-says p e .projects-most) (sizes-says p e .kinds-most)))
+
+served-numbers : (p : Plan) (j : ℕ) → InOrderOpen p j → (b : ℕ) → Numbered smallestOrder (servedWith p j b)
+unfolding servedWith among
+served-numbers p j o b =
+    each-numbered _ (p .kinds) (fittedWith p j b)
+    (λ i l. refuse-numbered _ (lacks p j b i) _
+    (eight-numbered _ i (excessWith p j b i) refl (omega (arith, o .counts .kinds-most))
+    (omega (arith, with-room p j o i l b (fitWith p j b i) refl))))
+
+-- `smallest_budget`
+pub smallest-numbers : (p : Plan) (j : ℕ) → Numbered smallestOrder (smallestOf p j .answer)
+unfolding smallestOf smallestAnswer budgetsFit among
+smallest-numbers p j =
+    andThen-numbered _ _ _ (check-open-numbers p j)
+    (λ e. andThen-numbered _ _ _ (served-numbers p j (open-order p j e) (mostBudget p j))
+    (λ f. refuse-numbered _ (not (leb (budgets (withBudget p j (leastBudget p j))) (p .cards * p .frame))) _
+    (bare-numbered _ 7 (λ z. omega arith) refl)))
 
 -- `State::start`
 pub start-numbers : (p : Plan) → Numbered verdictOrder (startAnswer p)

@@ -15,9 +15,10 @@ use Rattle.answer.specs.declared.Answer.{Answer}
 use Rattle.answer.specs.declared.Answer.the-variants.{Good, No}
 use Rattle.answer.specs.declared.Refusal.{Refusal}
 use Rattle.answer.specs.Answer.{notAdmitted, _andThen_}
-use Rattle.answer.specs.Answer.Properties.{refuse-good, each-at, each-of, opened-no, opened-on}
+use Rattle.answer.specs.Answer.Properties.{andThen-left, refuse-good, each-at, each-of, opened-no, opened-on}
 use Rattle.plan.specs.Order.{projectOf, kindOf, budgetsFit}
-use Rattle.plan.specs.Open.{withBudget, checkedOpen, InOrderOpen}
+use Rattle.plan.specs.Open.{withBudget, checkedOpen}
+use Rattle.plan.specs.Open.Properties.{open-order}
 use Rattle.layout.specs.Layout.{firstCell}
 use Rattle.workload.specs.Workload.{workload}
 use Rattle.smallest_budget.specs.declared.Smallest.{Smallest}
@@ -108,6 +109,14 @@ module _ (p : Plan) (j : ℕ) where
   least-found below enough most m z t l h n =
       let e : enough ≡ below + 1 = omega arith in
       e ∙ first-here (mostBudget p j) below (serves p j) z (rw e at t) (omega arith)
+
+-- at most the 512 cells that a frame can have
+pub found-most : (p : Plan) (j : ℕ) → smallestOf p j .answer ≡ Good → smallestOf p j .budget ≤ 512
+unfolding smallestOf smallestAnswer
+found-most p j e =
+    let o = open-order p j (andThen-left (checkedOpen p j) (servedAtMost p j andThen sumFits p j) e) in
+    let q : projectOf p j .ceiling ≤ 8 = omega (arith, o .ceiling-most j (o .its-place), o .counts .cards-most) in
+    rw e (omega (arith, least-most p j, mul-le-mul q (o .counts .frame-most)))
 
 -- ---- the stages
 

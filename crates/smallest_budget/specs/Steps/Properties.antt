@@ -114,9 +114,9 @@ module _ (p : Plan) (j : ℕ) (o : InOrderOpen p j) where
               (projectOf p j .ceiling),
         )
 
-    pub excess-room : (b : ℕ) (r : Fit) → r ≡ fitWith p j b i → r .excess ≤ 4294967295
+    pub with-room : (b : ℕ) (r : Fit) → r ≡ fitWith p j b i → r .excess ≤ 4294967295
     unfolding excessWith
-    excess-room b r e =
+    with-room b r e =
         let a = o .kind-at i l in
         rw e (omega (
           arith,

@@ -3,7 +3,6 @@
 // Document 01, "What the base holds" and the refusals 2 to 7 of "Numbers given back when we say
 // no". A plan goes by value. Every record is answered, whatever its fields hold.
 mod check;
-mod open;
 
 ghost use mathlib.Core.Path.{_≡_};
 ghost use Rattle.plan.specs.Record.{noProject, noKind, noPlan};

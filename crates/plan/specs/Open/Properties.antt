@@ -10,7 +10,7 @@ use lib.Dec.{ltb, eqb}
 use lib.ListN.{length, List·getD-eq-default}
 use lib.Seq.{getD-set-same, getD-set-other}
 use borrow.Author.Tests.{lt-ltb, eq-eqb, ne-eqb, ltb-true, not-false}
-use Rattle.laws.specs.Tests.{and-left, and-right}
+use Rattle.laws.specs.Tests.{and-left, and-right, told-yes}
 use Rattle.laws.specs.All.Properties.{all-at, all-of}
 use Rattle.plan.specs.declared.Project.{Project}
 use Rattle.plan.specs.declared.Plan.{Plan}
@@ -25,6 +25,16 @@ use Rattle.plan.specs.Order.{budgetsFit, ranges, checked}
 use Rattle.plan.specs.Order.Properties.{within-low, within-high, within-of, sizes-says, sizes-of, project-of, kind-says, kind-of}
 use Rattle.plan.specs.Open.{withBudget, projectThere, inRangeOpen, projectInRangeOpen, projectsInRangeOpen, rangesOpen, checkedOpen}
 use Rattle.plan.specs.Open.{InOrderOpen}
+
+-- ---- the code's way to 4: r is what the test of the ceiling answered, and a what it should
+
+pub skip-yes : (a b skipped r : Bool) → r ≡ a → not r ≡ false → skipped ≡ true → true ≡ (a && (skipped || b))
+skip-yes a b skipped r e t s = rw (told-yes a r e t, s)
+
+pub skip-no : (a b skipped r x : Bool) → r ≡ a → not r ≡ false → skipped ≡ false → x ≡ b → x ≡ (a && (skipped || b))
+skip-no a b skipped r x e t s q = rw (told-yes a r e t, s) q
+
+-- ---- the plan with a budget written in
 
 -- every other project is as it was
 pub with-other : (p : Plan) (j b i : ℕ) → i ≢ j → projectOf (withBudget p j b) i ≡ projectOf p i

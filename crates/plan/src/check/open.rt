@@ -40,7 +40,8 @@ impl Plan {
     {
         for j in 0..self.projects {
             let skipped = j as usize == project;
-            if !self.project[j as usize].in_range_open(self.cards, self.frame, skipped) {
+            if !self.project[j as usize]
+                .in_range_open(self.cards, self.frame, skipped) {
                 return Answer::at_project(4, j);
             }
         }

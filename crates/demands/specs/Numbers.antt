@@ -1,22 +1,19 @@
 -- Documents 01, "Numbers given back when we say no", and 02: the numbers that each call lists, and what each number comes with.
 -- Assumes nothing.
 use mathlib.Core.Path.{refl}
-use mathlib.Core.Bool.{not, _&&_}
+use mathlib.Core.Bool.{not}
 use mathlib.Core.List.{List, [], _∷_}
-use Prim.Native.Nat.{ℕ, _*_, _≤_, _<_}
+use Prim.Native.Nat.{ℕ, _≤_}
 use native.Mathlib.Omega.{arith}
-use lib.Dec.{leb, ltb, eqb}
+use lib.Dec.{ltb, eqb}
 use lib.ListN.{length}
 use Rattle.answer.specs.Numbers.{among, covers, Numbered}
-use Rattle.answer.specs.Numbers.Properties.{bare-numbered, project-numbered, kind-numbered, eight-numbered}
+use Rattle.answer.specs.Numbers.Properties.{bare-numbered, eight-numbered}
 use Rattle.answer.specs.Numbers.Properties.{refuse-numbered, andThen-numbered, each-numbered, wider}
 use Rattle.plan.specs.declared.Plan.{Plan}
-use Rattle.plan.specs.Order.{within, sized, tidyProjects, tidyKinds, inRange, timed, budgets, projectOf, kindOf, InOrder}
-use Rattle.plan.specs.Order.{sizes, unused, projectInRange, projectsInRange, kindInRange, kindInRangeAt, kindsInRange}
-use Rattle.plan.specs.Order.{budgetsFit, ranges, checked}
+use Rattle.plan.specs.Order.{within, InOrder, ranges, checked}
 use Rattle.plan.specs.Order.Properties.{sizes-says, in-order}
-use Rattle.plan.specs.Open.{withBudget, projectThere, inRangeOpen, projectInRangeOpen, projectsInRangeOpen, rangesOpen, checkedOpen}
-use Rattle.plan.specs.Open.{InOrderOpen}
+use Rattle.plan.specs.Open.{withBudget, rangesOpen, checkedOpen, InOrderOpen}
 use Rattle.plan.specs.Open.Properties.{open-order}
 use Rattle.plan_bytes.specs.Parts.{headed, decoded, size}
 use Rattle.plan_bytes.specs.Reading.{spareZero, bodyAnswer, readAnswer, readOf}
@@ -37,6 +34,9 @@ use Rattle.rack.specs.Start.{startAnswer}
 use Rattle.rack.specs.Release.{releaseAnswer}
 use Rattle.rack.specs.Advance.{timeLeft}
 use Rattle.rack.specs.Slice.{roomFor, sliceAnswer}
+use Rattle.demands.specs.Numbers.Stages.{sizes-numbers, unused-numbers, there-numbers, projects-numbers, projects-open-numbers}
+use Rattle.demands.specs.Numbers.Stages.{kinds-numbers, sum-numbers}
+pub mod Stages
 
 -- ---- the numbers that each call lists
 
@@ -56,9 +56,13 @@ writeOrder = 9 ∷ recordOrder
 abbrev pub verdictOrder : List ℕ
 verdictOrder = 8 ∷ recordOrder
 
--- "2, 3, then 27 ..; the rest of the record order, ..; then 8 ..; then 7"
+-- "2, 3, then 27 for a project not below p; the rest of the record order, 4 skipping that one budget, without 7"
+abbrev pub openOrder : List ℕ
+openOrder = 2 ∷ 3 ∷ 27 ∷ 4 ∷ 5 ∷ 6 ∷ []
+
+-- "then 8 exactly when no B up to qF serves ..; then 7"
 abbrev pub smallestOrder : List ℕ
-smallestOrder = 27 ∷ verdictOrder
+smallestOrder = 8 ∷ 7 ∷ openOrder
 
 -- "the record order, 10": what a slice and a release begin with
 abbrev pub stateOrder : List ℕ
@@ -74,37 +78,19 @@ sliceOrder = 9 ∷ 11 ∷ stateOrder
 
 -- ---- the record order
 
-sizes-numbers : (p : Plan) → Numbered recordOrder (sizes p)
-unfolding sizes among
-sizes-numbers p = refuse-numbered _ (not (sized p)) _ (bare-numbered _ 2 (λ z. omega arith) refl)
-
-unused-numbers : (p : Plan) → Numbered recordOrder (unused p)
-unfolding unused among
-unused-numbers p = refuse-numbered _ (not (tidyProjects p && tidyKinds p)) _ (bare-numbered _ 3 (λ z. omega arith) refl)
-
-kind-numbers : (p : Plan) (i : ℕ) → i < 16 → Numbered recordOrder (kindInRangeAt p i)
-unfolding kindInRange among
-kind-numbers p i l =
-    andThen-numbered _ _ _ (refuse-numbered _ (not (ltb (kindOf p i .project) (p .projects))) _ (kind-numbered _ 5 i refl refl l))
-    (λ e. refuse-numbered _ (not (timed (kindOf p i))) _ (kind-numbered _ 6 i refl refl l))
-
 ranges-numbers : (p : Plan) → p .projects ≤ 8 → p .kinds ≤ 16 → Numbered recordOrder (ranges p)
-unfolding ranges projectsInRange kindsInRange budgetsFit among
+unfolding ranges among
 ranges-numbers p a b =
-    andThen-numbered _ _ _ (each-numbered _ (p .projects) (projectInRange p) projects)
-    (λ e. andThen-numbered _ _ _ (each-numbered _ (p .kinds) (kindInRangeAt p) (λ i l. kind-numbers p i (omega arith)))
-    (λ f. refuse-numbered _ (not (leb (budgets p) (p .cards * p .frame))) _ (bare-numbered _ 7 (λ z. omega arith) refl)))
-  where
-    projects : (j : ℕ) → j < p .projects → Numbered recordOrder (projectInRange p j)
-    projects j l =
-        refuse-numbered _ (not (inRange (p .cards) (p .frame) (projectOf p j))) _ (project-numbered _ 4 j refl refl (omega arith))
+    andThen-numbered _ _ _ (projects-numbers _ p a refl)
+    (λ e. andThen-numbered _ _ _ (kinds-numbers _ p b refl refl) (λ f. sum-numbers _ p refl))
 
 -- `Plan::check`
 pub check-numbers : (p : Plan) → Numbered recordOrder (checked p)
-unfolding checked
+unfolding checked among
 check-numbers p =
-    andThen-numbered _ _ _ (sizes-numbers p)
-    (λ e. andThen-numbered _ _ _ (unused-numbers p) (λ f. ranges-numbers p (sizes-says p e .projects-most) (sizes-says p e .kinds-most)))
+    andThen-numbered _ _ _ (sizes-numbers _ p refl)
+    (λ e. andThen-numbered _ _ _ (unused-numbers _ p refl)
+    (λ f. ranges-numbers p (sizes-says p e .projects-most) (sizes-says p e .kinds-most)))
 
 -- ---- plan bytes and the slot table
 
@@ -113,7 +99,7 @@ pub read-numbers : (bytes : List ℕ) → Numbered bytesOrder (readOf bytes .ans
 unfolding readOf readAnswer bodyAnswer decoded among covers
 read-numbers bytes =
     andThen-numbered _ _ _ (refuse-numbered _ (ltb (length bytes) 3) _ (bare-numbered _ 1 (λ z. omega arith) refl))
-    (λ a. andThen-numbered _ _ _ (wider _ recordOrder _ refl (sizes-numbers (headed bytes)))
+    (λ a. andThen-numbered _ _ _ (sizes-numbers _ (headed bytes) refl)
     (λ e. andThen-numbered _ _ _
     (refuse-numbered _ (ltb (length bytes) (size (headed bytes))) _ (bare-numbered _ 1 (λ z. omega arith) refl))
     (λ b. andThen-numbered _ _ _ (refuse-numbered _ (not (spareZero bytes)) _ (bare-numbered _ 3 (λ z. omega arith) refl))
@@ -151,23 +137,15 @@ judge-numbers p =
 
 -- ---- the smallest budget
 
-ranges-open-numbers : (p : Plan) (j : ℕ) → p .projects ≤ 8 → p .kinds ≤ 16 → Numbered smallestOrder (rangesOpen p j)
-unfolding rangesOpen projectThere projectsInRangeOpen kindsInRange among covers
-ranges-open-numbers p j a b =
-    andThen-numbered _ _ _ (refuse-numbered _ (not (ltb j (p .projects))) _ (bare-numbered _ 27 (λ z. omega arith) refl))
-    (λ c. andThen-numbered _ _ _ (each-numbered _ (p .projects) (projectInRangeOpen p j) projects)
-    (λ e. each-numbered _ (p .kinds) (kindInRangeAt p) (λ i l. wider _ recordOrder _ refl (kind-numbers p i (omega arith)))))
-  where
-    projects : (i : ℕ) → i < p .projects → Numbered smallestOrder (projectInRangeOpen p j i)
-    projects i l = refuse-numbered _ (not (inRangeOpen p j i)) _ (project-numbered _ 4 i refl refl (omega arith))
-
 -- `Plan::check_open`
-pub check-open-numbers : (p : Plan) (j : ℕ) → Numbered smallestOrder (checkedOpen p j)
-unfolding checkedOpen among covers
+pub check-open-numbers : (p : Plan) (j : ℕ) → Numbered openOrder (checkedOpen p j)
+unfolding checkedOpen rangesOpen among
 check-open-numbers p j =
-    andThen-numbered _ _ _ (wider _ recordOrder _ refl (sizes-numbers p))
-    (λ e. andThen-numbered _ _ _ (wider _ recordOrder _ refl (unused-numbers p))
-    (λ f. ranges-open-numbers p j (sizes-says p e .projects-most) (sizes-says p e .kinds-most)))
+    andThen-numbered _ _ _ (sizes-numbers _ p refl)
+    (λ e. andThen-numbered _ _ _ (unused-numbers _ p refl)
+    (λ f. andThen-numbered _ _ _ (there-numbers _ p j refl)
+    (λ g. andThen-numbered _ _ _ (projects-open-numbers _ p j (sizes-says p e .projects-most) refl)
+    (λ h. kinds-numbers _ p (sizes-says p e .kinds-most) refl refl))))
 
 served-numbers : (p : Plan) (j : ℕ) → InOrderOpen p j → (b : ℕ) → Numbered smallestOrder (servedWith p j b)
 unfolding servedWith among
@@ -179,12 +157,11 @@ served-numbers p j o b =
 
 -- `smallest_budget`
 pub smallest-numbers : (p : Plan) (j : ℕ) → Numbered smallestOrder (smallestOf p j .answer)
-unfolding smallestOf smallestAnswer budgetsFit among
+unfolding smallestOf smallestAnswer covers among
 smallest-numbers p j =
-    andThen-numbered _ _ _ (check-open-numbers p j)
+    andThen-numbered _ _ _ (wider _ openOrder _ refl (check-open-numbers p j))
     (λ e. andThen-numbered _ _ _ (served-numbers p j (open-order p j e) (mostBudget p j))
-    (λ f. refuse-numbered _ (not (leb (budgets (withBudget p j (leastBudget p j))) (p .cards * p .frame))) _
-    (bare-numbered _ 7 (λ z. omega arith) refl)))
+    (λ f. sum-numbers _ (withBudget p j (leastBudget p j)) refl))
 
 -- `State::start`
 pub start-numbers : (p : Plan) → Numbered verdictOrder (startAnswer p)

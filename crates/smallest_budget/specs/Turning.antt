@@ -1,6 +1,6 @@
 -- A function that turns, with a period: the least over one period is the same wherever it begins.
 -- Assumes nothing.
-use mathlib.Core.Path.{_≡_, refl, sym, ap, _∙_}
+use mathlib.Core.Path.{_≡_, refl, ap, _∙_}
 use Prim.Native.Nat.{ℕ, zero, suc, _+_, _*_, _/_, _%_, _≤_, _<_}
 use native.Mathlib.Nat.{add-assoc, add-zero, suc-mul, zero-mul, div-add-mod', mod-lt}
 use native.Mathlib.Omega.{arith}

@@ -86,11 +86,11 @@ module _ (p : Plan) (n : ℕ) (long : length (p .kind) ≡ n) where
       go j false = refl
 
   -- so that the sum ends with the record's places
-  pub workload-places : (i s e : ℕ) → s ≡ sumTo e (partOf p i) → e ≤ min (p .kinds) n → min (p .kinds) n ≤ e → s ≡ workload p i
+  pub workload-places : (i s e m : ℕ) → s ≡ sumTo e (partOf p i) → m ≡ min (p .kinds) n → e ≤ m → m ≤ e → s ≡ workload p i
   unfolding workload
-  workload-places i s e q l m =
+  workload-places i s e m q h l r =
       let k : p .kinds ≡ e + (p .kinds - e) = omega arith in
-      let z = sum-zero (p .kinds - e) (λ x. partOf p i (e + x)) (λ x h. part-beyond i (e + x) (omega arith)) in
+      let z = sum-zero (p .kinds - e) (λ x. partOf p i (e + x)) (λ x t. part-beyond i (e + x) (omega arith)) in
       omega (arith, q, ap (λ (y : ℕ). sumTo y (partOf p i)) k, sum-split e (p .kinds - e) (partOf p i), z)
 
 -- ---- the steps of the sum
@@ -105,6 +105,7 @@ module _ (p : Plan) (i j s : ℕ) (so : s ≡ sumTo j (partOf p i)) where
   pub foreign-again : (j ≡ i → ⊥) → (kindOf p j .project ≡ kindOf p i .project → ⊥) → s ≡ sumTo (j + 1) (partOf p i)
   foreign-again n m = skipped (part-foreign p i j n m)
 
-  pub other-again : (v : ℕ) → (j ≡ i → ⊥) → kindOf p j .project ≡ kindOf p i .project →
-      v ≡ workloadPart (kindOf p j .separation) (kindOf p j .length) (kindOf p i .deadline) → s + v ≡ sumTo (j + 1) (partOf p i)
-  other-again v n e q = sum-again s j (partOf p i) v so (q ∙ sym (part-other p i j n e))
+  -- w is the part, and v the same in more bits
+  pub other-again : (v w : ℕ) → (j ≡ i → ⊥) → kindOf p j .project ≡ kindOf p i .project →
+      w ≡ workloadPart (kindOf p j .separation) (kindOf p j .length) (kindOf p i .deadline) → v ≡ w → s + v ≡ sumTo (j + 1) (partOf p i)
+  other-again v w n e q r = sum-again s j (partOf p i) v so (r ∙ q ∙ sym (part-other p i j n e))

@@ -58,6 +58,7 @@ use Rattle.demands.specs.Uses.Figures.{tick, row, releases, threeSlices,
 use Rattle.demands.specs.Uses.Figures.{oneSlice, running, longer, both, waiting, verdicts, ranks, answers}
 pub mod Figures
 pub mod Worst
+pub mod Smallest
 
 -- ---- demand 1: one outcome, and a refusal that changes nothing
 

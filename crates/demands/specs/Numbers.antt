@@ -19,9 +19,9 @@ use Rattle.plan_bytes.specs.Parts.{headed, decoded, size}
 use Rattle.plan_bytes.specs.Reading.{spareZero, bodyAnswer, readAnswer, readOf}
 use Rattle.plan_bytes.specs.Writing.{writeAnswer}
 use Rattle.layout.specs.Table.{tableAnswer, tableLength}
-use Rattle.verdict.specs.Verdict.{widthOf, excessOf, fitted, admitted, judged}
+use Rattle.verdict.specs.Verdict.{widthOf, excessOf, badSliceOf, fitted, admitted, judged}
 use Rattle.verdict.specs.Steps.{fitOn}
-use Rattle.verdict.specs.Steps.Properties.{excess-room}
+use Rattle.verdict.specs.Steps.Properties.{excess-room, slice-room}
 use Rattle.unit.specs.Start.{early, startable}
 use Rattle.rack.specs.declared.State.{State}
 use Rattle.rack.specs.State.{lastClock, unitOf, kindAt, used}
@@ -131,7 +131,8 @@ unfolding admitted fitted among
 admitted-numbers p o =
     each-numbered _ (p .kinds) (fitted p)
     (λ i l. refuse-numbered _ (eqb (widthOf p i) 0) _
-    (eight-numbered _ i (excessOf p i) refl (omega (arith, o .counts .kinds-most)) (omega (arith, excess-room p o i l (fitOn p i) refl))))
+    (eight-numbered _ i (excessOf p i) (badSliceOf p i) refl (omega (arith, o .counts .kinds-most))
+    (omega (arith, excess-room p o i l (fitOn p i) refl)) (slice-room p o i)))
 
 -- `judge`
 pub judge-numbers : (p : Plan) → Numbered verdictOrder (judged p .answer)

@@ -72,7 +72,8 @@ told-eight p t = go (checked p) refl
         let o = in-order p e in
         let a = judged p .answer in
         let shape : Eight a = rw (order-next p o) (admitted-eight p) in
-        (o, refused-exactly p o (place a) (excess a) (slice a) .0 (shape (λ z. omega (arith, t))))
+        let told = refused-exactly p o (place a) (excess a) (slice a) .0 (shape (λ z. omega (arith, t))) in
+        (o, told .0, told .1)
     go (No r) e = absurd (check-not-eight p r e (ap number e ∙ sym (ap number (order-first p r e)) ∙ t))
 
 eight-says : (p : Plan) (i x : ℕ) →

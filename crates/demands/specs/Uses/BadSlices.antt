@@ -31,14 +31,14 @@ use Rattle.verdict.specs.Admission.{asked, given, seen, BadSlice, Names}
 use Rattle.demands.specs.Verdicts.{slice-beside, slice-of-excess, one-slice}
 
 -- "Kind 0 of A as (0,4,3,2): admitted; as (0,4,3,3): 8"
-abbrev shorter : Plan
+abbrev pub shorter : Plan
 shorter = likeA 3 5 (kind 0 4 3 2)
 
-abbrev tooLong : Plan
+abbrev pub tooLong : Plan
 tooLong = likeA 3 5 (kind 0 4 3 3)
 
 -- two cards, frame 4; one project q 2, B 6; kinds (0,3,3,1), (0,3,3,3): k 1 asks 1 + 3 against 3 and k 2 asks 2 + 3 against 4
-abbrev even : Plan
+abbrev pub even : Plan
 even = record {
   cards = 2;
   projects = 1;
@@ -48,18 +48,18 @@ even = record {
   kind = kind 0 3 3 1 ∷ kind 0 3 3 3 ∷ replicate 14 noKind;
 }
 
-record Figures : Type 0 where
-  order : checked shorter ≡ Good
-  good : judged shorter .answer ≡ Good
-  k-one : getD (judged shorter .width) 0 0 ≡ 1
-  from-one : getD (judged shorter .slice) 0 0 ≡ 1
-  supply-two : given shorter 0 1 ≡ 2
-  eight : let a = judged tooLong .answer in (number a ≡ 8) × (place a ≡ 0) × (excess a ≡ 1) × (slice a ≡ 1)
-  even-eight : let a = judged even .answer in (number a ≡ 8) × (place a ≡ 0) × (excess a ≡ 1) × (slice a ≡ 0)
-  even-asked : asked even 0 1 ≡ 4
-  even-given : given even 0 1 ≡ 3
+pub record Figures : Type 0 where
+  pub order : checked shorter ≡ Good
+  pub good : judged shorter .answer ≡ Good
+  pub k-one : getD (judged shorter .width) 0 0 ≡ 1
+  pub from-one : getD (judged shorter .slice) 0 0 ≡ 1
+  pub supply-two : given shorter 0 1 ≡ 2
+  pub eight : let a = judged tooLong .answer in (number a ≡ 8) × (place a ≡ 0) × (excess a ≡ 1) × (slice a ≡ 1)
+  pub even-eight : let a = judged even .answer in (number a ≡ 8) × (place a ≡ 0) × (excess a ≡ 1) × (slice a ≡ 0)
+  pub even-asked : asked even 0 1 ≡ 4
+  pub even-given : given even 0 1 ≡ 3
 
-figures : Figures
+pub figures : Figures
 unfolding sumTo leastTo leastPlace firstTo countTo allTo written eachTo within sized emptyProject emptyKind tidyProjects tidyKinds inRange
     timed budgets sizes unused projectsInRange kindInRange kindsInRange budgetsFit ranges checked cellAt firstCell owns slotOf held
     window supply badSlice workloadPart fitsAt leastWidth excessAt leastExcess excessWidth namedWidth namedSlice besides partOf workload

@@ -12,10 +12,10 @@ use Rattle.parchbeetle.proofs.put_verdict.Statement.{statement}
 use Rattle.parchbeetle.proofs.put_verdict.Tie as tie
 
 abbrev Inv-loop : tie.InvT-loop
-Inv-loop k₀ width slice i₀ k i = (i ≤ 32) × (k ≡ written i (verdictByte width slice) k₀) × (length k ≡ length k₀)
+Inv-loop width slice k₀ i₀ k i = (i ≤ 32) × (k ≡ written i (verdictByte width slice) k₀) × (length k ≡ length k₀)
 
 abbrev μ-loop : tie.MeasureT-loop
-μ-loop k₀ width slice i₀ k i = 32 - i
+μ-loop width slice k₀ i₀ k i = 32 - i
 
 loop-holds : tie.Need-loop-holds Inv-loop μ-loop
 loop-holds c = (omega arith, written-none _ _, refl)

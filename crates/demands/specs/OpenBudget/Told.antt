@@ -22,6 +22,7 @@ use Rattle.plan.specs.Order.{projectOf, kindOf, budgets}
 use Rattle.plan.specs.Order.{budgetsFit}
 use Rattle.plan.specs.Open.{withBudget, checkedOpen, InOrderOpen}
 use Rattle.plan.specs.Open.Properties.{open-order, open-order-good}
+use Rattle.supply.specs.Fit.{excessWidth}
 use Rattle.supply.specs.Fit.Properties.{width-most, width-fits, width-some, width-none, excess-most, excess-attained}
 use Rattle.workload.specs.Workload.{workload}
 use Rattle.verdict.specs.Verdict.{ceilingOn}
@@ -85,10 +86,11 @@ module _ (p : Plan) (j b i : ℕ) where
       let W = workload p i in
       let D = kindOf p i .deadline in
       let q = projectOf p j .ceiling in
+      let k = excessWidth (p .frame) (heldWith p j b) C W D q in
       let t = excess-attained (p .frame) (heldWith p j b) C W D q some in (
-        t .0,
-        record { some = t .1; most = omega (arith, ceiling-own own, t .2) },
-        omega (arith, t .3, width-none (p .frame) (heldWith p j b) C W D q (t .0) none (t .1) (t .2)),
+        k,
+        record { some = t .0; most = omega (arith, ceiling-own own, t .1) },
+        omega (arith, t .2, width-none (p .frame) (heldWith p j b) C W D q k none (t .0) (t .1)),
       )
 
   pub lacks-not : lacks p j b i ≡ false → kindOf p i .project ≡ j → 0 < widthWith p j b i

@@ -28,8 +28,8 @@ use Rattle.workload.specs.Workload.{workload}
 use Rattle.verdict.specs.Verdict.{ceilingOn}
 use Rattle.verdict.specs.Admission.{asked, Width}
 use Rattle.verdict.specs.Admission.Properties.{each-no}
-use Rattle.smallest_budget.specs.Smallest.{its, heldWith, widthWith, excessWith, sliceWith, lacks, serves, mostBudget, leastBudget, fittedWith}
-use Rattle.smallest_budget.specs.Smallest.{servedWith, servedAtMost, sumFits, smallestAnswer, smallestOf}
+use Rattle.smallest_budget.specs.Smallest.{its, heldWith, widthWith, excessWith, sliceWith, lacks, serves, mostBudget, leastBudget}
+use Rattle.smallest_budget.specs.Smallest.{fittedWith, servedWith, servedAtMost, sumFits, smallestAnswer, smallestOf}
 use Rattle.smallest_budget.specs.Smallest.Properties.{served-serves, least-most}
 use Rattle.smallest_budget.specs.Steps.Properties.{most-some}
 use Rattle.demands.specs.Numbers.{openOrder, check-open-numbers}
@@ -203,7 +203,8 @@ module _ (p : Plan) (j : ℕ) where
   sum = budgets (withBudget p j (leastBudget p j))
 
   module _ (P : Answer → Type 0) (order : (r : Refusal) → checkedOpen p j ≡ No r → P (No r))
-      (eight : (i : ℕ) → InOrderOpen p j → Lacking i → P (notAdmitted i (excessWith p j (mostBudget p j) i) (sliceWith p j (mostBudget p j) i)))
+      (eight : (i : ℕ) → InOrderOpen p j → Lacking i →
+      P (notAdmitted i (excessWith p j (mostBudget p j) i) (sliceWith p j (mostBudget p j) i)))
       (seven : InOrderOpen p j → Least p j (leastBudget p j) → p .cards * p .frame < sum → P (bare 7))
       (good : InOrderOpen p j → Least p j (leastBudget p j) → sum ≤ p .cards * p .frame → P Good)
     where

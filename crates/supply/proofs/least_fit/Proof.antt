@@ -24,8 +24,8 @@ abbrev μ-loop2 : tie.MeasureT-loop2
 abbrev Inv-loop : tie.InvT-loop
 Inv-loop frame ceiling length workload deadline slices frames rest cards found excess below width one-frame₀ least₀ start₀ one-frame least
     start =
-    (start ≤ slices) × (one-frame ≡ window width (heldAt slices cards) 0 start) × (least ≡ suppliedTo start (heldAt slices cards) width rest) ×
-    (one-frame ≤ 255 * start) × (least .value ≤ 16320)
+    (start ≤ slices) × (one-frame ≡ window width (heldAt slices cards) 0 start) ×
+    (least ≡ suppliedTo start (heldAt slices cards) width rest) × (one-frame ≤ 255 * start) × (least .value ≤ 16320)
 
 abbrev μ-loop : tie.MeasureT-loop
 μ-loop frame ceiling length workload deadline slices frames rest cards found excess below width one-frame₀ least₀ start₀ one-frame least
@@ -170,15 +170,18 @@ widths-again c =
     let some = c .before .before .before .before .before .before .before .before .before .before .before .if1 .left in
     let most = c .before .before .before .before .before .before .before .before .before .before .if2 .left in
     let two = c .before .before .before .before .before .before .before .before .before .two-frames .ensures in
+    let so-far = c .before .before .before .before .before .before .before .before .widths .inv in
     let inv = c .before .before .before .before .before .before .loop .inv in
     let end = c .before .before .before .before .before .loop-test .left in
-    let s = supplied _ _ _ some most two _ _ _ _ _ _ (c .before .before .before .before .product .ensures .0) (inv .1) (inv .2) (inv .0) end in
+    let frames = c .before .before .before .before .product .ensures .0 in
+    let asked = c .before .before .asked .ensures .0 in
+    let s = supplied _ _ _ some most two _ _ _ _ _ _ frames (inv .1) (inv .2) (inv .0) end in
     let t = bad-found _ _ _ some most two _ _ _ _ (inv .2) (inv .0) end in (
       search,
       omega arith,
       search,
-      width-again _ _ _ _ _ _ _ _ (c .before .before .before .before .before .before .before .before .widths .inv .3) s (c .before .before .asked .ensures .0) (c .before .if3 .left),
-      excess-again _ _ _ _ _ _ _ _ _ _ _ (c .before .before .before .before .before .before .before .before .widths .inv .4) s (c .before .before .asked .ensures .0) t (c .least-with2 .ensures .0),
+      width-again _ _ _ _ _ _ _ _ (so-far .3) s asked (c .before .if3 .left),
+      excess-again _ _ _ _ _ _ _ _ _ _ _ (so-far .4) s asked t (c .least-with2 .ensures .0),
       omega arith,
     )
 

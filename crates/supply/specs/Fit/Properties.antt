@@ -288,4 +288,5 @@ module _ (F : ℕ) (held cards : List ℕ) (some : F ≡ 0 → ⊥) (most : F �
         let none : 0 ≡ leastWidth F h C W D q = e ∙ ap (leastWidth F h C W D) z in
         fit-of q C W D w (x .value) (x .slice) (v ∙ none)
         (ap (λ (m : Least). m .value) f ∙ ap (leastExcess F h C W D) z)
-        (ap (λ (m : Least). m .slice) f ∙ ap (λ (i : ℕ). badSlice F h (excessWidth F h C W D i) D) z ∙ sym (slice-exceeded F h C W D q (sym none)))
+        (ap (λ (m : Least). m .slice) f ∙ ap (λ (i : ℕ). badSlice F h (excessWidth F h C W D i) D) z
+        ∙ sym (slice-exceeded F h C W D q (sym none)))

@@ -116,7 +116,8 @@ module _ (p : Plan) (i : ℕ) where
     -- beside the k given
     bad-given : 0 < widthOf p i → BadSlice p i (widthOf p i) (badSliceOf p i)
     unfolding widthOf badSliceOf
-    bad-given l = rw (slice-given (p .frame) (heldOn p i) (kindOf p i .length) (workload p i) (kindOf p i .deadline) (ceilingOn p i) l) (bad-on _)
+    bad-given l =
+        rw (slice-given (p .frame) (heldOn p i) (kindOf p i .length) (workload p i) (kindOf p i .deadline) (ceilingOn p i) l) (bad-on _)
 
     -- and beside the excess
     bad-exceeded : widthOf p i ≡ 0 → BadSlice p i excessWidthOf (badSliceOf p i)

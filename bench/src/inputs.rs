@@ -55,7 +55,7 @@ pub fn open_last() -> Plan {
     let mut kinds = [(0, 4095, 4095, 910); 16];
     kinds[15].3 = 2388;
     let plan = Plan::of(8, 64, &[(8, 512)], &kinds);
-    let (answer, k) = verdict(&plan);
+    let (answer, k, _) = verdict(&plan);
     assert!(answer.is_good() && k[..15] == [5; 15] && k[15] == 8);
     plan
 }

@@ -1,4 +1,5 @@
--- Document 01, "Numbers given back when we say no": an answer's number, place and excess, and refusals in an order.
+-- Document 01, "Numbers given back when we say no": an answer's number, place and excess with its slice, and refusals
+-- in an order.
 -- Assumes nothing.
 use Prim.Native.Nat.{ℕ, zero, suc}
 use mathlib.Core.Bool.{Bool, true, false}
@@ -17,32 +18,39 @@ atProject n j = No (ByProject n j)
 
 -- a refusal whose place is a kind: "that kind"
 abbrev pub atKind : ℕ → ℕ → Answer
-atKind n i = No (ByKind n i 0)
+atKind n i = No (ByKind n i 0 0)
 
--- 8: "first kind with no k, with its excess"
-abbrev pub notAdmitted : ℕ → ℕ → Answer
-notAdmitted i x = No (ByKind 8 i x)
+-- 8: "first kind with no k, with its excess"; "every .. excess should pass that slice on"
+abbrev pub notAdmitted : ℕ → ℕ → ℕ → Answer
+notAdmitted i x a = No (ByKind 8 i x a)
 
 -- "A good answer has number and place 0"; else the number that the refusal carries
 abbrev pub number : Answer → ℕ
 number Good = 0
 number (No (Bare n)) = n
 number (No (ByProject n j)) = n
-number (No (ByKind n i x)) = n
+number (No (ByKind n i x a)) = n
 
 -- the column "place": 0, the first such project, or that kind
 abbrev pub place : Answer → ℕ
 place Good = 0
 place (No (Bare n)) = 0
 place (No (ByProject n j)) = j
-place (No (ByKind n i x)) = i
+place (No (ByKind n i x a)) = i
 
 -- "Excess is 0 except with 8"
 abbrev pub excess : Answer → ℕ
 excess Good = 0
 excess (No (Bare n)) = 0
 excess (No (ByProject n j)) = 0
-excess (No (ByKind n i x)) = x
+excess (No (ByKind n i x a)) = x
+
+-- the bad slice beside the excess, and like it "0 except with 8"
+abbrev pub slice : Answer → ℕ
+slice Good = 0
+slice (No (Bare n)) = 0
+slice (No (ByProject n j)) = 0
+slice (No (ByKind n i x a)) = a
 
 -- "given exactly when": this refusal where the test holds
 abbrev pub refuse : Bool → Answer → Answer

@@ -9,7 +9,7 @@ use lib.Dec.{eqb, ltb}
 use Rattle.answer.specs.declared.Answer.{Answer}
 use Rattle.answer.specs.declared.Answer.the-variants.{Good, No}
 use Rattle.answer.specs.declared.Refusal.{Refusal}
-use Rattle.answer.specs.Answer.{number, place, excess}
+use Rattle.answer.specs.Answer.{number, place, excess, slice}
 pub mod Properties
 
 -- whether a number is one of these
@@ -42,4 +42,7 @@ pub record Numbered (listed : List ℕ) (a : Answer) : Type 0 where
   pub place-most : place a < 16
   -- "Excess is 0 except with 8"
   pub its-excess : number a ≢ 8 → excess a ≡ 0
-  pub excess-most : excess a < 4294967296
+  pub excess-most : excess a < 16777216
+  -- and so is the slice beside it, which is one of the at most 64 of a frame
+  pub its-slice : number a ≢ 8 → slice a ≡ 0
+  pub slice-most : slice a < 64

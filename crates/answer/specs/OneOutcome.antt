@@ -3,7 +3,7 @@
 use mathlib.Core.Path.{_≡_}
 use Prim.Native.Nat.{ℕ}
 use Rattle.answer.specs.declared.Answer.{Answer}
-use Rattle.answer.specs.Answer.{bare, atProject, atKind, notAdmitted, number, place, excess}
+use Rattle.answer.specs.Answer.{bare, atProject, atKind, notAdmitted, number, place, excess, slice}
 use Rattle.answer.specs.Word.{told}
 use Rattle.answer.specs.Outcome.{One}
 use Rattle.answer.specs.Outcome.Properties.{is-one}
@@ -21,8 +21,8 @@ pub at-kind-one-outcome : (number kind : ℕ) → One (λ r. r ≡ atKind number
 at-kind-one-outcome number kind = is-one _
 
 -- `Answer::not_admitted`
-pub not-admitted-one-outcome : (kind excess : ℕ) → One (λ r. r ≡ notAdmitted kind excess)
-not-admitted-one-outcome kind excess = is-one _
+pub not-admitted-one-outcome : (kind excess slice : ℕ) → One (λ r. r ≡ notAdmitted kind excess slice)
+not-admitted-one-outcome kind excess slice = is-one _
 
 -- `Answer::number`
 pub number-one-outcome : (self : Answer) → One (λ r. r ≡ number self)
@@ -35,6 +35,10 @@ place-one-outcome self = is-one _
 -- `Answer::excess`
 pub excess-one-outcome : (self : Answer) → One (λ r. r ≡ excess self)
 excess-one-outcome self = is-one _
+
+-- `Answer::slice`
+pub slice-one-outcome : (self : Answer) → One (λ r. r ≡ slice self)
+slice-one-outcome self = is-one _
 
 -- `Answer::told`
 pub told-one-outcome : (self : Answer) (count : ℕ) → One (λ r. r ≡ told self count)

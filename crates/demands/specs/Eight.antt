@@ -1,4 +1,4 @@
--- Refusal 8 by its number, place and excess: the record order never gives it, and the verdict gives nothing else.
+-- Refusal 8 by its number, place, excess and slice: the record order never gives it, and the verdict gives nothing else.
 -- Assumes nothing.
 use mathlib.Core.Path.{_≡_, refl, sym, ap, _∙_}
 use mathlib.Core.Logic.{_≢_, _↔_}
@@ -9,14 +9,14 @@ use lib.Dec.{eqb}
 use Rattle.answer.specs.declared.Answer.{Answer}
 use Rattle.answer.specs.declared.Answer.the-variants.{Good, No}
 use Rattle.answer.specs.declared.Refusal.{Refusal}
-use Rattle.answer.specs.Answer.{notAdmitted, number, place, excess, refuse, _andThen_, eachTo}
+use Rattle.answer.specs.Answer.{notAdmitted, number, place, excess, slice, refuse, _andThen_, eachTo}
 use Rattle.answer.specs.Numbers.{among}
 use Rattle.plan.specs.declared.Plan.{Plan}
 use Rattle.plan.specs.Order.{InOrder, checked}
 use Rattle.plan.specs.Order.Properties.{in-order}
-use Rattle.verdict.specs.Verdict.{widthOf, excessOf, fitted, admitted, judged}
-use Rattle.verdict.specs.Admission.{NotAdmitted}
-use Rattle.verdict.specs.Admission.Properties.{order-first, order-next, refused-exactly}
+use Rattle.verdict.specs.Verdict.{widthOf, excessOf, badSliceOf, fitted, admitted, judged}
+use Rattle.verdict.specs.Admission.{NotAdmitted, BadSlice, Names}
+use Rattle.verdict.specs.Admission.Properties.{order-first, order-next, refused-exactly, refused-slice}
 use Rattle.demands.specs.Numbers.{recordOrder, check-numbers}
 
 -- ---- "Records: 2, 3, 4, 5/6, 7"
@@ -31,7 +31,7 @@ check-not-eight p r e z =
 
 -- good, or that
 abbrev Eight : Answer → Type 0
-Eight a = number a ≢ 0 → a ≡ notAdmitted (place a) (excess a)
+Eight a = number a ≢ 0 → a ≡ notAdmitted (place a) (excess a) (slice a)
 
 good-eight : Eight Good
 good-eight h = absurd (h refl)
@@ -40,7 +40,7 @@ fitted-eight : (p : Plan) (i : ℕ) → Eight (fitted p i)
 unfolding fitted
 fitted-eight p i = go (eqb (widthOf p i) 0)
   where
-    go : (t : Bool) → Eight (refuse t (notAdmitted i (excessOf p i)))
+    go : (t : Bool) → Eight (refuse t (notAdmitted i (excessOf p i) (badSliceOf p i)))
     go true h = refl
     go false h = good-eight h
 
@@ -59,26 +59,44 @@ admitted-eight p = each-eight (p .kinds) (fitted p) (fitted-eight p)
 
 -- ---- exactly when
 
-eight-says : (p : Plan) (i x : ℕ) →
+-- with its slice
+told-eight : (p : Plan) →
     let a = judged p .answer in
-    (number a ≡ 8) × (place a ≡ i) × (excess a ≡ x) → InOrder p × NotAdmitted p i x
-eight-says p i x t = go (checked p) refl
+    number a ≡ 8 → InOrder p × NotAdmitted p (place a) (excess a) × (slice a ≡ badSliceOf p (place a))
+told-eight p t = go (checked p) refl
   where
-    go : (c : Answer) → checked p ≡ c → InOrder p × NotAdmitted p i x
+    go : (c : Answer) → checked p ≡ c →
+        let a = judged p .answer in
+        InOrder p × NotAdmitted p (place a) (excess a) × (slice a ≡ badSliceOf p (place a))
     go Good e =
         let o = in-order p e in
         let a = judged p .answer in
         let shape : Eight a = rw (order-next p o) (admitted-eight p) in
-        (o, rw (t .1, t .2) at (refused-exactly p o (place a) (excess a) .0 (shape (λ z. omega (arith, t .0)))))
-    go (No r) e = absurd (check-not-eight p r e (ap number e ∙ sym (ap number (order-first p r e)) ∙ t .0))
+        let told = refused-exactly p o (place a) (excess a) (slice a) .0 (shape (λ z. omega (arith, t))) in
+        (o, told .0, told .1)
+    go (No r) e = absurd (check-not-eight p r e (ap number e ∙ sym (ap number (order-first p r e)) ∙ t))
+
+eight-says : (p : Plan) (i x : ℕ) →
+    let a = judged p .answer in
+    (number a ≡ 8) × (place a ≡ i) × (excess a ≡ x) → InOrder p × NotAdmitted p i x
+eight-says p i x t = let s = told-eight p (t .0) in (s .0, rw (t .1, t .2) at (s .1))
 
 eight-of : (p : Plan) (i x : ℕ) → InOrder p × NotAdmitted p i x →
     let a = judged p .answer in
     (number a ≡ 8) × (place a ≡ i) × (excess a ≡ x)
-eight-of p i x t = let e = refused-exactly p (t .0) i x .1 (t .1) in (ap number e, ap place e, ap excess e)
+eight-of p i x t = let e = refused-exactly p (t .0) i x (badSliceOf p i) .1 (t .1, refl) in (ap number e, ap place e, ap excess e)
 
 -- 8 with place i and excess x is given exactly when the plan is in order and kind i is the first with no k, with excess x
 pub eight-exactly : (p : Plan) (i x : ℕ) →
     let a = judged p .answer in
     ((number a ≡ 8) × (place a ≡ i) × (excess a ≡ x)) ↔ (InOrder p × NotAdmitted p i x)
 eight-exactly p i x = (eight-says p i x, eight-of p i x)
+
+-- and its slice is the bad one of the k that the excess names
+pub eight-slice : (p : Plan) →
+    let a = judged p .answer in
+    number a ≡ 8 → (k : ℕ) × (Names p (place a) (excess a) k) × (BadSlice p (place a) k (slice a))
+eight-slice p t =
+    let a = judged p .answer in
+    let s = told-eight p t in
+    rw (s .2) (refused-slice p (s .0) (place a) (excess a) (s .1))

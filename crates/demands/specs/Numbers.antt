@@ -19,12 +19,13 @@ use Rattle.plan_bytes.specs.Parts.{headed, decoded, size}
 use Rattle.plan_bytes.specs.Reading.{spareZero, bodyAnswer, readAnswer, readOf}
 use Rattle.plan_bytes.specs.Writing.{writeAnswer}
 use Rattle.layout.specs.Table.{tableAnswer, tableLength}
-use Rattle.verdict.specs.Verdict.{widthOf, excessOf, fitted, admitted, judged}
+use Rattle.verdict.specs.Verdict.{widthOf, excessOf, badSliceOf, fitted, admitted, judged}
 use Rattle.verdict.specs.Steps.{fitOn}
-use Rattle.verdict.specs.Steps.Properties.{excess-room}
-use Rattle.smallest_budget.specs.Smallest.{excessWith, lacks, mostBudget, leastBudget, fittedWith, servedWith, smallestAnswer, smallestOf}
+use Rattle.verdict.specs.Steps.Properties.{excess-room, slice-room}
+use Rattle.smallest_budget.specs.Smallest.{excessWith, sliceWith, lacks, mostBudget, leastBudget, fittedWith, servedWith, smallestAnswer}
+use Rattle.smallest_budget.specs.Smallest.{smallestOf}
 use Rattle.smallest_budget.specs.Steps.{fitWith}
-use Rattle.smallest_budget.specs.Steps.Properties.{with-room}
+use Rattle.smallest_budget.specs.Steps.Properties.{with-room, with-slice}
 use Rattle.unit.specs.Start.{early, startable}
 use Rattle.rack.specs.declared.State.{State}
 use Rattle.rack.specs.State.{lastClock, unitOf, kindAt, used}
@@ -127,7 +128,8 @@ unfolding admitted fitted among
 admitted-numbers p o =
     each-numbered _ (p .kinds) (fitted p)
     (λ i l. refuse-numbered _ (eqb (widthOf p i) 0) _
-    (eight-numbered _ i (excessOf p i) refl (omega (arith, o .counts .kinds-most)) (omega (arith, excess-room p o i l (fitOn p i) refl))))
+    (eight-numbered _ i (excessOf p i) (badSliceOf p i) refl (omega (arith, o .counts .kinds-most))
+    (omega (arith, excess-room p o i l (fitOn p i) refl)) (slice-room p o i)))
 
 -- `judge`
 pub judge-numbers : (p : Plan) → Numbered verdictOrder (judged p .answer)
@@ -152,8 +154,8 @@ unfolding servedWith among
 served-numbers p j o b =
     each-numbered _ (p .kinds) (fittedWith p j b)
     (λ i l. refuse-numbered _ (lacks p j b i) _
-    (eight-numbered _ i (excessWith p j b i) refl (omega (arith, o .counts .kinds-most))
-    (omega (arith, with-room p j o i l b (fitWith p j b i) refl))))
+    (eight-numbered _ i (excessWith p j b i) (sliceWith p j b i) refl (omega (arith, o .counts .kinds-most))
+    (with-room p j o i l b (fitWith p j b i) refl) (with-slice p j o i l b)))
 
 -- `smallest_budget`
 pub smallest-numbers : (p : Plan) (j : ℕ) → Numbered smallestOrder (smallestOf p j .answer)

@@ -23,7 +23,7 @@ use Rattle.layout.specs.Table.{tableAnswer, Tabled}
 use Rattle.layout.specs.OneOutcome.{slot-table-one-outcome}
 use Rattle.verdict.specs.Verdict.{judged}
 use Rattle.verdict.specs.OneOutcome.{judge-one-outcome}
-use Rattle.verdict.specs.Admission.Properties.{none-refused}
+use Rattle.verdict.specs.Admission.Properties.{none-refused, no-slice-refused}
 use Rattle.smallest_budget.specs.Smallest.{smallestAnswer, smallestOf}
 use Rattle.smallest_budget.specs.OneOutcome.{smallest-budget-one-outcome}
 use Rattle.rack.specs.declared.State.{State}
@@ -84,9 +84,9 @@ tabling-refused p out after r c h =
 pub judging : (p : Plan) → One (λ v. v ≡ judged p)
 judging = judge-one-outcome
 
--- "A refused verdict gives k 0 for every kind"
-pub judging-refused : (p : Plan) → number (judged p .answer) ≢ 0 → judged p .width ≡ replicate 16 0
-judging-refused p h = let t = refusal (judged p .answer) h in none-refused p (t .0) (t .1)
+-- "A refused verdict gives k 0 for every kind", and no slice beside it
+pub judging-refused : (p : Plan) → number (judged p .answer) ≢ 0 → (judged p .width ≡ replicate 16 0) × (judged p .slice ≡ replicate 16 0)
+judging-refused p h = let t = refusal (judged p .answer) h in (none-refused p (t .0) (t .1), no-slice-refused p (t .0) (t .1))
 
 -- ---- the smallest budget
 

@@ -5,21 +5,21 @@ use mathlib.Core.Logic.{_≢_, _↔_}
 use mathlib.Core.Bool.{true}
 use Prim.Native.Nat.{ℕ, _*_, _≤_, _<_}
 use Rattle.answer.specs.declared.Answer.the-variants.{Good}
-use Rattle.answer.specs.Answer.{number, place, excess}
+use Rattle.answer.specs.Answer.{number, place, excess, slice}
 use Rattle.plan.specs.declared.Plan.{Plan}
 use Rattle.plan.specs.Order.{kindOf, budgets, tidyProject, tidyKind, Sized, InOrder}
 use Rattle.plan.specs.Open.{withBudget, InOrderOpen}
 use Rattle.layout.specs.Cards.{heldFrom}
-use Rattle.supply.specs.Supply.{supply}
+use Rattle.supply.specs.Supply.{window, supply}
 use Rattle.verdict.specs.Verdict.{judged}
 use Rattle.verdict.specs.Admission.{Fits}
-use Rattle.smallest_budget.specs.Smallest.{mostBudget, smallestOf}
+use Rattle.smallest_budget.specs.Smallest.{heldWith, mostBudget, smallestOf}
 use Rattle.smallest_budget.specs.Rotation.{supply-anywhere}
 use Rattle.demands.specs.OpenBudget.{FitsWith, Serves, Least, NotServed}
 use Rattle.demands.specs.OpenBudget.Written.{written-fits, fits-written, fits-more, written-more, others-kept}
 use Rattle.demands.specs.OpenBudget.Written.{stored-unread, alike-but-open}
 use Rattle.demands.specs.OpenBudget.Exactly.{given-says, given-of, seven-says, seven-of, none-says, none-of, eight-says, eight-of}
-use Rattle.demands.specs.OpenBudget.Exactly.{absent-says, absent-of}
+use Rattle.demands.specs.OpenBudget.Exactly.{absent-says, absent-of, eight-slice, eight-starts}
 use Rattle.demands.specs.OpenBudget.Believed.{given-in-order, given-fits, given-least, given-admitted}
 
 -- ---- 1. "Show that moving a project's first cell never alters its supply, and that a greater budget never takes a fit away"
@@ -77,6 +77,12 @@ pub not-served-when : (p : Plan) (j i x : ℕ) →
     let a = smallestOf p j .answer in
     ((number a ≡ 8) × (place a ≡ i) × (excess a ≡ x)) ↔ ((InOrderOpen p j) × (NotServed p j i x))
 not-served-when p j i x = (eight-says p j i x, eight-of p j i x)
+
+-- "every .. excess should pass that slice on": at qF every start sees the supply of the k it names, and the earliest is 0
+pub slice-at-most : (p : Plan) (j : ℕ) → number (smallestOf p j .answer) ≡ 8 →
+    let h = heldWith p j (mostBudget p j) in
+    (slice (smallestOf p j .answer) ≡ 0) × ((k a t : ℕ) → window k h a t ≡ supply (p .frame) h k t)
+slice-at-most p j eight = (eight-slice p j eight, eight-starts p j eight)
 
 -- "then 7 when the least B makes the sum too large"
 pub too-large-when : (p : Plan) (j : ℕ) →

@@ -13,7 +13,7 @@ use borrow.Author.Tests.{ltb-true}
 use Rattle.laws.specs.Tests.{and-left, and-right}
 use Rattle.laws.specs.Count.{countTo}
 use Rattle.answer.specs.declared.Answer.the-variants.{Good}
-use Rattle.answer.specs.Answer.{number, place, excess}
+use Rattle.answer.specs.Answer.{number, place, excess, slice}
 use Rattle.answer.specs.Numbers.{among, placed}
 use Rattle.plan.specs.Example.{planA, planB, bytesA}
 use Rattle.plan.specs.Order.{checked}
@@ -58,6 +58,7 @@ use Rattle.demands.specs.Uses.Figures.{tick, row, releases, threeSlices,
 use Rattle.demands.specs.Uses.Figures.{oneSlice, running, longer, both, waiting, verdicts, ranks, answers}
 pub mod Figures
 pub mod Worst
+pub mod BadSlices
 pub mod Smallest
 
 -- ---- demand 1: one outcome, and a refusal that changes nothing
@@ -108,7 +109,10 @@ pub gives-ones : judging planA .outcome .width ≡ 1 ∷ 1 ∷ 1 ∷ replicate 1
 gives-ones = ap (λ (v : Verdict). v .width) (judging planA .meets) ∙ answers .widths-A
 
 pub gives-none : judged longer .width ≡ replicate 16 0
-gives-none = judging-refused longer (λ z. omega (arith, verdicts .eight .0))
+gives-none = judging-refused longer (λ z. omega (arith, verdicts .eight .0)) .0
+
+pub gives-no-slice : judged longer .slice ≡ replicate 16 0
+gives-no-slice = judging-refused longer (λ z. omega (arith, verdicts .eight .0)) .1
 
 pub starts-at-none : starting planA .outcome .state .clock ≡ 0
 starts-at-none = ap (λ (n : Next). n .state .clock) (starting planA .meets ∙ answers .starts)
@@ -151,15 +155,21 @@ in-order-none = check-numbers planA .good .1 (verdicts .order-A)
 pub admitted-none : number (judged planA .answer) ≡ 0
 admitted-none = judge-numbers planA .good .1 (verdicts .good-A)
 
--- a refused start has a kind's place, and no other refusal here has one, or an excess
+-- a refused start has a kind's place, and no other refusal here has one, an excess or a slice
 pub kind-place : place (startAnswer longer) < 16
 kind-place = start-numbers longer .place-most
+
+pub frame-slice : slice (startAnswer longer) < 64
+frame-slice = start-numbers longer .slice-most
 
 pub not-good : startAnswer longer ≢ Good
 not-good g = omega (arith, start-numbers longer .good .1 g, answers .start-told)
 
 pub read-excess : excess (readOf (0x22 ∷ 0x18 ∷ []) .answer) ≡ 0
 read-excess = read-numbers (0x22 ∷ 0x18 ∷ []) .its-excess (λ z. omega (arith, answers .read-short))
+
+pub read-slice : slice (readOf (0x22 ∷ 0x18 ∷ []) .answer) ≡ 0
+read-slice = read-numbers (0x22 ∷ 0x18 ∷ []) .its-slice (λ z. omega (arith, answers .read-short))
 
 pub write-place : place (writeAnswer planA (replicate 21 7)) ≡ 0
 write-place = write-numbers planA (replicate 21 7) .its-place (ap (among placed) (answers .write-short) ∙ answers .nine-bare)

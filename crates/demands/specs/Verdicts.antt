@@ -10,7 +10,7 @@ use native.Mathlib.Omega.{arith}
 use lib.ListN.{getD, take}
 use Rattle.laws.specs.Count.{countTo}
 use Rattle.answer.specs.declared.Answer.the-variants.{Good}
-use Rattle.answer.specs.Answer.{number, place, excess}
+use Rattle.answer.specs.Answer.{number, place, excess, slice}
 use Rattle.plan.specs.declared.Plan.{Plan}
 use Rattle.plan.specs.Order.{InOrder, checked}
 use Rattle.codec.specs.Bytes.{AreBytes}
@@ -19,15 +19,15 @@ use Rattle.plan_bytes.specs.Reading.{readOf}
 use Rattle.plan_bytes.specs.RoundTrip.{read-written, written-read, one-encoding}
 use Rattle.layout.specs.Layout.{held}
 use Rattle.verdict.specs.Verdict.{judged}
-use Rattle.verdict.specs.Admission.{Fits, NotAdmitted}
-use Rattle.verdict.specs.Admission.Properties.{admitted-exactly, given-fits, given-least}
+use Rattle.verdict.specs.Admission.{Fits, NotAdmitted, BadSlice, Names}
+use Rattle.verdict.specs.Admission.Properties.{admitted-exactly, given-fits, given-least, given-slice, bad-one}
 use Rattle.rack.specs.declared.State.{State}
 use Rattle.rack.specs.State.{unitOf, kindAt}
 use Rattle.rack.specs.Form.{Ready}
 use Rattle.rack.specs.Rank.{working, activeKinds, outranks, rank}
 use Rattle.rack.specs.Row.{holds, rowByte}
 use Rattle.rack.specs.Row.Properties.{stands-held, stands-first, stands-ascending, cards-used}
-use Rattle.demands.specs.Eight.{eight-exactly}
+use Rattle.demands.specs.Eight.{eight-exactly, eight-slice}
 use Rattle.demands.specs.Stands.{stands-says, stands-of, enough-stand}
 
 -- ---- 1. A plan is admitted exactly when the published comparison holds for every unit kind, on the slices the layout really gives
@@ -47,6 +47,22 @@ pub refused-when : (p : Plan) (i x : ℕ) →
     let a = judged p .answer in
     ((number a ≡ 8) × (place a ≡ i) × (excess a ≡ x)) ↔ (InOrder p × NotAdmitted p i x)
 refused-when = eight-exactly
+
+-- "every verdict .. should pass that slice on for the k it names": beside each k stands the earliest slice of the frame from which a
+-- unit sees exactly S(k,D), on the cards that the layout really gives
+pub slice-beside : (p : Plan) → judged p .answer ≡ Good → (i : ℕ) → i < p .kinds →
+    BadSlice p i (getD (judged p .width) i 0) (getD (judged p .slice) i 0)
+slice-beside = given-slice
+
+-- ".. and excess .. (the least k on equal excess)"
+pub slice-of-excess : (p : Plan) →
+    let a = judged p .answer in
+    number a ≡ 8 → (k : ℕ) × (Names p (place a) (excess a) k) × (BadSlice p (place a) k (slice a))
+slice-of-excess = eight-slice
+
+-- there is one such slice
+pub one-slice : (p : Plan) → InOrder p → (i k a b : ℕ) → BadSlice p i k a → BadSlice p i k b → a ≡ b
+one-slice p order i = bad-one p i (order .counts .some-slice)
 
 -- ---- 2. Plan bytes are read and written by one layout, so each plan has one encoding
 

@@ -1,4 +1,4 @@
--- The number that each exported function gives back, read again by the header's four macros; and the numbers that each function lists.
+-- The number that each exported function gives back, read again by the header's five macros; and the numbers that each function lists.
 -- Assumes nothing.
 use mathlib.Core.Path.{_≡_, refl, sym}
 use mathlib.Core.Bool.{true, not}
@@ -65,7 +65,7 @@ pub verdict-listed : (plan k : List ℕ) → Numbered (9 ∷ verdictOrder) (verd
 unfolding verdictAnswer among covers
 verdict-listed plan k =
     andThen-numbered _ _ _ (room-numbers _ refl plan planSize)
-    (λ e. andThen-numbered _ _ _ (wider _ verdictOrder _ refl (judge-numbers (planFrom plan))) (λ f. room-numbers _ refl k 16))
+    (λ e. andThen-numbered _ _ _ (wider _ verdictOrder _ refl (judge-numbers (planFrom plan))) (λ f. room-numbers _ refl k 32))
 
 -- `parchbeetle_smallest_budget`
 pub smallest-listed : (plan : List ℕ) (project : ℕ) → Numbered (9 ∷ smallestOrder) (budgetAnswer plan project)
@@ -101,7 +101,7 @@ unfolding slicesAnswer covers among
 slice-listed state row =
     andThen-numbered _ _ _ (wider _ (9 ∷ stateOrder) _ refl (state-listed state)) (λ g. slice-numbers (stateFrom state) (length row))
 
--- ---- and what the four macros read
+-- ---- and what the five macros read
 
 counted : (a : Answer) (n : ℕ) → (a ≡ Good → n < 65536) → ifGood a n 0 < 65536
 counted Good n h = h refl

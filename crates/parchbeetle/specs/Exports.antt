@@ -1,8 +1,9 @@
 -- What each exported function answers, and what the lent buffers hold then.
 -- Assumes nothing.
-use Prim.Native.Nat.{ℕ}
-use mathlib.Core.Bool.{not}
+use Prim.Native.Nat.{ℕ, _-_}
+use mathlib.Core.Bool.{cond, not}
 use mathlib.Core.List.{List, _++_}
+use lib.Dec.{ltb}
 use lib.ListN.{length, drop, getD}
 use Rattle.laws.specs.Written.{written}
 use Rattle.answer.specs.declared.Answer.{Answer}
@@ -59,17 +60,19 @@ slotsAnswer plan out = room plan planSize andThen tableAnswer (planFrom plan) (l
 abbrev pub WritesSlots : List ℕ → List ℕ → ℕ → List ℕ → Type 0
 WritesSlots plan out r after = Outcome (slotsAnswer plan out) (tableLength (planFrom plan)) (tableOver (planFrom plan) out) out r after
 
--- `parchbeetle_verdict`: 9 for the image, the record order, 8, then 9 for the lent k
+-- `parchbeetle_verdict`: 9 for the image, the record order, 8, then 9 for the lent buffer
 unfoldable pub verdictAnswer : List ℕ → List ℕ → Answer
-verdictAnswer plan k = room plan planSize andThen (judged (planFrom plan) .answer andThen room k 16)
+verdictAnswer plan k = room plan planSize andThen (judged (planFrom plan) .answer andThen room k 32)
 
--- a verdict's k for kind i
-abbrev pub widthAt : List ℕ → ℕ → ℕ
-widthAt width i = getD width i 0
+-- a verdict's bytes: the k of each kind, and then the slice of each k
+abbrev pub verdictByte : List ℕ → List ℕ → ℕ → ℕ
+verdictByte width slice at = cond (ltb at 16) (getD width at 0) (getD slice (at - 16) 0)
 
--- each kind's k, a byte each
+-- each kind's k and slice, a byte each
 abbrev pub Judges : List ℕ → List ℕ → ℕ → List ℕ → Type 0
-Judges plan k r after = Outcome (verdictAnswer plan k) 0 (written 16 (widthAt (judged (planFrom plan) .width)) k) k r after
+Judges plan k r after =
+    let v = judged (planFrom plan) in
+    Outcome (verdictAnswer plan k) 0 (written 32 (verdictByte (v .width) (v .slice)) k) k r after
 
 -- `parchbeetle_smallest_budget`: 9 for the image, then as the smallest budget answers
 unfoldable pub budgetAnswer : List ℕ → ℕ → Answer

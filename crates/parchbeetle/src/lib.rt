@@ -1,11 +1,11 @@
 // The functions that another language calls, on numbers and byte slices. A plan and a state cross
 // as images in lent buffers, and every function answers one number.
 ghost use mathlib.Core.Path.{_≡_};
-ghost use Prim.Native.Nat.{_≤_, min};
+ghost use Prim.Native.Nat.{_≤_, _<_, min};
 ghost use lib.ListN.{length};
 ghost use Rattle.laws.specs.Written.{written};
 ghost use Rattle.answer.specs.Word.{told};
-ghost use Rattle.parchbeetle.specs.Exports.{checkAnswer, Reads, WritesBytes, WritesSlots, widthAt, Judges, budgetTold};
+ghost use Rattle.parchbeetle.specs.Exports.{checkAnswer, Reads, WritesBytes, WritesSlots, verdictByte, Judges, budgetTold};
 ghost use Rattle.parchbeetle.specs.Exports.{Starts, Releases, Slices};
 use answer::Answer;
 use plan::Plan;
@@ -76,16 +76,30 @@ pub extern "C" fn parchbeetle_slot_table(plan: &[u8], out: &mut [u8]) -> u64
     answer.told(slots)
 }
 
-fn put_widths(width: [u8; Plan::KINDS], k: &mut [u8])
-    requires { ⌜ 16 ≤ length (now k) ⌝ }
-    ensures { λ _. ⌜ now (k .exit) ≡ written 16 (widthAt width) (now (k .entry)) ⌝ }
+// The bytes of a verdict.
+const VERDICT: usize = 32;
+
+fn verdict_byte(width: [u8; Plan::KINDS], slice: [u8; Plan::KINDS], at: usize) -> u8
+    requires { ⌜ at < 32 ⌝ }
+    ensures { λ r. ⌜ r ≡ verdictByte width slice at ⌝ }
 {
-    for i in 0..Plan::KINDS {
-        k[i] = width[i];
+    if at < Plan::KINDS {
+        return width[at];
+    }
+    slice[at - Plan::KINDS]
+}
+
+fn put_verdict(width: [u8; Plan::KINDS], slice: [u8; Plan::KINDS], k: &mut [u8])
+    requires { ⌜ 32 ≤ length (now k) ⌝ }
+    ensures { λ _. ⌜ now (k .exit) ≡ written 32 (verdictByte width slice) (now (k .entry)) ⌝ }
+{
+    for i in 0..VERDICT {
+        k[i] = verdict_byte(width, slice, i);
     }
 }
 
-// The verdict on an image's plan: document 01's k for each kind, a byte each.
+// The verdict on an image's plan: document 01's k for each kind, a byte each, and then the bad
+// slice of each k.
 #[no_mangle]
 pub extern "C" fn parchbeetle_verdict(plan: &[u8], k: &mut [u8]) -> u64
     ensures { λ r. ⌜ Judges (now (plan .entry)) (now (k .entry)) r (now (k .exit)) ⌝ }
@@ -100,11 +114,12 @@ pub extern "C" fn parchbeetle_verdict(plan: &[u8], k: &mut [u8]) -> u64
     let Answer::Good = answer else {
         return answer.told(0);
     };
-    if k.len() < Plan::KINDS {
+    if k.len() < VERDICT {
         return Answer::bare(9).told(0);
     }
     let width = verdict.width;
-    put_widths(width, k);
+    let slice = verdict.slice;
+    put_verdict(width, slice, k);
     answer.told(0)
 }
 

@@ -4,6 +4,7 @@
 pub mod Turning
 pub mod Staying
 pub mod Rotation
+pub mod Flat
 pub mod Growth
 pub mod Smallest
 pub mod Steps

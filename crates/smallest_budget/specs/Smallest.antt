@@ -12,7 +12,7 @@ use Rattle.plan.specs.Order.{projectOf, kindOf, budgetsFit}
 use Rattle.plan.specs.Open.{withBudget, checkedOpen}
 use Rattle.layout.specs.Cards.{heldFrom}
 use Rattle.layout.specs.Layout.{firstCell}
-use Rattle.supply.specs.Fit.{leastWidth, leastExcess}
+use Rattle.supply.specs.Fit.{leastWidth, leastExcess, namedSlice}
 use Rattle.workload.specs.Workload.{workload}
 use Rattle.smallest_budget.specs.declared.Smallest.{Smallest}
 pub mod Properties
@@ -36,6 +36,11 @@ module _ (p : Plan) (j : ℕ) where
   excessWith b i =
       leastExcess (p .frame) (heldWith b) (kindOf p i .length) (workload p i) (kindOf p i .deadline) (projectOf p j .ceiling)
 
+  -- "every .. excess should pass that slice on", of a budget of b laid from cell 0 on: at qF every first cell has the same cards
+  unfoldable pub sliceWith : ℕ → ℕ → ℕ
+  sliceWith b i =
+      namedSlice (p .frame) (heldFrom 0 b (p .frame)) (kindOf p i .length) (workload p i) (kindOf p i .deadline) (projectOf p j .ceiling)
+
   -- whether kind i has no k with a budget of b, and is one of project j's
   abbrev pub lacks : ℕ → ℕ → Bool
   lacks b i = its i && eqb (widthWith b i) 0
@@ -54,9 +59,9 @@ module _ (p : Plan) (j : ℕ) where
 
   -- 8 with a budget of b, for kind i
   abbrev pub fittedWith : ℕ → ℕ → Answer
-  fittedWith b i = refuse (lacks b i) (notAdmitted i (excessWith b i))
+  fittedWith b i = refuse (lacks b i) (notAdmitted i (excessWith b i) (sliceWith b i))
 
-  -- 8 with a budget of b, at the first of the project's kinds that has no k, with its excess
+  -- 8 with a budget of b, at the first of the project's kinds that has no k, with its excess and slice
   unfoldable pub servedWith : ℕ → Answer
   servedWith b = eachTo (p .kinds) (fittedWith b)
 

@@ -10,7 +10,7 @@ use Rattle.plan.specs.Open.{InOrderOpen}
 use Rattle.layout.specs.Cards.{heldFrom}
 use Rattle.supply.specs.declared.Fit.{Fit}
 use Rattle.workload.specs.Workload.{workload}
-use Rattle.smallest_budget.specs.Smallest.{widthWith, excessWith}
+use Rattle.smallest_budget.specs.Smallest.{widthWith, excessWith, sliceWith}
 pub mod Properties
 
 -- the cards that a budget from cell 0 on holds at each slice of the frame
@@ -25,6 +25,6 @@ workloadsOf p = written (p .kinds) (workload p) (replicate 16 0)
 abbrev pub Known : Plan → ℕ → List ℕ → Type 0
 Known p j workloads = InOrderOpen p j × (workloads ≡ workloadsOf p)
 
--- the k and the excess of kind i with a budget of b
+-- the k, the excess and the bad slice of kind i with a budget of b
 abbrev pub fitWith : Plan → ℕ → ℕ → ℕ → Fit
-fitWith p j b i = record { width = widthWith p j b i; excess = excessWith p j b i }
+fitWith p j b i = record { width = widthWith p j b i; excess = excessWith p j b i; slice = sliceWith p j b i }

@@ -81,7 +81,7 @@ fn served_with(plan: Plan, project: u8, workloads: &[u32; Plan::KINDS], budget: 
             kind.deadline,
         );
         if fit.width == 0 {
-            return Answer::not_admitted(i, fit.excess as u32);
+            return Answer::not_admitted(i, fit.excess as u32, fit.slice);
         }
     }
     Answer::Good

@@ -1,5 +1,6 @@
 // The supply of a project, what its other kinds add to the workload, and the least k at which a
-// unit fits. Document 01, "Supply and verdict". Every argument is answered.
+// unit fits, with the bad slice to arrive in. Document 01, "Supply and verdict". Every argument is
+// answered.
 ghost use mathlib.Core.Path.{_≡_};
 ghost use Prim.Native.Nat.{_+_, _*_, _≤_, _<_, min};
 ghost use lib.ListN.{replicate};
@@ -8,15 +9,23 @@ ghost use Rattle.supply.specs.Workload.{workloadPart};
 ghost use Rattle.supply.specs.Fit.{heldAt, leastWith, fitOf};
 
 // The least k at which a unit fits, or 0 where there is none, and then the excess. Document 01's
-// k is a width here: the most cards that count at one slice.
+// k is a width here: the most cards that count at one slice. The slice is the bad one to arrive in,
+// for that k or for the one that the excess names.
 pub struct Fit {
     pub width: u8,
     pub excess: u64,
+    pub slice: u8,
 }
 
 impl Fit {
     // The most slices of a frame.
     pub const FRAME: u8 = 64;
+}
+
+// The least of the values so far, and the slice that stands beside it.
+struct Least {
+    value: usize,
+    slice: u8,
 }
 
 fn lesser(a: usize, b: usize) -> usize
@@ -57,14 +66,18 @@ fn counted(width: u8, cards: u8) -> u16
     lesser(width as usize, cards as usize) as u16
 }
 
-// The least so far, with the value at this place. At place 0 that value is it.
-fn least_with(place: usize, least: usize, value: usize) -> usize
-    ensures { λ r. ⌜ (r ≡ leastWith place least value) × (r ≤ value) ⌝ }
+// The least so far, with the value at this place and its slice. At place 0 that value is it, and
+// later only a lesser one, so that the slice is that of the first place.
+fn least_with(place: usize, least: Least, value: usize, slice: u8) -> Least
+    ensures { λ r. ⌜ (r ≡ leastWith place least value slice) × (r .value ≤ value) ⌝ }
 {
     if place == 0 {
-        return value;
+        return Least { value, slice };
     }
-    lesser(least, value)
+    if value < least.value {
+        return Least { value, slice };
+    }
+    least
 }
 
 // "kCi + W"
@@ -104,12 +117,14 @@ pub fn least_fit(
         return Fit {
             width: 0,
             excess: 0,
+            slice: 0,
         };
     }
     if Fit::FRAME < frame {
         return Fit {
             width: 0,
             excess: 0,
+            slice: 0,
         };
     }
     let slices = frame as usize;
@@ -117,30 +132,34 @@ pub fn least_fit(
     let rest = (deadline as usize) % slices;
     let cards = two_frames(held, slices);
     let mut found: u8 = 0;
-    let mut excess: usize = 0;
+    let mut excess = Least { value: 0, slice: 0 };
     'widths: for below in 0..ceiling {
         let width = below + 1;
         let mut one_frame: u16 = 0;
-        let mut least: usize = 0;
+        let mut least = Least { value: 0, slice: 0 };
         for start in 0..slices {
             let mut sum: u16 = 0;
             for x in 0..rest {
                 sum += counted(width, cards[start + x]);
             }
-            least = least_with(start, least, sum as usize);
+            least = least_with(start, least, sum as usize, start as u8);
             one_frame += counted(width, cards[start]);
         }
-        let supply = product(frames, one_frame as usize) + least;
+        let supply = product(frames, one_frame as usize) + least.value;
         let asked = asked(width, length, workload);
         if asked <= supply {
             found = width;
-            excess = 0;
+            excess = Least {
+                value: 0,
+                slice: least.slice,
+            };
             break 'widths;
         }
-        excess = least_with(below as usize, excess, asked - supply);
+        excess = least_with(below as usize, excess, asked - supply, least.slice);
     }
     Fit {
         width: found,
-        excess: excess as u64,
+        excess: excess.value as u64,
+        slice: excess.slice,
     }
 }

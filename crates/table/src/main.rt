@@ -86,15 +86,22 @@ fn one_project(frame: u8, budget: u16, first: Kind, second: Kind, third: Kind) -
     three_kinds(plan, first, second, third)
 }
 
-// A verdict's number, place and excess, and the sixteen k.
+// A verdict's number, place and excess, and the sixteen k; and the slice beside the excess, and
+// those beside the k.
 fn verdict(case: &[u8], plan: Plan) {
     let verdict = verdict::judge(plan);
     let answer = verdict.answer;
     let width = verdict.width;
+    let slice = verdict.slice;
     io::write_all(1, case);
     print_answer(answer);
     io::write_all(1, b" k");
     print_decimals(&width);
+    io::write_all(1, case);
+    io::write_all(1, b" slice");
+    space(answer.slice() as u64);
+    io::write_all(1, b" k");
+    print_decimals(&slice);
 }
 
 // A smallest budget's number, place and excess, and the budget.
@@ -115,6 +122,12 @@ fn supply(held: [u8; 64], k: u8, length: u16) {
     if fit.excess <= 1000 {
         space(1000 - fit.excess);
     }
+}
+
+// The bad slice of one card and a length.
+fn bad_slice(held: [u8; 64], length: u16) {
+    let fit = supply::least_fit(held, 4, 1, 0, 1000, length);
+    space(fit.slice as u64);
 }
 
 // 1 where a slot holds that project's number plus 1, and else 0.
@@ -160,6 +173,13 @@ fn supplies_of_a(slots: [u8; 8]) {
     supply(one, 1, 3);
     supply(one, 1, 4);
     supply(one, 1, 8);
+    end_line();
+    io::write_all(1, b"P3 slices");
+    bad_slice(one, 0);
+    bad_slice(one, 1);
+    bad_slice(one, 3);
+    bad_slice(one, 4);
+    bad_slice(one, 8);
     end_line();
     let two = held(slots, 2);
     io::write_all(1, b"P4");

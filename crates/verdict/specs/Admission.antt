@@ -1,11 +1,13 @@
--- Document 01, "Supply and verdict", as statements: what admitting a plan, giving a k and refusing with 8 mean.
+-- Document 01, "Supply and verdict", as statements: what admitting a plan, giving a k and refusing with 8 mean. And document 02's (ii):
+-- which slice is the bad one to arrive in.
 -- Assumes nothing.
 use mathlib.Core.Path.{_≡_}
 use Prim.Native.Nat.{ℕ, _+_, _*_, _≤_, _<_}
 use Rattle.plan.specs.declared.Plan.{Plan}
 use Rattle.plan.specs.Order.{kindOf}
+use Rattle.supply.specs.Supply.{window}
 use Rattle.workload.specs.Workload.{workload}
-use Rattle.verdict.specs.Verdict.{ceilingOn, supplyOn}
+use Rattle.verdict.specs.Verdict.{ceilingOn, heldOn, supplyOn}
 pub mod Properties
 
 -- "kCi + W"
@@ -37,3 +39,21 @@ pub record NotAdmitted (p : Plan) (i x : ℕ) : Type 0 where
   pub first : (j : ℕ) → j < i → (k : ℕ) × Fits p j k
   pub no-width : (k : ℕ) → Fits p i k → ⊥
   pub excess : Excess p i x
+
+-- "the sum over x = 0..t-1 of min(k, h(a+x))": what a unit of kind i that arrives at slice a has until its deadline
+abbrev pub seen : Plan → ℕ → ℕ → ℕ → ℕ
+seen p i k a = window k (heldOn p i) a (kindOf p i .deadline)
+
+-- "The supply figure should come with the earliest starting slice that attains it": slice a, with S(k,Di)
+pub record BadSlice (p : Plan) (i k a : ℕ) : Type 0 where
+  pub in-frame : a < p .frame
+  pub attained : seen p i k a ≡ given p i k
+  -- every earlier start sees more, and every start as much
+  pub earliest : (b : ℕ) → b < a → given p i k < seen p i k b
+  pub least : (b : ℕ) → given p i k ≤ seen p i k b
+
+-- "for the k it names (the least k on equal excess)": the excess x of kind i names k
+pub record Names (p : Plan) (i x k : ℕ) : Type 0 where
+  pub width : Width p i k
+  pub its-excess : given p i k + x ≡ asked p i k
+  pub first : (j : ℕ) → 0 < j → j < k → given p i j + x < asked p i j

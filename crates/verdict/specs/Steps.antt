@@ -8,7 +8,7 @@ use Rattle.plan.specs.declared.Plan.{Plan}
 use Rattle.layout.specs.Layout.{held}
 use Rattle.layout.specs.Cards.{heldFrom}
 use Rattle.supply.specs.declared.Fit.{Fit}
-use Rattle.verdict.specs.Verdict.{widthOf, excessOf}
+use Rattle.verdict.specs.Verdict.{widthOf, excessOf, badSliceOf}
 pub mod Properties
 
 -- the cards that a run of cells holds at each slice of the frame
@@ -23,6 +23,6 @@ projectCards p j = written (p .frame) (held p j) (replicate 64 0)
 unfoldable pub allCards : Plan → List (List ℕ)
 allCards p = written (p .projects) (projectCards p) (replicate 8 (replicate 64 0))
 
--- the k and the excess of kind i
+-- the k, the excess and the bad slice of kind i
 abbrev pub fitOn : Plan → ℕ → Fit
-fitOn p i = record { width = widthOf p i; excess = excessOf p i }
+fitOn p i = record { width = widthOf p i; excess = excessOf p i; slice = badSliceOf p i }

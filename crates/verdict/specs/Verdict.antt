@@ -11,7 +11,7 @@ use Rattle.answer.specs.Answer.{notAdmitted, refuse, _andThen_, eachTo, ifGood}
 use Rattle.plan.specs.Order.{projectOf, kindOf, checked}
 use Rattle.layout.specs.Layout.{held}
 use Rattle.supply.specs.Supply.{supply}
-use Rattle.supply.specs.Fit.{leastWidth, leastExcess}
+use Rattle.supply.specs.Fit.{leastWidth, leastExcess, namedSlice}
 use Rattle.workload.specs.Workload.{workload}
 use Rattle.verdict.specs.declared.Verdict.{Verdict}
 
@@ -39,9 +39,13 @@ widthOf p i = leastWidth (p .frame) (heldOn p i) (kindOf p i .length) (workload 
 unfoldable pub excessOf : Plan → ℕ → ℕ
 excessOf p i = leastExcess (p .frame) (heldOn p i) (kindOf p i .length) (workload p i) (kindOf p i .deadline) (ceilingOn p i)
 
--- "If a kind has none, the plan is not admitted": 8 for a kind with no k, with its excess
+-- "every verdict and excess should pass that slice on for the k it names": the bad slice of kind i
+unfoldable pub badSliceOf : Plan → ℕ → ℕ
+badSliceOf p i = namedSlice (p .frame) (heldOn p i) (kindOf p i .length) (workload p i) (kindOf p i .deadline) (ceilingOn p i)
+
+-- "If a kind has none, the plan is not admitted": 8 for a kind with no k, with its excess and the slice of it
 unfoldable pub fitted : Plan → ℕ → Answer
-fitted p i = refuse (eqb (widthOf p i) 0) (notAdmitted i (excessOf p i))
+fitted p i = refuse (eqb (widthOf p i) 0) (notAdmitted i (excessOf p i) (badSliceOf p i))
 
 -- "8: not admitted", at the "first kind with no k"
 unfoldable pub admitted : Plan → Answer
@@ -51,9 +55,13 @@ admitted p = eachTo (p .kinds) (fitted p)
 abbrev pub widths : Plan → Answer → List ℕ
 widths p a = ifGood a (written (p .kinds) (widthOf p) (replicate 16 0)) (replicate 16 0)
 
--- an answer with the k of each kind beside it
+-- the slice of each k, "0 .. beside a k of 0"
+abbrev pub slices : Plan → Answer → List ℕ
+slices p a = ifGood a (written (p .kinds) (badSliceOf p) (replicate 16 0)) (replicate 16 0)
+
+-- an answer with the k of each kind beside it, and the slice of each k
 abbrev pub verdictOf : Plan → Answer → Verdict
-verdictOf p a = record { answer = a; width = widths p a }
+verdictOf p a = record { answer = a; width = widths p a; slice = slices p a }
 
 -- "Starting fresh and the verdict add 8" to the record order
 unfoldable pub judged : Plan → Verdict

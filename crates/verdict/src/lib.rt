@@ -12,10 +12,12 @@ use plan::Plan;
 use supply::Fit;
 
 // The answer, and beside it document 01's k for each kind: the most cards that count at one
-// slice, hence a width. Places beyond the kinds hold 0, and on a refusal every place does.
+// slice, hence a width; and the bad slice to arrive in for that k. Places beyond the kinds hold 0,
+// and on a refusal every place does.
 pub struct Verdict {
     pub answer: Answer,
     pub width: [u8; Plan::KINDS],
+    pub slice: [u8; Plan::KINDS],
 }
 
 // The cards that a run of cells holds at each slice of the frame.
@@ -47,7 +49,7 @@ fn all_cards(plan: Plan) -> [[u8; Plan::FRAME]; Plan::PROJECTS]
     cards
 }
 
-// The k and the excess of a kind, from the cards that its project holds.
+// The k, the excess and the bad slice of a kind, from the cards that its project holds.
 fn fit_on(plan: Plan, cards: [u8; Plan::FRAME], i: u8) -> Fit
     requires { ⌜ (InOrder plan) × (i < plan .kinds) × (cards ≡ projectCards plan (kindOf plan i .project)) ⌝ }
     ensures { λ r. ⌜ r ≡ fitOn plan i ⌝ }
@@ -67,11 +69,11 @@ fn fit_on(plan: Plan, cards: [u8; Plan::FRAME], i: u8) -> Fit
 
 // 8 for a kind with no k.
 fn told(fit: Fit, place: u8) -> Answer
-    requires { ⌜ fit .excess ≤ 4294967295 ⌝ }
-    ensures { λ r. ⌜ r ≡ refuse (eqb (fit .width) 0) (notAdmitted place (fit .excess)) ⌝ }
+    requires { ⌜ fit .excess ≤ 16777215 ⌝ }
+    ensures { λ r. ⌜ r ≡ refuse (eqb (fit .width) 0) (notAdmitted place (fit .excess) (fit .slice)) ⌝ }
 {
     if fit.width == 0 {
-        return Answer::not_admitted(place, fit.excess as u32);
+        return Answer::not_admitted(place, fit.excess as u32, fit.slice);
     }
     Answer::Good
 }
@@ -83,6 +85,7 @@ fn fits(plan: Plan) -> Verdict
 {
     let cards = all_cards(plan);
     let mut width = [0u8; Plan::KINDS];
+    let mut slice = [0u8; Plan::KINDS];
     for i in 0..plan.kinds {
         let project = plan.kind[i as usize].project as usize;
         let fit = fit_on(plan, cards[project], i);
@@ -91,17 +94,20 @@ fn fits(plan: Plan) -> Verdict
             return Verdict {
                 answer,
                 width: [0u8; Plan::KINDS],
+                slice: [0u8; Plan::KINDS],
             };
         };
         width[i as usize] = fit.width;
+        slice[i as usize] = fit.slice;
     }
     Verdict {
         answer: Answer::Good,
         width,
+        slice,
     }
 }
 
-// Whether a plan is admitted, and with which k for each kind.
+// Whether a plan is admitted, and with which k and bad slice for each kind.
 pub fn judge(plan: Plan) -> Verdict
     ensures { λ r. ⌜ r ≡ judged plan ⌝ }
 {
@@ -110,6 +116,7 @@ pub fn judge(plan: Plan) -> Verdict
         return Verdict {
             answer: order,
             width: [0u8; Plan::KINDS],
+            slice: [0u8; Plan::KINDS],
         };
     };
     fits(plan)

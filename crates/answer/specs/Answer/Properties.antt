@@ -12,7 +12,8 @@ use Rattle.laws.specs.Loops.{stop}
 use Rattle.answer.specs.declared.Answer.{Answer}
 use Rattle.answer.specs.declared.Answer.the-variants.{Good, No}
 use Rattle.answer.specs.declared.Refusal.{Refusal}
-use Rattle.answer.specs.Answer.{_andThen_, eachTo, refuse}
+use Rattle.answer.specs.declared.Refusal.the-variants.{ByKind}
+use Rattle.answer.specs.Answer.{number, place, excess, slice, _andThen_, eachTo, refuse}
 
 -- ---- a stage that is good hands on to the next; one that is not is the answer
 
@@ -116,3 +117,18 @@ pub each-of : (n : ℕ) (f : ℕ → Answer) → ((i : ℕ) → i < n → f i �
 unfolding eachTo
 each-of zero f h = refl
 each-of (suc n) f h = rw (each-of n f (λ i l. h i (omega arith)), h n (omega arith))
+
+-- ---- the parts of a refusal by kind w that an answer a was opened to
+
+module _ (a : Answer) (w : Refusal) (n i x s : ℕ) (opened : a ≡ No w) (parts : w ≡ ByKind n i x s) where
+  pub kind-number : n ≡ number a
+  kind-number = rw (opened, parts)
+
+  pub kind-place : i ≡ place a
+  kind-place = rw (opened, parts)
+
+  pub kind-excess : x ≡ excess a
+  kind-excess = rw (opened, parts)
+
+  pub kind-slice : s ≡ slice a
+  kind-slice = rw (opened, parts)

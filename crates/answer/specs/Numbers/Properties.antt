@@ -57,6 +57,8 @@ module _ (listed : List ℕ) where
         place-most = omega arith;
         its-excess = λ e. refl;
         excess-most = omega arith;
+        its-slice = λ e. refl;
+        slice-most = omega arith;
       }
 
   pub bare-numbered : (n : ℕ) → n ≢ 0 → among listed n ≡ true → Numbered listed (bare n)
@@ -68,6 +70,8 @@ module _ (listed : List ℕ) where
         place-most = omega arith;
         its-excess = λ e. refl;
         excess-most = omega arith;
+        its-slice = λ e. refl;
+        slice-most = omega arith;
       }
 
   pub project-numbered : (n j : ℕ) → among placed n ≡ true → among listed n ≡ true → j < 16 → Numbered listed (atProject n j)
@@ -79,6 +83,8 @@ module _ (listed : List ℕ) where
         place-most = l;
         its-excess = λ e. refl;
         excess-most = omega arith;
+        its-slice = λ e. refl;
+        slice-most = omega arith;
       }
 
   pub kind-numbered : (n i : ℕ) → among placed n ≡ true → among listed n ≡ true → i < 16 → Numbered listed (atKind n i)
@@ -90,11 +96,13 @@ module _ (listed : List ℕ) where
         place-most = l;
         its-excess = λ e. refl;
         excess-most = omega arith;
+        its-slice = λ e. refl;
+        slice-most = omega arith;
       }
 
-  pub eight-numbered : (i x : ℕ) → among listed 8 ≡ true → i < 16 → x < 4294967296 → Numbered listed (notAdmitted i x)
+  pub eight-numbered : (i x a : ℕ) → among listed 8 ≡ true → i < 16 → x < 16777216 → a < 64 → Numbered listed (notAdmitted i x a)
   unfolding among
-  eight-numbered i x m l h =
+  eight-numbered i x a m l h s =
       record {
         good = (λ e. absurd (omega arith), λ e. absurd (is-good _ e));
         its-number = λ w e. m;
@@ -102,6 +110,8 @@ module _ (listed : List ℕ) where
         place-most = l;
         its-excess = λ e. absurd (e refl);
         excess-most = h;
+        its-slice = λ e. absurd (e refl);
+        slice-most = s;
       }
 
   -- ---- answers in an order
@@ -129,12 +139,20 @@ module _ (listed : List ℕ) where
         place-most = k .place-most;
         its-excess = k .its-excess;
         excess-most = k .excess-most;
+        its-slice = k .its-slice;
+        slice-most = k .slice-most;
       }
 
   -- ---- the word can hold it
 
   pub numbered-holds : (a : Answer) → small listed ≡ true → Numbered listed a → Holds a
-  numbered-holds a s k = record { number-most = most a k; place-most = omega (arith, k .place-most); excess-most = k .excess-most }
+  numbered-holds a s k =
+      record {
+        number-most = most a k;
+        place-most = omega (arith, k .place-most);
+        excess-most = k .excess-most;
+        slice-most = omega (arith, k .slice-most);
+      }
     where
       most : (b : Answer) → Numbered listed b → number b < 256
       most Good t = omega arith

@@ -14,15 +14,19 @@ use Rattle.laws.specs.All.Properties.{all-at, all-of}
 use Rattle.answer.specs.declared.Answer.{Answer}
 use Rattle.answer.specs.declared.Answer.the-variants.{Good, No}
 use Rattle.answer.specs.declared.Refusal.{Refusal}
-use Rattle.answer.specs.Answer.{bare, notAdmitted, number, place, excess, refuse, _andThen_}
+use Rattle.answer.specs.Answer.{bare, notAdmitted, number, place, excess, slice, refuse, _andThen_}
 use Rattle.answer.specs.Answer.Properties.{refuse-good}
 use Rattle.answer.specs.Numbers.{among, Numbered}
 use Rattle.answer.specs.Numbers.Properties.{andThen-numbered}
 use Rattle.plan.specs.declared.Plan.{Plan}
-use Rattle.plan.specs.Order.{budgets, tidyProject, tidyKind, tidyProjects, tidyKinds, Sized, sizes, unused, kindsInRange}
+use Rattle.plan.specs.Order.{projectOf, budgets, tidyProject, tidyKind, tidyProjects, tidyKinds, Sized, sizes, unused, kindsInRange}
 use Rattle.plan.specs.Order.Properties.{sizes-says, sizes-of}
 use Rattle.plan.specs.Open.{withBudget, projectThere, projectsInRangeOpen, rangesOpen, checkedOpen, InOrderOpen}
-use Rattle.smallest_budget.specs.Smallest.{excessWith, mostBudget, leastBudget, smallestAnswer, smallestOf}
+use Rattle.layout.specs.Layout.{firstCell}
+use Rattle.supply.specs.Supply.{window, supply}
+use Rattle.smallest_budget.specs.Flat.{supply-flat}
+use Rattle.smallest_budget.specs.Smallest.Properties.{slice-at-most}
+use Rattle.smallest_budget.specs.Smallest.{heldWith, excessWith, sliceWith, mostBudget, leastBudget, smallestAnswer, smallestOf}
 use Rattle.demands.specs.Numbers.Stages.{sizes-numbers, unused-numbers, projects-open-numbers, kinds-numbers}
 use Rattle.demands.specs.OpenBudget.{Serves, Least, NotServed}
 use Rattle.demands.specs.OpenBudget.Told.{Lacking, width-gives, fits-gives, lacks-not, serves-more, least-one, lacking-serves}
@@ -106,7 +110,8 @@ eight-says p j i x =
     told p j (λ a. Eight a i x → (InOrderOpen p j) × (NotServed p j i x)) (λ r e t. absurd (order-not p j r 8 refl e (t .0))) here
     (λ o y l t. absurd (omega (arith, t .0))) (λ o y l t. absurd (omega (arith, t .0)))
   where
-    here : (h : ℕ) → InOrderOpen p j → Lacking p j h → Eight (notAdmitted h (excessWith p j (mostBudget p j) h)) i x →
+    here : (h : ℕ) → InOrderOpen p j → Lacking p j h →
+        Eight (notAdmitted h (excessWith p j (mostBudget p j) h) (sliceWith p j (mostBudget p j) h)) i x →
         (InOrderOpen p j) × (NotServed p j i x)
     here h o y t =
         let a : h ≡ i = t .1 in
@@ -148,10 +153,25 @@ eight-of p j i x t =
           | no l ↦ elim (decLt i h) [ yes m ↦ absurd (higher h y m) | no m ↦ omega arith ]
         ]
 
-    here : (h : ℕ) → InOrderOpen p j → Lacking p j h → Eight (notAdmitted h (excessWith p j most h)) i x
+    here : (h : ℕ) → InOrderOpen p j → Lacking p j h → Eight (notAdmitted h (excessWith p j most h) (sliceWith p j most h)) i x
     here h o y =
         let e = same h y in
         (refl, e, ap (excessWith p j most) e ∙ excess-one p j i (excessWith p j most i) x (rw e at (lacking-told p j h o y)) (t .1))
+
+-- the slice beside it is 0
+pub eight-slice : (p : Plan) (j : ℕ) → number (smallestOf p j .answer) ≡ 8 → slice (smallestOf p j .answer) ≡ 0
+unfolding among
+eight-slice p j =
+    told p j (λ a. number a ≡ 8 → slice a ≡ 0) (λ r e t. absurd (order-not p j r 8 refl e t))
+    (λ i o x t. slice-at-most p j i (o .counts .some-slice)) (λ o y l t. absurd (omega arith)) (λ o y l t. absurd (omega arith))
+
+-- since every start sees the supply there
+pub eight-starts : (p : Plan) (j : ℕ) → number (smallestOf p j .answer) ≡ 8 → (k a t : ℕ) →
+    let h = heldWith p j (mostBudget p j) in
+    window k h a t ≡ supply (p .frame) h k t
+eight-starts p j e =
+    let o = none-says p j e .0 in
+    supply-flat (firstCell p j) (projectOf p j .ceiling) (p .frame) (o .counts .some-slice)
 
 -- ---- 27
 

@@ -22,13 +22,14 @@ use Rattle.plan.specs.Order.{projectOf, kindOf, budgets}
 use Rattle.plan.specs.Order.{budgetsFit}
 use Rattle.plan.specs.Open.{withBudget, checkedOpen, InOrderOpen}
 use Rattle.plan.specs.Open.Properties.{open-order, open-order-good}
+use Rattle.supply.specs.Fit.{excessWidth}
 use Rattle.supply.specs.Fit.Properties.{width-most, width-fits, width-some, width-none, excess-most, excess-attained}
 use Rattle.workload.specs.Workload.{workload}
 use Rattle.verdict.specs.Verdict.{ceilingOn}
 use Rattle.verdict.specs.Admission.{asked, Width}
 use Rattle.verdict.specs.Admission.Properties.{each-no}
-use Rattle.smallest_budget.specs.Smallest.{its, heldWith, widthWith, excessWith, lacks, serves, mostBudget, leastBudget, fittedWith}
-use Rattle.smallest_budget.specs.Smallest.{servedWith, servedAtMost, sumFits, smallestAnswer, smallestOf}
+use Rattle.smallest_budget.specs.Smallest.{its, heldWith, widthWith, excessWith, sliceWith, lacks, serves, mostBudget, leastBudget}
+use Rattle.smallest_budget.specs.Smallest.{fittedWith, servedWith, servedAtMost, sumFits, smallestAnswer, smallestOf}
 use Rattle.smallest_budget.specs.Smallest.Properties.{served-serves, least-most}
 use Rattle.smallest_budget.specs.Steps.Properties.{most-some}
 use Rattle.demands.specs.Numbers.{openOrder, check-open-numbers}
@@ -85,10 +86,11 @@ module _ (p : Plan) (j b i : ℕ) where
       let W = workload p i in
       let D = kindOf p i .deadline in
       let q = projectOf p j .ceiling in
+      let k = excessWidth (p .frame) (heldWith p j b) C W D q in
       let t = excess-attained (p .frame) (heldWith p j b) C W D q some in (
-        t .0,
-        record { some = t .1; most = omega (arith, ceiling-own own, t .2) },
-        omega (arith, t .3, width-none (p .frame) (heldWith p j b) C W D q (t .0) none (t .1) (t .2)),
+        k,
+        record { some = t .0; most = omega (arith, ceiling-own own, t .1) },
+        omega (arith, t .2, width-none (p .frame) (heldWith p j b) C W D q k none (t .0) (t .1)),
       )
 
   pub lacks-not : lacks p j b i ≡ false → kindOf p i .project ≡ j → 0 < widthWith p j b i
@@ -157,11 +159,12 @@ module _ (p : Plan) (j : ℕ) where
     pub before : (h : ℕ) → h < i → lacks p j (mostBudget p j) h ≡ false
 
   lacking : (r : Refusal) → servedWith p j (mostBudget p j) ≡ No r →
-      (i : ℕ) × (Lacking i) × (notAdmitted i (excessWith p j (mostBudget p j) i) ≡ No r)
+      (i : ℕ) × (Lacking i) × (notAdmitted i (excessWith p j (mostBudget p j) i) (sliceWith p j (mostBudget p j) i) ≡ No r)
   unfolding servedWith
   lacking r e =
       let t = each-no (p .kinds) (fittedWith p j (mostBudget p j)) r e in
-      let s = told (lacks p j (mostBudget p j) (t .0)) (notAdmitted (t .0) (excessWith p j (mostBudget p j) (t .0))) (t .2) in (
+      let most = mostBudget p j in
+      let s = told (lacks p j most (t .0)) (notAdmitted (t .0) (excessWith p j most (t .0)) (sliceWith p j most (t .0))) (t .2) in (
         t .0,
         record {
           its-kind = t .1;
@@ -200,7 +203,8 @@ module _ (p : Plan) (j : ℕ) where
   sum = budgets (withBudget p j (leastBudget p j))
 
   module _ (P : Answer → Type 0) (order : (r : Refusal) → checkedOpen p j ≡ No r → P (No r))
-      (eight : (i : ℕ) → InOrderOpen p j → Lacking i → P (notAdmitted i (excessWith p j (mostBudget p j) i)))
+      (eight : (i : ℕ) → InOrderOpen p j → Lacking i →
+      P (notAdmitted i (excessWith p j (mostBudget p j) i) (sliceWith p j (mostBudget p j) i)))
       (seven : InOrderOpen p j → Least p j (leastBudget p j) → p .cards * p .frame < sum → P (bare 7))
       (good : InOrderOpen p j → Least p j (leastBudget p j) → sum ≤ p .cards * p .frame → P Good)
     where

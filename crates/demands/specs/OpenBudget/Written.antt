@@ -26,11 +26,11 @@ use Rattle.layout.specs.Cards.{heldFrom}
 use Rattle.layout.specs.Layout.{firstCell}
 use Rattle.layout.specs.Layout.Properties.{held-from}
 use Rattle.supply.specs.Supply.{supply}
-use Rattle.supply.specs.Fit.{leastWidth, leastExcess}
+use Rattle.supply.specs.Fit.{leastWidth, leastExcess, namedSlice}
 use Rattle.workload.specs.Workload.{besides, partOf, workload}
 use Rattle.verdict.specs.Verdict.{projectOn}
 use Rattle.verdict.specs.Admission.{asked, given, Fits}
-use Rattle.smallest_budget.specs.Smallest.{its, widthWith, excessWith, serves, mostBudget, leastBudget, servedWith, sumFits}
+use Rattle.smallest_budget.specs.Smallest.{its, widthWith, excessWith, sliceWith, serves, mostBudget, leastBudget, servedWith, sumFits}
 use Rattle.smallest_budget.specs.Smallest.{smallestAnswer, smallestOf}
 use Rattle.smallest_budget.specs.Rotation.{supply-anywhere}
 use Rattle.smallest_budget.specs.Growth.{budget-grows}
@@ -246,6 +246,12 @@ module _ (p : Plan) (j b c i : ℕ) where
       λ t. leastExcess (p .frame) (heldFrom (first-kept p j b t) c (p .frame)) (kindOf p i .length) (workload-kept p j b i t)
       (kindOf p i .deadline) (ceiling-kept p j b j t)
 
+  slice-same : sliceWith (withBudget p j b) j c i ≡ sliceWith p j c i
+  unfolding sliceWith
+  slice-same =
+      λ t. namedSlice (p .frame) (heldFrom 0 c (p .frame)) (kindOf p i .length) (workload-kept p j b i t) (kindOf p i .deadline)
+      (ceiling-kept p j b j t)
+
 module _ (p : Plan) (j b : ℕ) where
   serves-same : (c : ℕ) → serves (withBudget p j b) j c ≡ serves p j c
   unfolding serves
@@ -255,7 +261,7 @@ module _ (p : Plan) (j b : ℕ) where
   unfolding servedWith
   served-same c =
       λ t. eachTo (p .kinds)
-      (λ i. refuse (its p j i && eqb (width-same p j b c i t) 0) (notAdmitted i (excess-same p j b c i t)))
+      (λ i. refuse (its p j i && eqb (width-same p j b c i t) 0) (notAdmitted i (excess-same p j b c i t) (slice-same p j b c i t)))
 
   most-same : mostBudget (withBudget p j b) j ≡ mostBudget p j
   most-same = ap (λ (q : ℕ). q * p .frame) (ceiling-kept p j b j)

@@ -16,7 +16,7 @@ use Rattle.laws.specs.Count.{countTo}
 use Rattle.laws.specs.All.{allTo}
 use Rattle.laws.specs.Written.{written}
 use Rattle.answer.specs.declared.Answer.the-variants.{Good}
-use Rattle.answer.specs.Answer.{number, place, excess, eachTo}
+use Rattle.answer.specs.Answer.{number, place, excess, slice, eachTo}
 use Rattle.answer.specs.Numbers.{among, placed}
 use Rattle.plan.specs.declared.Plan.{Plan}
 use Rattle.plan.specs.Record.{noProject, noKind}
@@ -35,12 +35,12 @@ use Rattle.workload.specs.Workload.{besides, partOf, workload}
 use Rattle.verdict.specs.Verdict.{judged}
 use Rattle.verdict.specs.Admission.{asked, given, Width, Fits}
 use Rattle.smallest_budget.specs.declared.Smallest.{Smallest}
-use Rattle.smallest_budget.specs.Smallest.{widthWith, excessWith, serves, leastBudget, servedWith, smallestAnswer, smallestOf}
+use Rattle.smallest_budget.specs.Smallest.{heldWith, widthWith, excessWith, serves, leastBudget, servedWith, smallestAnswer, smallestOf}
 use Rattle.demands.specs.Outcomes.{finding, finding-refused}
 use Rattle.demands.specs.Numbers.{check-open-numbers, smallest-numbers}
 use Rattle.demands.specs.OpenBudget.{givenWith, FitsWith, Serves, Least, NotServed}
 use Rattle.demands.specs.SmallestBudgets.{first-cell-moved, greater-budget, as-laid-out, greater-written, given-when}
-use Rattle.demands.specs.SmallestBudgets.{no-project-when, none-serves-when, not-served-when, too-large-when}
+use Rattle.demands.specs.SmallestBudgets.{no-project-when, none-serves-when, slice-at-most, not-served-when, too-large-when}
 use Rattle.demands.specs.SmallestBudgets.{written-in-order, all-fit, none-smaller, admitted-with-others}
 use Rattle.demands.specs.SmallestBudgets.{others-unmoved, stored-no-say, differ-there-alone}
 
@@ -230,6 +230,14 @@ pub not-with-three : Serves planA 1 3 → ⊥
 not-with-three s = omega (arith, given-when planA 1 4 .0 (good-one, is-four) .1 .least 3 (omega arith) s)
 
 -- ---- the refusals
+
+-- with all its eight cells the crowded project holds two cards at every slice: from slice 3 as from any other one card sees four in
+-- four slices, and no slice stands beside the excess
+pub four-from-three : window 1 (heldWith crowded 1 8) 3 4 ≡ 4
+four-from-three = slice-at-most crowded 1 (figures .eight .0) .1 1 3 4 ∙ figures .given-crowded 1 (omega arith) (omega arith)
+
+pub no-worse : slice (smallestOf crowded 1 .answer) ≡ 0
+no-worse = slice-at-most crowded 1 (figures .eight .0) .0
 
 -- plan A has projects 0 and 1
 pub no-third : number (smallestOf planA 2 .answer) ≡ 27

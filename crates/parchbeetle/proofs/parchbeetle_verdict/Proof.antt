@@ -47,8 +47,8 @@ told-requires-3 c κs = search needs
 returns-3 : tie.Need-returns-3
 returns-3 c = search judge-short
 
-put-widths-requires : tie.Need-put-widths-requires
-put-widths-requires c κs = search needs
+put-verdict-requires : tie.Need-put-verdict-requires
+put-verdict-requires c κs = search needs
 
 told-requires-4 : tie.Need-told-requires-4
 told-requires-4 c κs = search needs
@@ -76,7 +76,7 @@ parchbeetle-verdict-spec =
     bare-requires
     told-requires-3
     returns-3
-    put-widths-requires
+    put-verdict-requires
     told-requires-4
     same-length
     returns-4)

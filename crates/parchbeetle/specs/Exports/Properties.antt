@@ -52,7 +52,7 @@ use Rattle.images.specs.Lent.Properties.{state-on}
 use Rattle.answer.specs.Word.{told}
 use Rattle.parchbeetle.specs.Outcome.Properties.{refused-outcome, good-outcome, stored-outcome, uncounted}
 use Rattle.parchbeetle.specs.Exports.{checkAnswer, readsAnswer, Reads, writesAnswer, WritesBytes, slotsAnswer, WritesSlots}
-use Rattle.parchbeetle.specs.Exports.{verdictAnswer, widthAt, Judges, budgetAnswer, budgetTold, freshAnswer, Starts, stateAnswer}
+use Rattle.parchbeetle.specs.Exports.{verdictAnswer, verdictByte, Judges, budgetAnswer, budgetTold, freshAnswer, Starts, stateAnswer}
 use Rattle.parchbeetle.specs.Exports.{releasesAnswer, Releases, slicesAnswer, Slices}
 
 -- ---- `parchbeetle_check`
@@ -166,35 +166,35 @@ judge-is : (plan : List ℕ) (f : PlanFound) (v : Verdict) → f ≡ planFound p
 judge-is plan f v e g h = h ∙ ap judged (plan-is plan f e g)
 
 judge-stage : (plan k : List ℕ) (f : PlanFound) (x : Answer) → f ≡ planFound plan → f .answer ≡ Good →
-    x ≡ (judged (planFrom plan) .answer andThen room k 16) → x ≡ verdictAnswer plan k
+    x ≡ (judged (planFrom plan) .answer andThen room k 32) → x ≡ verdictAnswer plan k
 unfolding verdictAnswer
-judge-stage plan k f x e g h = plan-on plan f (judged (planFrom plan) .answer andThen room k 16) x e g h
+judge-stage plan k f x e g h = plan-on plan f (judged (planFrom plan) .answer andThen room k 32) x e g h
 
 pub judge-refused : (plan k : List ℕ) (f : PlanFound) (v : Verdict) (w : Refusal) (r : ℕ) → f ≡ planFound plan → f .answer ≡ Good →
     v ≡ judged (f .plan) → v .answer ≡ No w → r ≡ told (v .answer) 0 → Judges plan k r k
 judge-refused plan k f v w r e g h n t =
     refused-outcome (verdictAnswer plan k) (v .answer) w _ _ k r n t
     (judge-stage plan k f (v .answer) e g
-    (opened-no (v .answer) (judged (planFrom plan) .answer) (room k 16) w n (ap (λ (x : Verdict). x .answer) (judge-is plan f v e g h))))
+    (opened-no (v .answer) (judged (planFrom plan) .answer) (room k 32) w n (ap (λ (x : Verdict). x .answer) (judge-is plan f v e g h))))
 
 judge-room : (plan k : List ℕ) (f : PlanFound) (v : Verdict) (x : Answer) → f ≡ planFound plan → f .answer ≡ Good → v ≡ judged (f .plan) →
-    v .answer ≡ Good → x ≡ room k 16 → x ≡ verdictAnswer plan k
+    v .answer ≡ Good → x ≡ room k 32 → x ≡ verdictAnswer plan k
 judge-room plan k f v x e g h n m =
     judge-stage plan k f x e g
-    (opened-on (v .answer) (judged (planFrom plan) .answer) (room k 16) x n (ap (λ (y : Verdict). y .answer) (judge-is plan f v e g h)) m)
+    (opened-on (v .answer) (judged (planFrom plan) .answer) (room k 32) x n (ap (λ (y : Verdict). y .answer) (judge-is plan f v e g h)) m)
 
 pub judge-short : (plan k : List ℕ) (f : PlanFound) (v : Verdict) (x : Answer) (r : ℕ) → f ≡ planFound plan → f .answer ≡ Good →
-    v ≡ judged (f .plan) → v .answer ≡ Good → x ≡ bare 9 → length k < 16 → r ≡ told x 0 → Judges plan k r k
+    v ≡ judged (f .plan) → v .answer ≡ Good → x ≡ bare 9 → length k < 32 → r ≡ told x 0 → Judges plan k r k
 judge-short plan k f v x r e g h n b l t =
-    refused-outcome (verdictAnswer plan k) x _ _ _ k r b t (judge-room plan k f v x e g h n (short-room k 16 x b l))
+    refused-outcome (verdictAnswer plan k) x _ _ _ k r b t (judge-room plan k f v x e g h n (short-room k 32 x b l))
 
 pub judge-good : (plan k after : List ℕ) (f : PlanFound) (v : Verdict) (r : ℕ) → f ≡ planFound plan → f .answer ≡ Good →
-    v ≡ judged (f .plan) → v .answer ≡ Good → 16 ≤ length k → after ≡ written 16 (widthAt (v .width)) k → r ≡ told (v .answer) 0 →
-    Judges plan k r after
+    v ≡ judged (f .plan) → v .answer ≡ Good → 32 ≤ length k → after ≡ written 32 (verdictByte (v .width) (v .slice)) k →
+    r ≡ told (v .answer) 0 → Judges plan k r after
 judge-good plan k after f v r e g h n l m t =
-    good-outcome (verdictAnswer plan k) 0 _ k r after (judge-room plan k f v Good e g h n (long-room k 16 l))
+    good-outcome (verdictAnswer plan k) 0 _ k r after (judge-room plan k f v Good e g h n (long-room k 32 l))
     (t ∙ ap (λ (x : Answer). told x 0) n)
-    (m ∙ ap (λ (x : Verdict). written 16 (widthAt (x .width)) k) (judge-is plan f v e g h))
+    (m ∙ ap (λ (x : Verdict). written 32 (verdictByte (x .width) (x .slice)) k) (judge-is plan f v e g h))
 
 -- ---- `parchbeetle_smallest_budget`: v is what was found
 

@@ -24,8 +24,9 @@ use Rattle.workload.specs.Workload.{workload}
 use Rattle.smallest_budget.specs.declared.Smallest.{Smallest}
 use Rattle.smallest_budget.specs.Staying.{Stays, first-not-yet}
 use Rattle.smallest_budget.specs.Growth.{width-kept}
-use Rattle.smallest_budget.specs.Smallest.{its, widthWith, excessWith, lacks, serves, mostBudget, leastBudget, fittedWith, servedWith}
-use Rattle.smallest_budget.specs.Smallest.{servedAtMost, sumFits, smallestAnswer, smallestWith, smallestOf}
+use Rattle.smallest_budget.specs.Flat.{slice-flat}
+use Rattle.smallest_budget.specs.Smallest.{its, widthWith, excessWith, sliceWith, lacks, serves, mostBudget, leastBudget}
+use Rattle.smallest_budget.specs.Smallest.{fittedWith, servedWith, servedAtMost, sumFits, smallestAnswer, smallestWith, smallestOf}
 
 module _ (p : Plan) (j b : ℕ) where
   -- ---- one kind
@@ -34,9 +35,9 @@ module _ (p : Plan) (j b : ℕ) where
   pub kind-skipped : (i : ℕ) → (kindOf p i .project ≡ j → ⊥) → Good ≡ fittedWith p j b i
   kind-skipped i n = rw (ne-eqb (kindOf p i .project) j n)
 
-  pub kind-lacks : (i w x : ℕ) → kindOf p i .project ≡ j → w ≡ widthWith p j b i → x ≡ excessWith p j b i → w ≡ 0 →
-      notAdmitted i x ≡ fittedWith p j b i
-  kind-lacks i w x e f g z = rw (eq-eqb (kindOf p i .project) j e, eq-eqb (widthWith p j b i) 0 (sym f ∙ z), g)
+  pub kind-lacks : (i w x a : ℕ) → kindOf p i .project ≡ j → w ≡ widthWith p j b i → x ≡ excessWith p j b i → a ≡ sliceWith p j b i →
+      w ≡ 0 → notAdmitted i x a ≡ fittedWith p j b i
+  kind-lacks i w x a e f g h z = rw (eq-eqb (kindOf p i .project) j e, eq-eqb (widthWith p j b i) 0 (sym f ∙ z), g, h)
 
   pub kind-fits : (i w : ℕ) → kindOf p i .project ≡ j → w ≡ widthWith p j b i → (w ≡ 0 → ⊥) → Good ≡ fittedWith p j b i
   kind-fits i w e f n = rw (eq-eqb (kindOf p i .project) j e, ne-eqb (widthWith p j b i) 0 (λ z. n (f ∙ z)))
@@ -109,6 +110,13 @@ module _ (p : Plan) (j : ℕ) where
   least-found below enough most m z t l h n =
       let e : enough ≡ below + 1 = omega arith in
       e ∙ first-here (mostBudget p j) below (serves p j) z (rw e at t) (omega arith)
+
+-- with the most budget no slice is worse than slice 0
+pub slice-at-most : (p : Plan) (j i : ℕ) → 0 < p .frame → sliceWith p j (mostBudget p j) i ≡ 0
+unfolding sliceWith
+slice-at-most p j i some =
+    slice-flat 0 (projectOf p j .ceiling) (p .frame) some (kindOf p i .length) (workload p i) (kindOf p i .deadline)
+    (projectOf p j .ceiling)
 
 -- at most the 512 cells that a frame can have
 pub found-most : (p : Plan) (j : ℕ) → smallestOf p j .answer ≡ Good → smallestOf p j .budget ≤ 512

@@ -25,11 +25,11 @@ use Rattle.layout.specs.Cards.Properties.{below-start, below-frames, below-cell
 use Rattle.layout.specs.Layout.{cellAt, firstCell}
 use Rattle.supply.specs.declared.Fit.{Fit}
 use Rattle.supply.specs.Fit.{heldAt, fitOf}
-use Rattle.supply.specs.Fit.Properties.{fit-framed, excess-most}
+use Rattle.supply.specs.Fit.Properties.{fit-framed, excess-most, slice-in-frame}
 use Rattle.workload.specs.Workload.{workload}
 use Rattle.workload.specs.Workload.Properties.{workload-most}
 use Rattle.smallest_budget.specs.Rotation.{width-anywhere, excess-anywhere}
-use Rattle.smallest_budget.specs.Smallest.{widthWith, excessWith, mostBudget, leastBudget, fittedWith, servedAtMost}
+use Rattle.smallest_budget.specs.Smallest.{widthWith, excessWith, sliceWith, mostBudget, leastBudget, fittedWith, servedAtMost}
 use Rattle.smallest_budget.specs.Smallest.Properties.{kind-lacks, kind-fits, least-most, least-some}
 use Rattle.smallest_budget.specs.Steps.{cardsWith, workloadsOf, fitWith}
 
@@ -157,7 +157,7 @@ module _ (p : Plan) (j : ℕ) (o : InOrderOpen p j) where
         rw e (written-at (p .kinds) (workload p) (replicate 16 0) 0 i l
         (omega (arith, length-replicate {A = ℕ} 16 0, o .counts .kinds-most)))
 
-    pub with-room : (b : ℕ) (r : Fit) → r ≡ fitWith p j b i → r .excess < 4294967296
+    pub with-room : (b : ℕ) (r : Fit) → r ≡ fitWith p j b i → r .excess < 16777216
     unfolding excessWith
     with-room b r e =
         let a = o .kind-at i l in
@@ -171,11 +171,21 @@ module _ (p : Plan) (j : ℕ) (o : InOrderOpen p j) where
           a .separation-most,
         ))
 
+    pub with-slice : (b : ℕ) → sliceWith p j b i < 64
+    unfolding sliceWith
+    with-slice b =
+        omega (
+          arith,
+          slice-in-frame (p .frame) (heldFrom 0 b (p .frame)) (kindOf p i .length) (workload p i) (kindOf p i .deadline)
+              (o .counts .some-slice) (projectOf p j .ceiling),
+          o .counts .frame-most,
+        )
+
     -- what `least_fit` found of the cards from cell 0 on is the fit on the layout as it is
     module _ (b : ℕ) (cards works : List ℕ) (r : Fit) (c : cards ≡ cardsWith b (p .frame)) (w : works ≡ workloadsOf p)
         (f : r ≡ fitOf (p .frame) cards (projectOf p j .ceiling) (kindOf p i .length) (getD works i 0) (kindOf p i .deadline)) where
       fit-is : r ≡ fitWith p j b i
-      unfolding widthWith excessWith
+      unfolding widthWith excessWith sliceWith
       fit-is =
           f ∙ rw (
             c,
@@ -190,11 +200,13 @@ module _ (p : Plan) (j : ℕ) (o : InOrderOpen p j) where
           )
 
       pub excess-room : r .excess < 4294967296
-      excess-room = with-room b r fit-is
+      excess-room = omega (arith, with-room b r fit-is)
 
-      pub fit-lacks : (a : Answer) → kindOf p i .project ≡ j → r .width ≡ 0 → a ≡ notAdmitted i (r .excess) → a ≡ fittedWith p j b i
+      pub fit-lacks : (a : Answer) → kindOf p i .project ≡ j → r .width ≡ 0 → a ≡ notAdmitted i (r .excess) (r .slice) →
+          a ≡ fittedWith p j b i
       fit-lacks a e z q =
-          q ∙ kind-lacks p j b i (r .width) (r .excess) e (ap (λ (v : Fit). v .width) fit-is) (ap (λ (v : Fit). v .excess) fit-is) z
+          q ∙ kind-lacks p j b i (r .width) (r .excess) (r .slice) e (ap (λ (v : Fit). v .width) fit-is)
+          (ap (λ (v : Fit). v .excess) fit-is) (ap (λ (v : Fit). v .slice) fit-is) z
 
       pub served-again : kindOf p i .project ≡ j → (r .width ≡ 0 → ⊥) → Good ≡ eachTo i (fittedWith p j b) →
           Good ≡ eachTo (i + 1) (fittedWith p j b)

@@ -1,10 +1,11 @@
 -- `supply::least_fit` meets its contract.
 -- Assumes nothing.
 use native.Mathlib.Nat.{div-le-self}
-use Rattle.supply.specs.Supply.{window, supply}
-use Rattle.supply.specs.Fit.{heldAt, leastWidth, leastExcess}
+use Rattle.supply.specs.Supply.{window}
+use Rattle.supply.specs.Fit.{heldAt, leastWidth, suppliedTo, exceededTo}
 use Rattle.supply.specs.Fit.Properties.{rest-below, window-start, supply-start, width-start, excess-start, window-again, frame-again}
-use Rattle.supply.specs.Fit.Properties.{supply-again, supplied, width-again, excess-again, no-frame, long-frame, fit-here, fit-none}
+use Rattle.supply.specs.Fit.Properties.{supply-again, supplied, bad-found, width-again, excess-again, no-frame, long-frame}
+use Rattle.supply.specs.Fit.Properties.{fit-here, fit-none}
 use mathlib.Core.Path.{_≡_, refl}
 use Prim.Native.Nat.{_≤_, _<_, _-_, _*_}
 use native.Mathlib.Omega.{arith}
@@ -23,8 +24,8 @@ abbrev μ-loop2 : tie.MeasureT-loop2
 abbrev Inv-loop : tie.InvT-loop
 Inv-loop frame ceiling length workload deadline slices frames rest cards found excess below width one-frame₀ least₀ start₀ one-frame least
     start =
-    (start ≤ slices) × (one-frame ≡ window width (heldAt slices cards) 0 start) × (least ≡ supply start (heldAt slices cards) width rest) ×
-    (one-frame ≤ 255 * start) × (least ≤ 16320)
+    (start ≤ slices) × (one-frame ≡ window width (heldAt slices cards) 0 start) ×
+    (least ≡ suppliedTo start (heldAt slices cards) width rest) × (one-frame ≤ 255 * start) × (least .value ≤ 16320)
 
 abbrev μ-loop : tie.MeasureT-loop
 μ-loop frame ceiling length workload deadline slices frames rest cards found excess below width one-frame₀ least₀ start₀ one-frame least
@@ -34,7 +35,7 @@ abbrev μ-loop : tie.MeasureT-loop
 abbrev Inv-widths : tie.InvT-widths
 Inv-widths frame ceiling length workload deadline slices frames rest cards found₀ excess₀ below₀ found excess below =
     (rest < slices) × (below ≤ ceiling) × (found ≡ 0) × (0 ≡ leastWidth slices (heldAt slices cards) length workload deadline below) ×
-    (excess ≡ leastExcess slices (heldAt slices cards) length workload deadline below) × (excess ≤ 8589934592)
+    (excess ≡ exceededTo slices (heldAt slices cards) length workload deadline below) × (excess .value ≤ 8589934592)
 
 abbrev μ-widths : tie.MeasureT-widths
 μ-widths frame ceiling length workload deadline slices frames rest cards found₀ excess₀ below₀ found excess below = ceiling - below
@@ -56,7 +57,7 @@ two-frames-requires :
 two-frames-requires c κs = search needs
 
 widths-holds : tie.Need-widths-holds Inv-loop2 μ-loop2 Inv-loop μ-loop Inv-widths μ-widths
-widths-holds c = (search rest-below, omega arith, refl, width-start _ _ _ _ _, excess-start _ _ _ _ _, omega arith)
+widths-holds c = (search rest-below, omega arith, refl, width-start _ _ _ _ _, excess-start _ _ _ _ _ (omega arith), omega arith)
 
 add-width : tie.Need-add-width Inv-loop2 μ-loop2 Inv-loop μ-loop Inv-widths μ-widths
 add-width c = search needs
@@ -99,6 +100,10 @@ loop2-again c = (
 
 cast-least-with : tie.Need-cast-least-with Inv-loop2 μ-loop2 Inv-loop μ-loop Inv-widths μ-widths
 cast-least-with c = search needs
+
+cast-least-with-2 :
+    tie.Need-cast-least-with-2 Inv-loop2 μ-loop2 Inv-loop μ-loop Inv-widths μ-widths
+cast-least-with-2 c = search needs
 
 least-with-requires :
     tie.Need-least-with-requires Inv-loop2 μ-loop2 Inv-loop μ-loop Inv-widths μ-widths
@@ -143,9 +148,9 @@ add-supply c = search needs
 asked-requires : tie.Need-asked-requires Inv-loop2 μ-loop2 Inv-loop μ-loop Inv-widths μ-widths
 asked-requires c κs = search needs
 
-cast-least-with-2 :
-    tie.Need-cast-least-with-2 Inv-loop2 μ-loop2 Inv-loop μ-loop Inv-widths μ-widths
-cast-least-with-2 c = search needs
+cast-least-with-3 :
+    tie.Need-cast-least-with-3 Inv-loop2 μ-loop2 Inv-loop μ-loop Inv-widths μ-widths
+cast-least-with-3 c = search needs
 
 sub-least-with : tie.Need-sub-least-with Inv-loop2 μ-loop2 Inv-loop μ-loop Inv-widths μ-widths
 sub-least-with c = search needs
@@ -162,20 +167,21 @@ widths-less c = search needs
 
 widths-again : tie.Need-widths-again Inv-loop2 μ-loop2 Inv-loop μ-loop Inv-widths μ-widths
 widths-again c =
-    let s = supplied _ _ _ (c .before .before .before .before .before .before .before .before .before .before .if1 .left)
-    (c .before .before .before .before .before .before .before .before .before .if2 .left)
-    (c .before .before .before .before .before .before .before .before .two-frames .ensures) _ _ _ _ _ _
-    (c .before .before .before .product .ensures .0) (c .before .before .before .before .before .loop .inv .1)
-    (c .before .before .before .before .before .loop .inv .2) (c .before .before .before .before .before .loop .inv .0)
-    (c .before .before .before .before .loop-test .left) in (
+    let some = c .before .before .before .before .before .before .before .before .before .before .before .if1 .left in
+    let most = c .before .before .before .before .before .before .before .before .before .before .if2 .left in
+    let two = c .before .before .before .before .before .before .before .before .before .two-frames .ensures in
+    let so-far = c .before .before .before .before .before .before .before .before .widths .inv in
+    let inv = c .before .before .before .before .before .before .loop .inv in
+    let end = c .before .before .before .before .before .loop-test .left in
+    let frames = c .before .before .before .before .product .ensures .0 in
+    let asked = c .before .before .asked .ensures .0 in
+    let s = supplied _ _ _ some most two _ _ _ _ _ _ frames (inv .1) (inv .2) (inv .0) end in
+    let t = bad-found _ _ _ some most two _ _ _ _ (inv .2) (inv .0) end in (
       search,
       omega arith,
       search,
-      width-again _ _ _ _ _ _ _ _
-          (c .before .before .before .before .before .before .before .widths .inv .3) s (c .before .before .asked .ensures .0)
-          (c .before .if3 .left),
-      excess-again _ _ _ _ _ _ _ _ _ _ (c .before .before .before .before .before .before .before .widths .inv .4) s
-          (c .before .before .asked .ensures .0) (c .least-with2 .ensures .0),
+      width-again _ _ _ _ _ _ _ _ (so-far .3) s asked (c .before .if3 .left),
+      excess-again _ _ _ _ _ _ _ _ _ _ _ (so-far .4) s asked t (c .least-with2 .ensures .0),
       omega arith,
     )
 
@@ -183,7 +189,7 @@ returns-3 : tie.Need-returns-3 Inv-loop2 μ-loop2 Inv-loop μ-loop Inv-widths μ
 returns-3 c = search fit-none
 
 returns-4 : tie.Need-returns-4 Inv-loop2 μ-loop2 Inv-loop μ-loop Inv-widths μ-widths
-returns-4 c = search (fit-here, supplied)
+returns-4 c = search (fit-here, supplied, bad-found)
 
 pub least-fit-spec : {M : Type 1} → statement M
 least-fit-spec =
@@ -212,6 +218,7 @@ least-fit-spec =
     loop2-less
     loop2-again
     cast-least-with
+    cast-least-with-2
     least-with-requires
     array-read-counted-2
     counted-requires-2
@@ -223,7 +230,7 @@ least-fit-spec =
     product-requires
     add-supply
     asked-requires
-    cast-least-with-2
+    cast-least-with-3
     sub-least-with
     least-with-requires-2
     add-below

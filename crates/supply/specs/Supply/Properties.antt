@@ -1,15 +1,15 @@
--- Laws of the supply: what a window holds, how whole frames count, and that the supply is there at every start.
+-- Laws of the supply: what a window holds, how whole frames count, and that the supply is there at every start; and of the bad slice.
 -- Assumes nothing.
-use mathlib.Core.Path.{_≡_, refl, sym, ap, _∙_}
+use mathlib.Core.Path.{_≡_, refl, sym, ap, _∙_, fun-ext}
 use Prim.Native.Nat.{ℕ, zero, suc, _+_, _-_, _*_, _/_, _%_, _≤_, _<_, min}
 use native.Mathlib.Nat.{add-assoc, add-comm, add-zero, zero-add, mul-comm, suc-mul, zero-mul, div-add-mod', mod-lt}
 use native.Mathlib.Numerals.{add-one, one-add}
 use native.Mathlib.Omega.{arith}
 use Rattle.laws.specs.Sum.{sumTo}
 use Rattle.laws.specs.Sum.Properties.{sum-none, sum-more, sum-cong, sum-bound, sum-split}
-use Rattle.laws.specs.Least.{leastTo}
-use Rattle.laws.specs.Least.Properties.{least-le, least-at, least-cong}
-use Rattle.supply.specs.Supply.{Periodic, window, supply}
+use Rattle.laws.specs.Least.{leastTo, leastPlace}
+use Rattle.laws.specs.Least.Properties.{least-le, least-at, least-shift, place-below, place-attained, place-first, place-only, place-shift}
+use Rattle.supply.specs.Supply.{Periodic, window, supply, badSlice}
 
 -- ---- a window
 
@@ -90,12 +90,6 @@ module _ (frame : ℕ) (h : ℕ → ℕ) (turn : Periodic frame h) where
 
 -- ---- the supply
 
-least-shift : (n c : ℕ) (f : ℕ → ℕ) → 0 < n → leastTo n (λ a. c + f a) ≡ c + leastTo n f
-least-shift n c f p =
-    let s = least-at n (λ a. c + f a) p in
-    let t = least-at n f p in
-    omega (arith, s .2, t .2, least-le n (λ a. c + f a) (t .0) (t .1), least-le n f (s .0) (s .1))
-
 module _ (frame : ℕ) (h : ℕ → ℕ) (some : 0 < frame) where
   -- it is what one of the starts sees
   pub supply-attained : (k t : ℕ) → (a : ℕ) × (a < frame) × (supply frame h k t ≡ window k h a t)
@@ -127,6 +121,48 @@ module _ (frame : ℕ) (h : ℕ → ℕ) (turn : Periodic frame h) (some : 0 < f
   pub supply-whole : (k t : ℕ) → supply frame h k t ≡ t / frame * window k h 0 frame + supply frame h k (t % frame)
   unfolding supply
   supply-whole k t =
-      least-cong frame (λ a. window k h a t) (λ a. t / frame * window k h 0 frame + window k h a (t % frame))
-      (λ a l. window-whole frame h turn k a t)
+      ap (leastTo frame) (fun-ext (λ a. window-whole frame h turn k a t))
       ∙ least-shift frame (t / frame * window k h 0 frame) (λ a. window k h a (t % frame)) some
+
+-- ---- the bad slice
+
+module _ (frame : ℕ) (h : ℕ → ℕ) (some : 0 < frame) where
+  -- it is a slice of the frame
+  pub bad-below : (k t : ℕ) → badSlice frame h k t < frame
+  unfolding badSlice
+  bad-below k t = place-below frame (λ a. window k h a t) some
+
+  -- a unit that arrives there sees exactly the supply
+  pub bad-attains : (k t : ℕ) → window k h (badSlice frame h k t) t ≡ supply frame h k t
+  unfolding supply badSlice
+  bad-attains k t = place-attained frame (λ a. window k h a t) some
+
+  -- every earlier start sees more
+  pub bad-earliest : (k t a : ℕ) → a < badSlice frame h k t → supply frame h k t < window k h a t
+  unfolding supply badSlice
+  bad-earliest k t = place-first frame (λ a. window k h a t)
+
+  -- and no other slice is so
+  pub bad-only : (k t a : ℕ) → a < frame → window k h a t ≡ supply frame h k t → ((b : ℕ) → b < a → supply frame h k t < window k h b t) →
+      a ≡ badSlice frame h k t
+  unfolding supply badSlice
+  bad-only k t = place-only frame (λ a. window k h a t)
+
+  -- "It is 0 at length 0"
+  pub bad-none : (k : ℕ) → badSlice frame h k 0 ≡ 0
+  bad-none k = sym (bad-only k 0 0 some (window-none k h 0 ∙ sym (supply-none frame h some k)) (λ b l. absurd (omega arith)))
+
+  -- "and beside a k of 0"
+  pub bad-no-width : (t : ℕ) → badSlice frame h 0 t ≡ 0
+  bad-no-width t =
+      let w : window 0 h 0 t ≤ 0 = rw (zero-mul t) at (window-most 0 h 0 t) in
+      let s : supply frame h 0 t ≤ 0 = rw (zero-mul t) at (supply-most frame h some 0 t) in
+      sym (bad-only 0 t 0 some (omega arith) (λ b l. absurd (omega arith)))
+
+module _ (frame : ℕ) (h : ℕ → ℕ) (turn : Periodic frame h) (some : 0 < frame) where
+  -- the whole frames in t see the same from every start
+  pub bad-whole : (k t : ℕ) → badSlice frame h k t ≡ badSlice frame h k (t % frame)
+  unfolding badSlice
+  bad-whole k t =
+      ap (leastPlace frame) (fun-ext (λ a. window-whole frame h turn k a t))
+      ∙ place-shift frame (t / frame * window k h 0 frame) (λ a. window k h a (t % frame)) some

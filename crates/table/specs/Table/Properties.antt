@@ -2,7 +2,7 @@
 -- Assumes nothing.
 use mathlib.Core.Path.{refl}
 use Rattle.laws.specs.Sum.{sumTo}
-use Rattle.laws.specs.Least.{leastTo}
+use Rattle.laws.specs.Least.{leastTo, leastPlace}
 use Rattle.laws.specs.First.{firstTo}
 use Rattle.laws.specs.Count.{countTo}
 use Rattle.laws.specs.All.{allTo}
@@ -14,9 +14,9 @@ use Rattle.plan.specs.Open.{projectThere, inRangeOpen, projectsInRangeOpen, ran
 use Rattle.layout.specs.Cards.{heldFrom}
 use Rattle.layout.specs.Layout.{cellAt, firstCell, owns, slotOf, held}
 use Rattle.layout.specs.Table.{tableLength, tableOver, tableAnswer}
-use Rattle.supply.specs.Supply.{window, supply}
+use Rattle.supply.specs.Supply.{window, supply, badSlice}
 use Rattle.supply.specs.Workload.{workloadPart}
-use Rattle.supply.specs.Fit.{fitsAt, leastWidth, excessAt, leastExcess}
+use Rattle.supply.specs.Fit.{fitsAt, leastWidth, excessAt, leastExcess, excessWidth, namedWidth, namedSlice}
 use Rattle.codec.specs.Pack.{pack, unpack}
 use Rattle.codec.specs.Bytes.{numberTo, bytesOf}
 use Rattle.codec.specs.Places.{partsTo}
@@ -25,31 +25,41 @@ use Rattle.plan_bytes.specs.Parts.{projectFrom, kindFrom, projectsFrom, kindsFr
 use Rattle.plan_bytes.specs.Reading.{headerSpare, projectSpare, kindSpare, projectsSpare, kindsSpare, placesSpare, spareZero}
 use Rattle.plan_bytes.specs.Reading.{bodyAnswer, readAnswer, readOf}
 use Rattle.workload.specs.Workload.{besides, partOf, workload}
-use Rattle.verdict.specs.Verdict.{widthOf, excessOf, fitted, admitted, judged}
-use Rattle.smallest_budget.specs.Smallest.{widthWith, excessWith, serves, leastBudget, servedWith, smallestAnswer, smallestOf}
+use Rattle.verdict.specs.Verdict.{widthOf, excessOf, badSliceOf, fitted, admitted, judged}
+use Rattle.smallest_budget.specs.Smallest.{widthWith, excessWith, sliceWith, serves, leastBudget, servedWith, smallestAnswer, smallestOf}
 use Rattle.table.specs.Table.{Table}
 
 pub table : Table
-unfolding sumTo leastTo firstTo countTo allTo written eachTo within sized emptyProject emptyKind tidyProjects tidyKinds inRange timed
-    budgets sizes unused projectsInRange kindInRange kindsInRange budgetsFit ranges checked cellAt firstCell owns slotOf held
-    tableLength tableOver tableAnswer window supply workloadPart fitsAt leastWidth excessAt leastExcess besides partOf workload widthOf
-    excessOf fitted admitted judged pack unpack numberTo bytesOf size headerBytes projectBytes kindBytes partsTo encoded
-    headerFields projectFields kindFields projectFrom kindFrom projectsFrom kindsFrom headed decoded headerSpare projectSpare kindSpare
-    projectsSpare kindsSpare placesSpare spareZero bodyAnswer readAnswer readOf projectThere inRangeOpen projectsInRangeOpen rangesOpen
-    checkedOpen heldFrom widthWith excessWith serves leastBudget servedWith smallestAnswer smallestOf
+unfolding sumTo leastTo leastPlace firstTo countTo allTo written eachTo within sized emptyProject emptyKind tidyProjects tidyKinds
+    inRange timed budgets sizes unused projectsInRange kindInRange kindsInRange budgetsFit ranges checked cellAt heldFrom firstCell
+    owns slotOf held tableLength tableOver tableAnswer window supply badSlice workloadPart fitsAt leastWidth excessAt leastExcess
+    excessWidth namedWidth namedSlice besides partOf workload widthOf excessOf badSliceOf fitted admitted judged pack unpack
+    numberTo bytesOf size headerBytes projectBytes kindBytes partsTo encoded headerFields projectFields kindFields projectFrom
+    kindFrom projectsFrom kindsFrom headed decoded headerSpare projectSpare kindSpare projectsSpare kindsSpare placesSpare spareZero
+    bodyAnswer readAnswer readOf projectThere inRangeOpen projectsInRangeOpen rangesOpen checkedOpen widthWith excessWith sliceWith
+    serves leastBudget servedWith smallestAnswer smallestOf
 table = record {
   P1-read = refl;
   P1-written = refl;
   P2 = record { result = refl; buffer = refl };
   P3 = refl;
+  P3-slices = refl;
+  P3-moved = refl;
+  P3-moved-slices = refl;
   P4-one = refl;
   P4-two = refl;
   P5 = refl;
+  P5-slices = refl;
   P6 = refl;
+  P6-slice = refl;
   P7-shorter = refl;
   P7-longer = refl;
+  P7-shorter-slices = refl;
+  P7-longer-slice = refl;
   P8 = refl;
+  P8-slices = refl;
   P9 = refl;
+  P9-slice = refl;
   P10 = refl;
   P11 = refl;
   S1 = refl;

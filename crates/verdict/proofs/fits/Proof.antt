@@ -10,24 +10,25 @@ use Rattle.laws.specs.Written.Properties.{written-none}
 use Rattle.answer.specs.declared.Answer.the-variants.{Good}
 use Rattle.answer.specs.Answer.{eachTo}
 use Rattle.answer.specs.Answer.Properties.{each-none}
-use Rattle.verdict.specs.Verdict.{widthOf, fitted}
+use Rattle.verdict.specs.Verdict.{widthOf, badSliceOf, fitted}
 use Rattle.verdict.specs.Steps.Properties.{project-place, project-fits, project-scaled, row-at, excess-room, fits-no, fits-again}
-use Rattle.verdict.specs.Steps.Properties.{fits-all, width-again}
+use Rattle.verdict.specs.Steps.Properties.{fits-all, width-again, slice-again}
 use Rattle.verdict.proofs.fits.Statement.{statement}
 use Rattle.verdict.proofs.fits.Tie as tie
 
 abbrev Inv-loop : tie.InvT-loop
-Inv-loop plan cards width₀ i₀ i-end width i =
-    (i ≤ i-end) × (i-end ≡ plan .kinds) × (Good ≡ eachTo i (fitted plan)) × (width ≡ written i (widthOf plan) (replicate 16 0))
+Inv-loop plan cards width₀ slice₀ i₀ i-end width slice i =
+    (i ≤ i-end) × (i-end ≡ plan .kinds) × (Good ≡ eachTo i (fitted plan)) × (width ≡ written i (widthOf plan) (replicate 16 0)) ×
+    (slice ≡ written i (badSliceOf plan) (replicate 16 0))
 
 abbrev μ-loop : tie.MeasureT-loop
-μ-loop plan cards width₀ i₀ i-end width i = i-end - i
+μ-loop plan cards width₀ slice₀ i₀ i-end width slice i = i-end - i
 
 all-cards-requires : tie.Need-all-cards-requires Inv-loop μ-loop
 all-cards-requires c κs = search needs
 
 loop-holds : tie.Need-loop-holds Inv-loop μ-loop
-loop-holds c = (omega arith, refl, each-none _, written-none _ _)
+loop-holds c = (omega arith, refl, each-none _, written-none _ _, written-none _ _)
 
 cast-project : tie.Need-cast-project Inv-loop μ-loop
 cast-project c = search needs
@@ -68,6 +69,12 @@ cast-width c = search needs
 array-write-width : tie.Need-array-write-width Inv-loop μ-loop
 array-write-width c = search needs
 
+cast-slice : tie.Need-cast-slice Inv-loop μ-loop
+cast-slice c = search needs
+
+array-write-slice : tie.Need-array-write-slice Inv-loop μ-loop
+array-write-slice c = search needs
+
 add-i : tie.Need-add-i Inv-loop μ-loop
 add-i c = search needs
 
@@ -75,7 +82,7 @@ loop-less : tie.Need-loop-less Inv-loop μ-loop
 loop-less c = search needs
 
 loop-again : tie.Need-loop-again Inv-loop μ-loop
-loop-again c = (omega arith, search, search fits-again, search width-again)
+loop-again c = (omega arith, search, search fits-again, search width-again, search slice-again)
 
 returns-2 : tie.Need-returns-2 Inv-loop μ-loop
 returns-2 c = search fits-all
@@ -101,6 +108,8 @@ fits-spec =
     returns
     cast-width
     array-write-width
+    cast-slice
+    array-write-slice
     add-i
     loop-less
     loop-again

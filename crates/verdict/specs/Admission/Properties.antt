@@ -1,9 +1,10 @@
 -- The verdict is what document 01 says: a plan is admitted exactly when every kind fits at some k, each k given is the least, and 8 names
--- the first kind with no k and its excess.
+-- the first kind with no k and its excess. The slice beside a k or an excess is the bad one to arrive in.
 -- Assumes nothing.
-use mathlib.Core.Path.{_≡_, refl, sym, _∙_}
+use mathlib.Core.Path.{_≡_, refl, sym, ap, _∙_}
 use mathlib.Core.Logic.{_↔_}
 use Prim.Native.Nat.{ℕ, zero, suc, _≤_, _<_}
+use native.Mathlib.Nat.{add-mod-right}
 use native.Mathlib.Decide.{decLt}
 use native.Mathlib.Omega.{arith}
 use lib.Dec.{eqb}
@@ -19,10 +20,15 @@ use Rattle.answer.specs.Answer.Properties.{andThen-good, andThen-no, andThen-le
 use Rattle.answer.specs.Answer.Properties.{each-opened}
 use Rattle.plan.specs.Order.{kindOf, checked, InOrder}
 use Rattle.plan.specs.Order.Properties.{in-order, in-order-good}
+use Rattle.layout.specs.Layout.{held}
+use Rattle.supply.specs.Supply.{Periodic, badSlice}
+use Rattle.supply.specs.Supply.Properties.{supply-everywhere, bad-below, bad-attains, bad-earliest, bad-only}
+use Rattle.supply.specs.Fit.{excessWidth}
 use Rattle.supply.specs.Fit.Properties.{width-most, width-fits, width-least, width-some, width-none, excess-most, excess-attained}
+use Rattle.supply.specs.Fit.Properties.{excess-first, slice-given, slice-exceeded}
 use Rattle.workload.specs.Workload.{workload}
-use Rattle.verdict.specs.Verdict.{projectOn, ceilingOn, heldOn, widthOf, excessOf, fitted, admitted, verdictOf, judged}
-use Rattle.verdict.specs.Admission.{Fits, Excess, NotAdmitted}
+use Rattle.verdict.specs.Verdict.{projectOn, ceilingOn, heldOn, widthOf, excessOf, badSliceOf, fitted, admitted, verdictOf, judged}
+use Rattle.verdict.specs.Admission.{asked, given, Fits, Excess, NotAdmitted, BadSlice, Names}
 
 -- ---- the k of one kind
 
@@ -49,30 +55,82 @@ module _ (p : Plan) (i : ℕ) where
         | no q ↦ omega arith
       ]
 
-  kind-excess : 0 < ceilingOn p i → widthOf p i ≡ 0 → Excess p i (excessOf p i)
-  unfolding widthOf excessOf
-  kind-excess q e =
-      let t = excess-attained (p .frame) (heldOn p i) (kindOf p i .length) (workload p i) (kindOf p i .deadline) (ceilingOn p i) q in
-      record {
-        least =
-            λ k w. omega (
-              arith,
-              excess-most (p .frame) (heldOn p i) (kindOf p i .length) (workload p i) (kindOf p i .deadline)
-                  (ceilingOn p i) k (w .some) (w .most),
-              width-none (p .frame) (heldOn p i) (kindOf p i .length) (workload p i)
-                  (kindOf p i .deadline) (ceilingOn p i) k e (w .some) (w .most),
-            );
-        attained = (
-          t .0,
-          record { some = t .1; most = t .2 },
-          omega (
-            arith,
-            t .3,
-            width-none (p .frame) (heldOn p i) (kindOf p i .length)
-                (workload p i) (kindOf p i .deadline) (ceilingOn p i) (t .0) e (t .1) (t .2),
-          ),
-        );
-      }
+  -- the k that its excess names
+  abbrev excessWidthOf : ℕ
+  excessWidthOf = excessWidth (p .frame) (heldOn p i) (kindOf p i .length) (workload p i) (kindOf p i .deadline) (ceilingOn p i)
+
+  module _ (some : 0 < ceilingOn p i) (none : widthOf p i ≡ 0) where
+    -- no k has room, so that each has its excess
+    kind-none : (k : ℕ) → 0 < k → k ≤ ceilingOn p i → given p i k < asked p i k
+    unfolding widthOf
+    kind-none k a b =
+        width-none (p .frame) (heldOn p i) (kindOf p i .length) (workload p i) (kindOf p i .deadline) (ceilingOn p i) k none a b
+
+    kind-names : Names p i (excessOf p i) excessWidthOf
+    unfolding excessOf
+    kind-names =
+        let t = excess-attained (p .frame) (heldOn p i) (kindOf p i .length) (workload p i) (kindOf p i .deadline) (ceilingOn p i) some in
+        record {
+          width = record { some = t .0; most = t .1 };
+          its-excess = omega (arith, t .2, kind-none excessWidthOf (t .0) (t .1));
+          first =
+              λ j a b. omega (
+                arith,
+                excess-first (p .frame) (heldOn p i) (kindOf p i .length) (workload p i) (kindOf p i .deadline) (ceilingOn p i) j a b,
+                kind-none j a (omega (arith, t .1)),
+              );
+        }
+
+    kind-excess : Excess p i (excessOf p i)
+    unfolding excessOf
+    kind-excess =
+        record {
+          least =
+              λ k w. omega (
+                arith,
+                excess-most (p .frame) (heldOn p i) (kindOf p i .length) (workload p i) (kindOf p i .deadline)
+                    (ceilingOn p i) k (w .some) (w .most),
+                kind-none k (w .some) (w .most),
+              );
+          attained = (excessWidthOf, kind-names .width, kind-names .its-excess);
+        }
+
+  -- ---- the bad slice
+
+  -- "taken modulo F"
+  held-turn : Periodic (p .frame) (heldOn p i)
+  unfolding held
+  held-turn s = rw (add-mod-right s (p .frame))
+
+  module _ (slices : 0 < p .frame) where
+    -- that of a k, on the cards that its project really holds
+    bad-on : (k : ℕ) → BadSlice p i k (badSlice (p .frame) (heldOn p i) k (kindOf p i .deadline))
+    bad-on k =
+        record {
+          in-frame = bad-below (p .frame) (heldOn p i) slices k (kindOf p i .deadline);
+          attained = bad-attains (p .frame) (heldOn p i) slices k (kindOf p i .deadline);
+          earliest = bad-earliest (p .frame) (heldOn p i) slices k (kindOf p i .deadline);
+          least = λ b. supply-everywhere (p .frame) (heldOn p i) held-turn slices k b (kindOf p i .deadline);
+        }
+
+    -- beside the k given
+    bad-given : 0 < widthOf p i → BadSlice p i (widthOf p i) (badSliceOf p i)
+    unfolding widthOf badSliceOf
+    bad-given l =
+        rw (slice-given (p .frame) (heldOn p i) (kindOf p i .length) (workload p i) (kindOf p i .deadline) (ceilingOn p i) l) (bad-on _)
+
+    -- and beside the excess
+    bad-exceeded : widthOf p i ≡ 0 → BadSlice p i excessWidthOf (badSliceOf p i)
+    unfolding widthOf badSliceOf
+    bad-exceeded e =
+        rw (slice-exceeded (p .frame) (heldOn p i) (kindOf p i .length) (workload p i) (kindOf p i .deadline) (ceilingOn p i) e) (bad-on _)
+
+    -- two bad slices of one k are one
+    pub bad-one : (k a b : ℕ) → BadSlice p i k a → BadSlice p i k b → a ≡ b
+    bad-one k a b s t = its a s ∙ sym (its b t)
+      where
+        its : (c : ℕ) → BadSlice p i k c → c ≡ badSlice (p .frame) (heldOn p i) k (kindOf p i .deadline)
+        its c u = bad-only (p .frame) (heldOn p i) slices k (kindOf p i .deadline) c (u .in-frame) (u .attained) (u .earliest)
 
   -- ---- 8 or not
 
@@ -84,14 +142,14 @@ module _ (p : Plan) (i : ℕ) where
   unfolding fitted
   fitted-good e = let n = eqb-false (widthOf p i) 0 (refuse-good (eqb (widthOf p i) 0) _ e) in omega arith
 
-  fitted-no : widthOf p i ≡ 0 → fitted p i ≡ notAdmitted i (excessOf p i)
+  fitted-no : widthOf p i ≡ 0 → fitted p i ≡ notAdmitted i (excessOf p i) (badSliceOf p i)
   unfolding fitted
   fitted-no e = rw (eq-eqb (widthOf p i) 0 e)
 
-  fitted-told : (w : Refusal) → fitted p i ≡ No w → (widthOf p i ≡ 0) × (notAdmitted i (excessOf p i) ≡ No w)
+  fitted-told : (w : Refusal) → fitted p i ≡ No w → (widthOf p i ≡ 0) × (notAdmitted i (excessOf p i) (badSliceOf p i) ≡ No w)
   fitted-told w e = elim (decLt 0 (widthOf p i)) [ yes q ↦ none (fitted-of q) | no q ↦ (omega arith, sym (fitted-no (omega arith)) ∙ e) ]
     where
-      none : fitted p i ≡ Good → (widthOf p i ≡ 0) × (notAdmitted i (excessOf p i) ≡ No w)
+      none : fitted p i ≡ Good → (widthOf p i ≡ 0) × (notAdmitted i (excessOf p i) (badSliceOf p i) ≡ No w)
       none g = let z : _≡_ {A = ℕ} 0 1 = cc in absurd (omega arith)
 
 -- the first place that is refused
@@ -154,36 +212,66 @@ given-fits p e i l = rw (width-at p e i l) (kind-fits p i (kind-admitted p e i l
 pub given-least : (p : Plan) → judged p .answer ≡ Good → (i : ℕ) → i < p .kinds → (k : ℕ) → Fits p i k → getD (judged p .width) i 0 ≤ k
 given-least p e i l k f = rw (width-at p e i l) (kind-least p i k f)
 
+zeros : (i : ℕ) → getD {A = ℕ} (replicate 16 0) i 0 ≡ 0
+zeros i =
+    elim (decLt i 16) [
+      | yes q ↦ getD-replicate 16 i 0 0 q
+      | no q ↦ List·getD-eq-default {A = ℕ} (replicate 16 0) 0 {n = i} (omega (arith, length-replicate {A = ℕ} 16 0))
+    ]
+
 -- "k 0 beyond n"
 pub none-beyond : (p : Plan) (i : ℕ) → p .kinds ≤ i → getD (judged p .width) i 0 ≡ 0
 unfolding judged
 none-beyond p i l = go (checked p andThen admitted p)
   where
-    zeros : getD {A = ℕ} (replicate 16 0) i 0 ≡ 0
-    zeros =
-        elim (decLt i 16) [
-          | yes q ↦ getD-replicate 16 i 0 0 q
-          | no q ↦ List·getD-eq-default {A = ℕ} (replicate 16 0) 0 {n = i} (omega (arith, length-replicate {A = ℕ} 16 0))
-        ]
-
     go : (a : Answer) → getD (verdictOf p a .width) i 0 ≡ 0
-    go Good = written-kept (p .kinds) (widthOf p) (replicate 16 0) 0 i l ∙ zeros
-    go (No r) = zeros
+    go Good = written-kept (p .kinds) (widthOf p) (replicate 16 0) 0 i l ∙ zeros i
+    go (No r) = zeros i
 
 -- "A refused verdict gives k 0 for every kind"
 pub none-refused : (p : Plan) (r : Refusal) → judged p .answer ≡ No r → judged p .width ≡ replicate 16 0
 unfolding judged
 none-refused p r e = rw e
 
+-- ---- the slice beside each k
+
+slice-at : (p : Plan) → judged p .answer ≡ Good → (i : ℕ) → i < p .kinds → getD (judged p .slice) i 0 ≡ badSliceOf p i
+unfolding judged
+slice-at p e i l =
+    rw e (written-at (p .kinds) (badSliceOf p) (replicate 16 0) 0 i l
+    (omega (arith, length-replicate {A = ℕ} 16 0, judged-in-order p e .counts .kinds-most)))
+
+-- the bad one of the k given
+pub given-slice : (p : Plan) → judged p .answer ≡ Good → (i : ℕ) → i < p .kinds →
+    BadSlice p i (getD (judged p .width) i 0) (getD (judged p .slice) i 0)
+given-slice p e i l =
+    rw (width-at p e i l, slice-at p e i l) (bad-given p i (judged-in-order p e .counts .some-slice) (kind-admitted p e i l))
+
+-- "0 .. beside a k of 0"
+pub no-slice-beyond : (p : Plan) (i : ℕ) → p .kinds ≤ i → getD (judged p .slice) i 0 ≡ 0
+unfolding judged
+no-slice-beyond p i l = go (checked p andThen admitted p)
+  where
+    go : (a : Answer) → getD (verdictOf p a .slice) i 0 ≡ 0
+    go Good = written-kept (p .kinds) (badSliceOf p) (replicate 16 0) 0 i l ∙ zeros i
+    go (No r) = zeros i
+
+pub no-slice-refused : (p : Plan) (r : Refusal) → judged p .answer ≡ No r → judged p .slice ≡ replicate 16 0
+unfolding judged
+no-slice-refused p r e = rw e
+
+-- ---- 8
+
 -- two excesses are one
 excess-one : (p : Plan) (i x y : ℕ) → Excess p i x → Excess p i y → x ≡ y
 excess-one p i x y a b =
     omega (arith, a .attained .2, b .attained .2, a .least (b .attained .0) (b .attained .1), b .least (a .attained .0) (a .attained .1))
 
--- 8 exactly for the first kind with no k, with its excess
-pub refused-exactly : (p : Plan) → InOrder p → (i x : ℕ) → (judged p .answer ≡ notAdmitted i x) ↔ NotAdmitted p i x
+-- 8 exactly for the first kind with no k, with its excess and the slice of it
+pub refused-exactly : (p : Plan) → InOrder p → (i x a : ℕ) →
+    (judged p .answer ≡ notAdmitted i x a) ↔ ((NotAdmitted p i x) × (a ≡ badSliceOf p i))
 unfolding admitted
-refused-exactly p o i x = (told, tell)
+refused-exactly p o i x a = (told, tell)
   where
     ceiling : (j : ℕ) → j < p .kinds → 0 < ceilingOn p j
     ceiling j l = o .project-at (projectOn p j) (o .kind-at j l .its-project) .some-ceiling
@@ -198,21 +286,33 @@ refused-exactly p o i x = (told, tell)
           excess = kind-excess p n (ceiling n l) e;
         }
 
-    told : judged p .answer ≡ notAdmitted i x → NotAdmitted p i x
+    told : judged p .answer ≡ notAdmitted i x a → (NotAdmitted p i x) × (a ≡ badSliceOf p i)
     told e =
         let t = each-no (p .kinds) (fitted p) _ (sym (order-next p o) ∙ e) in
         let s = fitted-told p (t .0) _ (t .2) in
-        let a : t .0 ≡ i = cc (s .1) in
-        let b : excessOf p (t .0) ≡ x = cc (s .1) in
-        rw (b, a) at (kind (t .0) (s .0) (t .1) (t .3))
+        let b : t .0 ≡ i = cc (s .1) in
+        let c : excessOf p (t .0) ≡ x = cc (s .1) in
+        let d : badSliceOf p (t .0) ≡ a = cc (s .1) in
+        (rw (c, b) at (kind (t .0) (s .0) (t .1) (t .3)), sym d ∙ ap (badSliceOf p) b)
 
-    tell : NotAdmitted p i x → judged p .answer ≡ notAdmitted i x
-    tell n =
+    tell : (NotAdmitted p i x) × (a ≡ badSliceOf p i) → judged p .answer ≡ notAdmitted i x a
+    tell t =
+        let n = t .0 in
         let none : widthOf p i ≡ 0 = elim (decLt 0 (widthOf p i))
         [ yes q ↦ absurd (n .no-width (widthOf p i) (kind-fits p i q)) | no q ↦ omega arith ] in
         let same = excess-one p i (excessOf p i) x (kind-excess p i (ceiling i (n .its-kind)) none) (n .excess) in
         let before = each-of i (fitted p) (λ j l. fitted-of p j (kind-some p j (n .first j l .0) (n .first j l .1))) in
         order-next p o
         ∙ sym
-        (each-opened (p .kinds) i (fitted p) (notAdmitted i (excessOf p i)) _ (sym before) refl (sym (fitted-no p i none)) (n .its-kind))
-        ∙ rw same
+        (each-opened (p .kinds) i (fitted p) (notAdmitted i (excessOf p i) (badSliceOf p i)) _ (sym before) refl (sym (fitted-no p i none))
+        (n .its-kind))
+        ∙ rw (same, t .1)
+
+-- the slice beside an excess is the bad one of the k that it names
+pub refused-slice : (p : Plan) → InOrder p → (i x : ℕ) → NotAdmitted p i x → (k : ℕ) × (Names p i x k) × (BadSlice p i k (badSliceOf p i))
+refused-slice p o i x n =
+    let none : widthOf p i ≡ 0 = elim (decLt 0 (widthOf p i))
+    [ yes q ↦ absurd (n .no-width (widthOf p i) (kind-fits p i q)) | no q ↦ omega arith ] in
+    let some = o .project-at (projectOn p i) (o .kind-at i (n .its-kind) .its-project) .some-ceiling in
+    let same = excess-one p i (excessOf p i) x (kind-excess p i some none) (n .excess) in
+    (excessWidthOf p i, rw same at (kind-names p i some none), bad-exceeded p i (o .counts .some-slice) none)

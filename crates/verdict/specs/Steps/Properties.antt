@@ -22,11 +22,11 @@ use Rattle.layout.specs.Layout.{firstCell}
 use Rattle.layout.specs.Layout.Properties.{first-next, first-most, held-from, held-mod}
 use Rattle.supply.specs.declared.Fit.{Fit}
 use Rattle.supply.specs.Fit.{heldAt, fitOf}
-use Rattle.supply.specs.Fit.Properties.{fit-framed, excess-most}
+use Rattle.supply.specs.Fit.Properties.{fit-framed, excess-most, slice-in-frame}
 use Rattle.verdict.specs.declared.Verdict.{Verdict}
 use Rattle.workload.specs.Workload.{workload}
 use Rattle.workload.specs.Workload.Properties.{workload-most}
-use Rattle.verdict.specs.Verdict.{projectOn, ceilingOn, heldOn, widthOf, excessOf, fitted, admitted, verdictOf, judged}
+use Rattle.verdict.specs.Verdict.{projectOn, ceilingOn, heldOn, widthOf, excessOf, badSliceOf, fitted, admitted, verdictOf, judged}
 use Rattle.verdict.specs.Steps.{runCards, projectCards, allCards, fitOn}
 
 -- ---- a run of cells
@@ -98,7 +98,7 @@ module _ (p : Plan) (o : InOrder p) (i : ℕ) (l : i < p .kinds) where
 
   pub fit-is : (cards : List ℕ) (w : ℕ) (r : Fit) → cards ≡ projectCards p (projectOn p i) → w ≡ workload p i →
       r ≡ fitOf (p .frame) cards (ceilingOn p i) (kindOf p i .length) w (kindOf p i .deadline) → r ≡ fitOn p i
-  unfolding widthOf excessOf
+  unfolding widthOf excessOf badSliceOf
   fit-is cards w r e f q =
       q ∙ rw (
         e,
@@ -111,7 +111,7 @@ module _ (p : Plan) (o : InOrder p) (i : ℕ) (l : i < p .kinds) where
   pub workload-room : (w : ℕ) → w ≡ workload p i → w < 4294967296
   workload-room w e = omega (arith, e, workload-most p (o .counts .kinds-most) (o .kind-at) i l)
 
-  pub excess-room : (r : Fit) → r ≡ fitOn p i → r .excess ≤ 4294967295
+  pub excess-room : (r : Fit) → r ≡ fitOn p i → r .excess ≤ 16777215
   unfolding excessOf
   excess-room r e =
       let a = o .kind-at i l in
@@ -126,40 +126,63 @@ module _ (p : Plan) (o : InOrder p) (i : ℕ) (l : i < p .kinds) where
         a .separation-most,
       ))
 
+pub slice-room : (p : Plan) → InOrder p → (i : ℕ) → badSliceOf p i < 64
+unfolding badSliceOf
+slice-room p o i =
+    omega (
+      arith,
+      slice-in-frame (p .frame) (heldOn p i) (kindOf p i .length) (workload p i) (kindOf p i .deadline) (o .counts .some-slice)
+          (ceilingOn p i),
+      o .counts .frame-most,
+    )
+
 -- ---- the kinds in their order
 
 -- 8 or not, for kind i
-fit-told : (p : Plan) (i : ℕ) (r : Fit) (a : Answer) → r ≡ fitOn p i → a ≡ refuse (eqb (r .width) 0) (notAdmitted i (r .excess)) →
-    a ≡ fitted p i
+fit-told : (p : Plan) (i : ℕ) (r : Fit) (a : Answer) → r ≡ fitOn p i →
+    a ≡ refuse (eqb (r .width) 0) (notAdmitted i (r .excess) (r .slice)) → a ≡ fitted p i
 unfolding fitted
 fit-told p i r a e q = q ∙ rw e
 
-verdict-no : (p : Plan) (x a : Answer) (w : Refusal) → a ≡ No w → a ≡ x → record { answer = a; width = replicate 16 0 } ≡ verdictOf p x
+-- "A refused verdict gives k 0 for every kind"
+abbrev refusedBy : Answer → Verdict
+refusedBy a = record { answer = a; width = replicate 16 0; slice = replicate 16 0 }
+
+verdict-no : (p : Plan) (x a : Answer) (w : Refusal) → a ≡ No w → a ≡ x → refusedBy a ≡ verdictOf p x
 verdict-no p x a w e q = rw (← q, e)
 
 module _ (p : Plan) (i : ℕ) (so : Good ≡ eachTo i (fitted p)) where
   -- the first kind with no k leaves at once
   pub fits-no : (r : Fit) (a : Answer) (w : Refusal) → i < p .kinds → a ≡ No w → r ≡ fitOn p i →
-      a ≡ refuse (eqb (r .width) 0) (notAdmitted i (r .excess)) → record { answer = a; width = replicate 16 0 } ≡ verdictOf p (admitted p)
+      a ≡ refuse (eqb (r .width) 0) (notAdmitted i (r .excess) (r .slice)) → refusedBy a ≡ verdictOf p (admitted p)
   unfolding admitted
   fits-no r a w l n e q = verdict-no p (admitted p) a w n (each-opened (p .kinds) i (fitted p) a w so n (fit-told p i r a e q) l)
 
-  pub fits-again : (r : Fit) (a : Answer) → a ≡ Good → r ≡ fitOn p i → a ≡ refuse (eqb (r .width) 0) (notAdmitted i (r .excess)) →
-      Good ≡ eachTo (i + 1) (fitted p)
+  pub fits-again : (r : Fit) (a : Answer) → a ≡ Good → r ≡ fitOn p i →
+      a ≡ refuse (eqb (r .width) 0) (notAdmitted i (r .excess) (r .slice)) → Good ≡ eachTo (i + 1) (fitted p)
   fits-again r a g e q = each-more i (fitted p) so (sym g ∙ fit-told p i r a e q)
 
-  pub fits-all : (k : List ℕ) → k ≡ written i (widthOf p) (replicate 16 0) → i ≤ p .kinds → p .kinds ≤ i →
-      record { answer = Good; width = k } ≡ verdictOf p (admitted p)
+  pub fits-all : (k s : List ℕ) → k ≡ written i (widthOf p) (replicate 16 0) → s ≡ written i (badSliceOf p) (replicate 16 0) →
+      i ≤ p .kinds → p .kinds ≤ i → record { answer = Good; width = k; slice = s } ≡ verdictOf p (admitted p)
   unfolding admitted
-  fits-all k e l m = rw (← (each-stop i (p .kinds) (fitted p) Good so l m), written-stop i (p .kinds) (widthOf p) (replicate 16 0) k e l m)
+  fits-all k s e f l m =
+      rw (
+        ← (each-stop i (p .kinds) (fitted p) Good so l m),
+        written-stop i (p .kinds) (widthOf p) (replicate 16 0) k e l m,
+        written-stop i (p .kinds) (badSliceOf p) (replicate 16 0) s f l m,
+      )
 
 pub width-again : (p : Plan) (i : ℕ) (r : Fit) (before after : List ℕ) → before ≡ written i (widthOf p) after → r ≡ fitOn p i →
     set before i (r .width) ≡ written (i + 1) (widthOf p) after
 width-again p i r before after e q = written-again i (widthOf p) after before (r .width) e (rw q)
 
+pub slice-again : (p : Plan) (i : ℕ) (r : Fit) (before after : List ℕ) → before ≡ written i (badSliceOf p) after → r ≡ fitOn p i →
+    set before i (r .slice) ≡ written (i + 1) (badSliceOf p) after
+slice-again p i r before after e q = written-again i (badSliceOf p) after before (r .slice) e (rw q)
+
 -- ---- the stages
 
-pub judged-no : (p : Plan) (a : Answer) (w : Refusal) → a ≡ No w → a ≡ checked p → record { answer = a; width = replicate 16 0 } ≡ judged p
+pub judged-no : (p : Plan) (a : Answer) (w : Refusal) → a ≡ No w → a ≡ checked p → refusedBy a ≡ judged p
 unfolding judged
 judged-no p a w e q = verdict-no p (checked p andThen admitted p) a w e (opened-no a (checked p) (admitted p) w e q)
 

@@ -32,14 +32,26 @@ add-result-2 c = search needs
 excess-requires : tie.Need-excess-requires
 excess-requires c κs = search needs
 
-word-requires : tie.Need-word-requires
-word-requires c κs = search needs
+low-requires : tie.Need-low-requires
+low-requires c κs = search needs
 
 mul-result-3 : tie.Need-mul-result-3
 mul-result-3 c = search needs
 
 add-result-3 : tie.Need-add-result-3
 add-result-3 c = search needs
+
+slice-requires : tie.Need-slice-requires
+slice-requires c κs = search needs
+
+byte-requires-3 : tie.Need-byte-requires-3
+byte-requires-3 c κs = search needs
+
+mul-result-4 : tie.Need-mul-result-4
+mul-result-4 c = search needs
+
+add-result-4 : tie.Need-add-result-4
+add-result-4 c = search needs
 
 returns : tie.Need-returns
 returns c = search told-is
@@ -57,7 +69,11 @@ told-spec =
     mul-result-2
     add-result-2
     excess-requires
-    word-requires
+    low-requires
     mul-result-3
     add-result-3
+    slice-requires
+    byte-requires-3
+    mul-result-4
+    add-result-4
     returns)

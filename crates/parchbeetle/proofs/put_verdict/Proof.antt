@@ -1,4 +1,4 @@
--- `parchbeetle::put_widths` meets its contract.
+-- `parchbeetle::put_verdict` meets its contract.
 -- Assumes nothing.
 use borrow.Author.Needs.{needs}
 use native.Mathlib.Omega.{arith}
@@ -7,21 +7,21 @@ use Prim.Native.Nat.{_≤_, _-_}
 use lib.ListN.{length, length-set}
 use Rattle.laws.specs.Written.{written}
 use Rattle.laws.specs.Written.Properties.{written-none, written-again, written-stop}
-use Rattle.parchbeetle.specs.Exports.{widthAt}
-use Rattle.parchbeetle.proofs.put_widths.Statement.{statement}
-use Rattle.parchbeetle.proofs.put_widths.Tie as tie
+use Rattle.parchbeetle.specs.Exports.{verdictByte}
+use Rattle.parchbeetle.proofs.put_verdict.Statement.{statement}
+use Rattle.parchbeetle.proofs.put_verdict.Tie as tie
 
 abbrev Inv-loop : tie.InvT-loop
-Inv-loop k₀ width i₀ k i = (i ≤ 16) × (k ≡ written i (widthAt width) k₀) × (length k ≡ length k₀)
+Inv-loop width slice k₀ i₀ k i = (i ≤ 32) × (k ≡ written i (verdictByte width slice) k₀) × (length k ≡ length k₀)
 
 abbrev μ-loop : tie.MeasureT-loop
-μ-loop k₀ width i₀ k i = 16 - i
+μ-loop width slice k₀ i₀ k i = 32 - i
 
 loop-holds : tie.Need-loop-holds Inv-loop μ-loop
 loop-holds c = (omega arith, written-none _ _, refl)
 
-array-read-k : tie.Need-array-read-k Inv-loop μ-loop
-array-read-k c = search needs
+verdict-byte-requires : tie.Need-verdict-byte-requires Inv-loop μ-loop
+verdict-byte-requires c κs = search needs
 
 slice-write-k : tie.Need-slice-write-k Inv-loop μ-loop
 slice-write-k c = search needs
@@ -41,14 +41,14 @@ same-length c = search needs
 returns : tie.Need-returns Inv-loop μ-loop
 returns c = search written-stop
 
-pub put-widths-spec : {M : Type 1} → statement M
-put-widths-spec =
+pub put-verdict-spec : {M : Type 1} → statement M
+put-verdict-spec =
     tie.close
     (tie.spec
     Inv-loop
     μ-loop
     loop-holds
-    array-read-k
+    verdict-byte-requires
     slice-write-k
     add-i
     loop-less

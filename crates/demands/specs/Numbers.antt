@@ -1,20 +1,20 @@
--- Document 01, "Numbers given back when we say no": the numbers that each call lists, and what each number comes with.
+-- Documents 01, "Numbers given back when we say no", and 02: the numbers that each call lists, and what each number comes with.
 -- Assumes nothing.
 use mathlib.Core.Path.{refl}
-use mathlib.Core.Bool.{not, _&&_}
+use mathlib.Core.Bool.{not}
 use mathlib.Core.List.{List, [], _∷_}
-use Prim.Native.Nat.{ℕ, _*_, _≤_, _<_}
+use Prim.Native.Nat.{ℕ, _≤_}
 use native.Mathlib.Omega.{arith}
-use lib.Dec.{leb, ltb, eqb}
+use lib.Dec.{ltb, eqb}
 use lib.ListN.{length}
 use Rattle.answer.specs.Numbers.{among, covers, Numbered}
-use Rattle.answer.specs.Numbers.Properties.{bare-numbered, project-numbered, kind-numbered, eight-numbered}
+use Rattle.answer.specs.Numbers.Properties.{bare-numbered, eight-numbered}
 use Rattle.answer.specs.Numbers.Properties.{refuse-numbered, andThen-numbered, each-numbered, wider}
 use Rattle.plan.specs.declared.Plan.{Plan}
-use Rattle.plan.specs.Order.{within, sized, tidyProjects, tidyKinds, inRange, timed, budgets, projectOf, kindOf, InOrder}
-use Rattle.plan.specs.Order.{sizes, unused, projectInRange, projectsInRange, kindInRange, kindInRangeAt, kindsInRange}
-use Rattle.plan.specs.Order.{budgetsFit, ranges, checked}
+use Rattle.plan.specs.Order.{within, InOrder, ranges, checked}
 use Rattle.plan.specs.Order.Properties.{sizes-says, in-order}
+use Rattle.plan.specs.Open.{withBudget, rangesOpen, checkedOpen, InOrderOpen}
+use Rattle.plan.specs.Open.Properties.{open-order}
 use Rattle.plan_bytes.specs.Parts.{headed, decoded, size}
 use Rattle.plan_bytes.specs.Reading.{spareZero, bodyAnswer, readAnswer, readOf}
 use Rattle.plan_bytes.specs.Writing.{writeAnswer}
@@ -22,6 +22,10 @@ use Rattle.layout.specs.Table.{tableAnswer, tableLength}
 use Rattle.verdict.specs.Verdict.{widthOf, excessOf, badSliceOf, fitted, admitted, judged}
 use Rattle.verdict.specs.Steps.{fitOn}
 use Rattle.verdict.specs.Steps.Properties.{excess-room, slice-room}
+use Rattle.smallest_budget.specs.Smallest.{excessWith, sliceWith, lacks, mostBudget, leastBudget, fittedWith, servedWith, smallestAnswer}
+use Rattle.smallest_budget.specs.Smallest.{smallestOf}
+use Rattle.smallest_budget.specs.Steps.{fitWith}
+use Rattle.smallest_budget.specs.Steps.Properties.{with-room, with-slice}
 use Rattle.unit.specs.Start.{early, startable}
 use Rattle.rack.specs.declared.State.{State}
 use Rattle.rack.specs.State.{lastClock, unitOf, kindAt, used}
@@ -31,6 +35,9 @@ use Rattle.rack.specs.Start.{startAnswer}
 use Rattle.rack.specs.Release.{releaseAnswer}
 use Rattle.rack.specs.Advance.{timeLeft}
 use Rattle.rack.specs.Slice.{roomFor, sliceAnswer}
+use Rattle.demands.specs.Numbers.Stages.{sizes-numbers, unused-numbers, there-numbers, projects-numbers, projects-open-numbers}
+use Rattle.demands.specs.Numbers.Stages.{kinds-numbers, sum-numbers}
+pub mod Stages
 
 -- ---- the numbers that each call lists
 
@@ -50,6 +57,14 @@ writeOrder = 9 ∷ recordOrder
 abbrev pub verdictOrder : List ℕ
 verdictOrder = 8 ∷ recordOrder
 
+-- "2, 3, then 27 for a project not below p; the rest of the record order, 4 skipping that one budget, without 7"
+abbrev pub openOrder : List ℕ
+openOrder = 2 ∷ 3 ∷ 27 ∷ 4 ∷ 5 ∷ 6 ∷ []
+
+-- "then 8 exactly when no B up to qF serves ..; then 7"
+abbrev pub smallestOrder : List ℕ
+smallestOrder = 8 ∷ 7 ∷ openOrder
+
 -- "the record order, 10": what a slice and a release begin with
 abbrev pub stateOrder : List ℕ
 stateOrder = 10 ∷ recordOrder
@@ -64,37 +79,19 @@ sliceOrder = 9 ∷ 11 ∷ stateOrder
 
 -- ---- the record order
 
-sizes-numbers : (p : Plan) → Numbered recordOrder (sizes p)
-unfolding sizes among
-sizes-numbers p = refuse-numbered _ (not (sized p)) _ (bare-numbered _ 2 (λ z. omega arith) refl)
-
-unused-numbers : (p : Plan) → Numbered recordOrder (unused p)
-unfolding unused among
-unused-numbers p = refuse-numbered _ (not (tidyProjects p && tidyKinds p)) _ (bare-numbered _ 3 (λ z. omega arith) refl)
-
-kind-numbers : (p : Plan) (i : ℕ) → i < 16 → Numbered recordOrder (kindInRangeAt p i)
-unfolding kindInRange among
-kind-numbers p i l =
-    andThen-numbered _ _ _ (refuse-numbered _ (not (ltb (kindOf p i .project) (p .projects))) _ (kind-numbered _ 5 i refl refl l))
-    (λ e. refuse-numbered _ (not (timed (kindOf p i))) _ (kind-numbered _ 6 i refl refl l))
-
 ranges-numbers : (p : Plan) → p .projects ≤ 8 → p .kinds ≤ 16 → Numbered recordOrder (ranges p)
-unfolding ranges projectsInRange kindsInRange budgetsFit among
+unfolding ranges among
 ranges-numbers p a b =
-    andThen-numbered _ _ _ (each-numbered _ (p .projects) (projectInRange p) projects)
-    (λ e. andThen-numbered _ _ _ (each-numbered _ (p .kinds) (kindInRangeAt p) (λ i l. kind-numbers p i (omega arith)))
-    (λ f. refuse-numbered _ (not (leb (budgets p) (p .cards * p .frame))) _ (bare-numbered _ 7 (λ z. omega arith) refl)))
-  where
-    projects : (j : ℕ) → j < p .projects → Numbered recordOrder (projectInRange p j)
-    projects j l =
-        refuse-numbered _ (not (inRange (p .cards) (p .frame) (projectOf p j))) _ (project-numbered _ 4 j refl refl (omega arith))
+    andThen-numbered _ _ _ (projects-numbers _ p a refl)
+    (λ e. andThen-numbered _ _ _ (kinds-numbers _ p b refl refl) (λ f. sum-numbers _ p refl))
 
 -- `Plan::check`
 pub check-numbers : (p : Plan) → Numbered recordOrder (checked p)
-unfolding checked
+unfolding checked among
 check-numbers p =
-    andThen-numbered _ _ _ (sizes-numbers p)
-    (λ e. andThen-numbered _ _ _ (unused-numbers p) (λ f. ranges-numbers p (sizes-says p e .projects-most) (sizes-says p e .kinds-most)))
+    andThen-numbered _ _ _ (sizes-numbers _ p refl)
+    (λ e. andThen-numbered _ _ _ (unused-numbers _ p refl)
+    (λ f. ranges-numbers p (sizes-says p e .projects-most) (sizes-says p e .kinds-most)))
 
 -- ---- plan bytes and the slot table
 
@@ -103,7 +100,7 @@ pub read-numbers : (bytes : List ℕ) → Numbered bytesOrder (readOf bytes .ans
 unfolding readOf readAnswer bodyAnswer decoded among covers
 read-numbers bytes =
     andThen-numbered _ _ _ (refuse-numbered _ (ltb (length bytes) 3) _ (bare-numbered _ 1 (λ z. omega arith) refl))
-    (λ a. andThen-numbered _ _ _ (wider _ recordOrder _ refl (sizes-numbers (headed bytes)))
+    (λ a. andThen-numbered _ _ _ (sizes-numbers _ (headed bytes) refl)
     (λ e. andThen-numbered _ _ _
     (refuse-numbered _ (ltb (length bytes) (size (headed bytes))) _ (bare-numbered _ 1 (λ z. omega arith) refl))
     (λ b. andThen-numbered _ _ _ (refuse-numbered _ (not (spareZero bytes)) _ (bare-numbered _ 3 (λ z. omega arith) refl))
@@ -139,6 +136,34 @@ pub judge-numbers : (p : Plan) → Numbered verdictOrder (judged p .answer)
 unfolding judged covers among
 judge-numbers p =
     andThen-numbered _ _ _ (wider _ recordOrder _ refl (check-numbers p)) (λ e. admitted-numbers p (in-order p e))
+
+-- ---- the smallest budget
+
+-- `Plan::check_open`
+pub check-open-numbers : (p : Plan) (j : ℕ) → Numbered openOrder (checkedOpen p j)
+unfolding checkedOpen rangesOpen among
+check-open-numbers p j =
+    andThen-numbered _ _ _ (sizes-numbers _ p refl)
+    (λ e. andThen-numbered _ _ _ (unused-numbers _ p refl)
+    (λ f. andThen-numbered _ _ _ (there-numbers _ p j refl)
+    (λ g. andThen-numbered _ _ _ (projects-open-numbers _ p j (sizes-says p e .projects-most) refl)
+    (λ h. kinds-numbers _ p (sizes-says p e .kinds-most) refl refl))))
+
+served-numbers : (p : Plan) (j : ℕ) → InOrderOpen p j → (b : ℕ) → Numbered smallestOrder (servedWith p j b)
+unfolding servedWith among
+served-numbers p j o b =
+    each-numbered _ (p .kinds) (fittedWith p j b)
+    (λ i l. refuse-numbered _ (lacks p j b i) _
+    (eight-numbered _ i (excessWith p j b i) (sliceWith p j b i) refl (omega (arith, o .counts .kinds-most))
+    (with-room p j o i l b (fitWith p j b i) refl) (with-slice p j o i l b)))
+
+-- `smallest_budget`
+pub smallest-numbers : (p : Plan) (j : ℕ) → Numbered smallestOrder (smallestOf p j .answer)
+unfolding smallestOf smallestAnswer covers among
+smallest-numbers p j =
+    andThen-numbered _ _ _ (wider _ openOrder _ refl (check-open-numbers p j))
+    (λ e. andThen-numbered _ _ _ (served-numbers p j (open-order p j e) (mostBudget p j))
+    (λ f. sum-numbers _ (withBudget p j (leastBudget p j)) refl))
 
 -- `State::start`
 pub start-numbers : (p : Plan) → Numbered verdictOrder (startAnswer p)

@@ -1,4 +1,4 @@
--- Demand 1, for every operation of document 01: any input is answered, by one outcome, and a refusal changes nothing.
+-- Demand 1, for every operation of documents 01 and 02: any input is answered, by one outcome, and a refusal changes nothing.
 -- No operation has a `requires`, and a proved function ends; so whatever the input, the one outcome is reached.
 -- Assumes nothing.
 use mathlib.Core.Path.{_≡_, refl, sym, ap, _∙_}
@@ -24,6 +24,8 @@ use Rattle.layout.specs.OneOutcome.{slot-table-one-outcome}
 use Rattle.verdict.specs.Verdict.{judged}
 use Rattle.verdict.specs.OneOutcome.{judge-one-outcome}
 use Rattle.verdict.specs.Admission.Properties.{none-refused, no-slice-refused}
+use Rattle.smallest_budget.specs.Smallest.{smallestAnswer, smallestOf}
+use Rattle.smallest_budget.specs.OneOutcome.{smallest-budget-one-outcome}
 use Rattle.rack.specs.declared.State.{State}
 use Rattle.rack.specs.declared.Next.{Next}
 use Rattle.rack.specs.State.{noState}
@@ -85,6 +87,16 @@ judging = judge-one-outcome
 -- "A refused verdict gives k 0 for every kind", and no slice beside it
 pub judging-refused : (p : Plan) → number (judged p .answer) ≢ 0 → (judged p .width ≡ replicate 16 0) × (judged p .slice ≡ replicate 16 0)
 judging-refused p h = let t = refusal (judged p .answer) h in (none-refused p (t .0) (t .1), no-slice-refused p (t .0) (t .1))
+
+-- ---- the smallest budget
+
+pub finding : (p : Plan) (j : ℕ) → One (λ r. r ≡ smallestOf p j)
+finding = smallest-budget-one-outcome
+
+-- a refusal gives budget 0
+pub finding-refused : (p : Plan) (j : ℕ) → number (smallestOf p j .answer) ≢ 0 → smallestOf p j .budget ≡ 0
+unfolding smallestOf
+finding-refused p j h = let t = refusal (smallestAnswer p j) h in rw (t .1)
 
 -- ---- a fresh start
 

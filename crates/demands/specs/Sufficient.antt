@@ -27,7 +27,7 @@ use Rattle.layout.specs.Layout.Properties.{held-least}
 use Rattle.supply.specs.Supply.{window, supply}
 use Rattle.supply.specs.Workload.{workloadPart}
 use Rattle.supply.specs.Fit.{fitsAt, leastWidth, excessAt, leastExcess}
-use Rattle.verdict.specs.Workload.{besides, partOf, workload}
+use Rattle.workload.specs.Workload.{besides, partOf, workload}
 use Rattle.verdict.specs.Verdict.{widthOf, excessOf, fitted, admitted, judged}
 use Rattle.unit.specs.declared.Unit.{Unit}
 use Rattle.rack.specs.declared.State.{State}

@@ -14,6 +14,7 @@ use Rattle.plan_bytes.specs.Reading.{readOf}
 use Rattle.plan_bytes.specs.Writing.{writeAnswer}
 use Rattle.layout.specs.Table.{tableAnswer, tableLength, tableOver}
 use Rattle.verdict.specs.Verdict.{judged}
+use Rattle.smallest_budget.specs.Smallest.{smallestOf}
 use Rattle.rack.specs.State.{freshOf}
 use Rattle.rack.specs.Start.{startAnswer}
 use Rattle.rack.specs.Release.{releaseAnswer, released}
@@ -72,6 +73,15 @@ abbrev pub Judges : List ℕ → List ℕ → ℕ → List ℕ → Type 0
 Judges plan k r after =
     let v = judged (planFrom plan) in
     Outcome (verdictAnswer plan k) 0 (written 32 (verdictByte (v .width) (v .slice)) k) k r after
+
+-- `parchbeetle_smallest_budget`: 9 for the image, then as the smallest budget answers
+unfoldable pub budgetAnswer : List ℕ → ℕ → Answer
+budgetAnswer plan project = room plan planSize andThen smallestOf (planFrom plan) project .answer
+
+-- the answer, with the least budget in the bits of a count; 0 on a refusal
+abbrev pub budgetTold : List ℕ → ℕ → ℕ
+budgetTold plan project =
+    let a = budgetAnswer plan project in told a (ifGood a (smallestOf (planFrom plan) project .budget) 0)
 
 -- ---- a state's image
 

@@ -6,7 +6,7 @@ use Prim.Native.Nat.{ℕ}
 use Rattle.answer.specs.Outcome.{One, Lent, LentTwo}
 use Rattle.answer.specs.Outcome.Properties.{is-one, leaves-one, leaves-two-one}
 use Rattle.answer.specs.Word.{told}
-use Rattle.parchbeetle.specs.Exports.{checkAnswer, Reads, WritesBytes, WritesSlots, Judges, Starts, Releases, Slices}
+use Rattle.parchbeetle.specs.Exports.{checkAnswer, Reads, WritesBytes, WritesSlots, Judges, budgetTold, Starts, Releases, Slices}
 
 -- `parchbeetle_check`
 pub parchbeetle-check-one-outcome : (plan : List ℕ) → One (λ r. r ≡ told (checkAnswer plan) 0)
@@ -27,6 +27,10 @@ parchbeetle-slot-table-one-outcome plan out = leaves-one _ _
 -- `parchbeetle_verdict`
 pub parchbeetle-verdict-one-outcome : (plan k : List ℕ) → One (λ (o : Lent ℕ). Judges plan k (o .result) (o .buffer))
 parchbeetle-verdict-one-outcome plan k = leaves-one _ _
+
+-- `parchbeetle_smallest_budget`
+pub parchbeetle-smallest-budget-one-outcome : (plan : List ℕ) (project : ℕ) → One (λ r. r ≡ budgetTold plan project)
+parchbeetle-smallest-budget-one-outcome plan project = is-one _
 
 -- `parchbeetle_fresh`
 pub parchbeetle-fresh-one-outcome : (plan state : List ℕ) → One (λ (o : Lent ℕ). Starts plan state (o .result) (o .buffer))

@@ -21,15 +21,17 @@ use Rattle.plan_bytes.specs.Reading.{readOf}
 use Rattle.plan_bytes.specs.Writing.{writeAnswer}
 use Rattle.layout.specs.Table.{tableAnswer, tableLength}
 use Rattle.verdict.specs.Verdict.{judged}
+use Rattle.smallest_budget.specs.Smallest.{smallestOf}
 use Rattle.images.specs.Image.{planSize, stateSize, planFrom, stateFrom, releasedTold}
 use Rattle.images.specs.Lent.{room}
-use Rattle.demands.specs.Numbers.{recordOrder, bytesOrder, writeOrder, verdictOrder, stateOrder, releaseOrder, sliceOrder}
-use Rattle.demands.specs.Numbers.{check-numbers, read-numbers, write-numbers, slot-table-numbers, judge-numbers, start-numbers}
-use Rattle.demands.specs.Numbers.{release-numbers, slice-numbers}
+use Rattle.demands.specs.Numbers.{recordOrder, bytesOrder, writeOrder, verdictOrder, smallestOrder, stateOrder, releaseOrder, sliceOrder}
+use Rattle.demands.specs.Numbers.{check-numbers, read-numbers, write-numbers, slot-table-numbers, judge-numbers, smallest-numbers}
+use Rattle.demands.specs.Numbers.{start-numbers, release-numbers, slice-numbers}
 use Rattle.parchbeetle.specs.Outcome.{Outcome}
-use Rattle.parchbeetle.specs.Exports.{checkAnswer, readsAnswer, writesAnswer, slotsAnswer, verdictAnswer, freshAnswer, stateAnswer}
-use Rattle.parchbeetle.specs.Exports.{releasesAnswer, slicesAnswer, Reads, WritesBytes, WritesSlots, Judges, Starts, Releases, Slices}
-use Rattle.parchbeetle.specs.Exports.Properties.{read-count, good-size, good-table}
+use Rattle.parchbeetle.specs.Exports.{checkAnswer, readsAnswer, writesAnswer, slotsAnswer, verdictAnswer, budgetAnswer, freshAnswer}
+use Rattle.parchbeetle.specs.Exports.{stateAnswer, releasesAnswer, slicesAnswer, Reads, WritesBytes, WritesSlots, Judges, budgetTold}
+use Rattle.parchbeetle.specs.Exports.{Starts, Releases, Slices}
+use Rattle.parchbeetle.specs.Exports.Properties.{read-count, good-size, good-table, budget-most}
 
 -- ---- the numbers that each function lists
 
@@ -64,6 +66,13 @@ unfolding verdictAnswer among covers
 verdict-listed plan k =
     andThen-numbered _ _ _ (room-numbers _ refl plan planSize)
     (λ e. andThen-numbered _ _ _ (wider _ verdictOrder _ refl (judge-numbers (planFrom plan))) (λ f. room-numbers _ refl k 32))
+
+-- `parchbeetle_smallest_budget`
+pub smallest-listed : (plan : List ℕ) (project : ℕ) → Numbered (9 ∷ smallestOrder) (budgetAnswer plan project)
+unfolding budgetAnswer among covers
+smallest-listed plan project =
+    andThen-numbered _ _ _ (room-numbers _ refl plan planSize)
+    (λ e. wider _ smallestOrder _ refl (smallest-numbers (planFrom plan) project))
 
 -- `parchbeetle_fresh`
 pub fresh-listed : (plan state : List ℕ) → Numbered (9 ∷ verdictOrder) (freshAnswer plan state)
@@ -148,6 +157,14 @@ slot-table-decodes plan out r after =
 pub verdict-decodes : (plan k : List ℕ) (r : ℕ) (after : List ℕ) → Judges plan k r after → Decodes (verdictAnswer plan k) 0 r
 unfolding small
 verdict-decodes plan k r after = read-again-none (9 ∷ verdictOrder) _ _ _ r after refl (verdict-listed plan k)
+
+-- `parchbeetle_smallest_budget`: the count is the least budget
+pub smallest-decodes : (plan : List ℕ) (project r : ℕ) → r ≡ budgetTold plan project →
+    Decodes (budgetAnswer plan project) (ifGood (budgetAnswer plan project) (smallestOf (planFrom plan) project .budget) 0) r
+unfolding small
+smallest-decodes plan project r e =
+    rw e (told-decodes (budgetAnswer plan project) _ (numbered-holds (9 ∷ smallestOrder) _ refl (smallest-listed plan project))
+    (counted (budgetAnswer plan project) _ (λ g. budget-most plan project g)))
 
 -- `parchbeetle_fresh`
 pub fresh-decodes : (plan state : List ℕ) (r : ℕ) (after : List ℕ) → Starts plan state r after → Decodes (freshAnswer plan state) 0 r

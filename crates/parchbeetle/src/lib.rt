@@ -5,7 +5,7 @@ ghost use Prim.Native.Nat.{_≤_, _<_, min};
 ghost use lib.ListN.{length};
 ghost use Rattle.laws.specs.Written.{written};
 ghost use Rattle.answer.specs.Word.{told};
-ghost use Rattle.parchbeetle.specs.Exports.{checkAnswer, Reads, WritesBytes, WritesSlots, verdictByte, Judges, Starts, Releases, Slices};
+ghost use Rattle.parchbeetle.specs.Exports.{checkAnswer, Reads, WritesBytes, WritesSlots, verdictByte, Judges, budgetTold, Starts, Releases, Slices};
 use answer::Answer;
 use plan::Plan;
 use rack::State;
@@ -120,6 +120,21 @@ pub extern "C" fn parchbeetle_verdict(plan: &[u8], k: &mut [u8]) -> u64
     let slice = verdict.slice;
     put_verdict(width, slice, k);
     answer.told(0)
+}
+
+// The least budget of a project of an image's plan, in the bits of a count.
+#[no_mangle]
+pub extern "C" fn parchbeetle_smallest_budget(plan: &[u8], project: u64) -> u64
+    ensures { λ r. ⌜ r ≡ budgetTold (now (plan .entry)) project ⌝ }
+{
+    let found = image_reader::plan_of(plan);
+    let seen = found.answer;
+    let Answer::Good = seen else {
+        return seen.told(0);
+    };
+    let smallest = smallest_budget::smallest_budget(found.plan, project as usize);
+    let answer = smallest.answer;
+    answer.told(smallest.budget)
 }
 
 // The fresh state of an image's plan, as an image.

@@ -1,5 +1,7 @@
 // The record check: 2, 3, 4, 5/6, 7, in that order. It answers any record, whatever its fields
 // hold. Each stage's answer is opened with `let .. else`, and a refusal leaves at once.
+mod open;
+
 ghost use mathlib.Core.Path.{_≡_};
 ghost use mathlib.Core.Bool.{_&&_};
 ghost use Prim.Native.Nat.{_≤_, _<_, _*_};

@@ -1,9 +1,12 @@
--- Document 01, "Plan A, plan B and the numbers they give": the table P1 to P11 as one claim, with document 02's bad slices beside them.
+-- Document 01, "Plan A, plan B and the numbers they give": the table P1 to P11 as one claim, with document 02's bad slices beside them; and
+-- document 02 (i) on the same plans, S1 to S8.
 -- Assumes nothing.
 use mathlib.Core.Path.{_≡_}
 use mathlib.Core.List.{List, [], _∷_, map}
 use Prim.Native.Nat.{ℕ}
 use lib.ListN.{replicate}
+use Rattle.plan.specs.declared.Plan.{Plan}
+use Rattle.plan.specs.Open.{withBudget}
 use Rattle.plan.specs.Example.{kind, likeA, planA, planB, opening, bytesA}
 use Rattle.answer.specs.Answer.{number, place, excess, slice}
 use Rattle.layout.specs.Cards.{heldFrom}
@@ -14,6 +17,8 @@ use Rattle.plan_bytes.specs.Parts.{encoded}
 use Rattle.plan_bytes.specs.Reading.{readOf}
 use Rattle.verdict.specs.declared.Verdict.{Verdict}
 use Rattle.verdict.specs.Verdict.{judged}
+use Rattle.smallest_budget.specs.declared.Smallest.{Smallest}
+use Rattle.smallest_budget.specs.Smallest.{smallestOf}
 use Rattle.answer.specs.declared.Answer.the-variants.{Good}
 pub mod Properties
 
@@ -42,9 +47,25 @@ besideEach a b c = 0 ∷ a ∷ b ∷ c ∷ replicate 13 0
 abbrev pub besideExcess : ℕ → List ℕ
 besideExcess a = a ∷ replicate 16 0
 
+-- a smallest budget's number, place, excess and the budget
+abbrev pub least : Smallest → List ℕ
+least s = number (s .answer) ∷ place (s .answer) ∷ excess (s .answer) ∷ s .budget ∷ []
+
+-- "give the least B"
+abbrev pub found : ℕ → List ℕ
+found b = 0 ∷ 0 ∷ 0 ∷ b ∷ []
+
+-- 27, 8 with "place and excess at qF", 7: budget 0
+abbrev pub unfound : ℕ → ℕ → ℕ → List ℕ
+unfound n at x = n ∷ at ∷ x ∷ 0 ∷ []
+
+-- the folding project is project 1 of plan A, and B its coordinator's guess
+abbrev pub guessed : ℕ → Plan
+guessed B = likeA 3 B (kind 0 8 8 6)
+
 -- ---- the table
 
--- "The proved table is P1 to P11."
+-- "The proved table is P1 to P11.", and S1 to S8
 pub record Table : Type 0 where
   -- "P1 A is .., read and written."
   pub P1-read : readOf bytesA ≡ record { answer = Good; plan = planA; taken = 22 }
@@ -81,3 +102,22 @@ pub record Table : Type 0 where
   pub P10 : figures (judged (likeA 3 6 (kind 0 8 8 6))) ≡ refusedWith 7 0 0
   -- "P11 A with budgets 5 and 5: 4, place 0, though the sum is too large as well."
   pub P11 : figures (judged (likeA 5 5 (kind 0 8 8 6))) ≡ refusedWith 4 0 0
+  -- Document 02 (i). S1 A, project 0: its budget is the least.
+  pub S1 : least (smallestOf planA 0) ≡ found 3
+  -- S2 A, project 1: one cell less would do.
+  pub S2 : least (smallestOf planA 1) ≡ found 4
+  -- S3 The folding coordinator guesses 6, too large: 7. Told 4, and with 4 written in the plan is admitted.
+  pub S3-guessed : figures (judged (guessed 6)) ≡ refusedWith 7 0 0
+  pub S3 : least (smallestOf (guessed 6) 1) ≡ found 4
+  pub S3-written : figures (judged (withBudget (guessed 6) 1 4)) ≡ admittedWith 1 1 1
+  -- S4 The folding coordinator guesses 3, too small: 8 at kind 1, excess 1. Told 4.
+  pub S4-guessed : figures (judged (guessed 3)) ≡ refusedWith 8 1 1
+  pub S4 : least (smallestOf (guessed 3) 1) ≡ found 4
+  -- S5 A has no project 2: 27.
+  pub S5 : least (smallestOf planA 2) ≡ unfound 27 0 0
+  -- S6 000's opening example does not fit even with both cards at every slice: 8, place 0, excess 4.
+  pub S6 : least (smallestOf opening 0) ≡ unfound 8 0 4
+  -- S7 A with kind 0 as (1,8,8,1) and budget 2 for project 0: project 1 needs 7 of 8 cells, so 7.
+  pub S7 : least (smallestOf (likeA 2 5 (kind 1 8 8 1)) 1) ≡ unfound 7 0 0
+  -- S8 Project 0 then has no kinds: 1.
+  pub S8 : least (smallestOf (likeA 2 5 (kind 1 8 8 1)) 0) ≡ found 1

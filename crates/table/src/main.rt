@@ -1,5 +1,5 @@
-// Runs document 01's table P1 to P11 and prints what comes out; the gate compares. The same table
-// is one proved claim, specs/Table.antt.
+// Runs document 01's table P1 to P11 and document 02 (i)'s rows S1 to S8 and prints what comes out;
+// the gate compares. The same table is one proved claim, specs/Table.antt.
 ghost use Prim.Native.Nat.{_≤_};
 use answer::Answer;
 use plan::Kind;
@@ -104,6 +104,17 @@ fn verdict(case: &[u8], plan: Plan) {
     print_decimals(&slice);
 }
 
+// A smallest budget's number, place and excess, and the budget.
+fn smallest(case: &[u8], plan: Plan, project: usize) {
+    let smallest = smallest_budget::smallest_budget(plan, project);
+    let answer = smallest.answer;
+    io::write_all(1, case);
+    print_answer(answer);
+    io::write_all(1, b" B");
+    space(smallest.budget as u64);
+    end_line();
+}
+
 // The supply at k cards and a length: with no length of its own to ask for, a unit's workload
 // exceeds the supply by what the excess says.
 fn supply(held: [u8; 64], k: u8, length: u16) {
@@ -194,6 +205,29 @@ fn layout_of_a() {
     supplies_of_a(slots);
 }
 
+// Plan A with the folding coordinator's guess for project 1.
+fn guessed(budget: u16) -> Plan {
+    like_a(3, budget, kind(0, 8, 8, 6))
+}
+
+fn smallest_budgets() {
+    smallest(b"S1", guessed(5), 0);
+    smallest(b"S2", guessed(5), 1);
+    verdict(b"S3 guessed", guessed(6));
+    smallest(b"S3", guessed(6), 1);
+    verdict(b"S3 written", guessed(4));
+    verdict(b"S4 guessed", guessed(3));
+    smallest(b"S4", guessed(3), 1);
+    smallest(b"S5", guessed(5), 2);
+    smallest(
+        b"S6",
+        one_project(1, 2, kind(0, 3, 3, 2), kind(0, 6, 6, 4), kind(0, 6, 6, 3)),
+        0,
+    );
+    smallest(b"S7", like_a(2, 5, kind(1, 8, 8, 1)), 1);
+    smallest(b"S8", like_a(2, 5, kind(1, 8, 8, 1)), 0);
+}
+
 fn main() {
     bytes_of_a();
     layout_of_a();
@@ -211,4 +245,5 @@ fn main() {
     );
     verdict(b"P10", like_a(3, 6, kind(0, 8, 8, 6)));
     verdict(b"P11", like_a(5, 5, kind(0, 8, 8, 6)));
+    smallest_budgets();
 }

@@ -6,7 +6,7 @@ use Prim.Native.Nat.{ℕ, _+_, _-_, _*_, _≤_, _<_}
 use Rattle.plan.specs.declared.Plan.{Plan}
 use Rattle.plan.specs.Order.{kindOf}
 use Rattle.supply.specs.Supply.{window}
-use Rattle.verdict.specs.Workload.{workload}
+use Rattle.workload.specs.Workload.{workload}
 use Rattle.verdict.specs.Verdict.{ceilingOn, heldOn, supplyOn}
 pub mod Properties
 

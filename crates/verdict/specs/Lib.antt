@@ -1,6 +1,5 @@
 -- The admission verdict: document 01, "Supply and verdict", and refusal 8.
 -- Assumes nothing.
-pub mod Workload
 pub mod Verdict
 pub mod Admission
 pub mod Steps

@@ -12,7 +12,7 @@ use Rattle.plan.specs.Order.{projectOf, kindOf, checked}
 use Rattle.layout.specs.Layout.{held}
 use Rattle.supply.specs.Supply.{supply}
 use Rattle.supply.specs.Fit.{leastWidth, leastExcess, namedSlice}
-use Rattle.verdict.specs.Workload.{workload}
+use Rattle.workload.specs.Workload.{workload}
 use Rattle.verdict.specs.declared.Verdict.{Verdict}
 
 -- kind i's project

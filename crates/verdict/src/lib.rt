@@ -5,7 +5,6 @@ ghost use Prim.Native.Nat.{_+_, _*_, _≤_, _<_};
 ghost use lib.Dec.{eqb};
 ghost use Rattle.answer.specs.Answer.{notAdmitted, refuse};
 ghost use Rattle.plan.specs.Order.{kindOf, InOrder};
-ghost use Rattle.verdict.specs.Workload.{workload};
 ghost use Rattle.verdict.specs.Verdict.{admitted, verdictOf, judged};
 ghost use Rattle.verdict.specs.Steps.{runCards, projectCards, allCards, fitOn};
 use answer::Answer;
@@ -50,26 +49,6 @@ fn all_cards(plan: Plan) -> [[u8; Plan::FRAME]; Plan::PROJECTS]
     cards
 }
 
-// What every other kind of the same project adds up to, against this kind's deadline.
-fn workload(plan: Plan, i: u8) -> u32
-    requires { ⌜ (InOrder plan) × (i < plan .kinds) ⌝ }
-    ensures { λ r. ⌜ (r ≡ workload plan i) × (r ≤ 65520) ⌝ }
-{
-    let kind = plan.kind[i as usize];
-    let mut sum: u32 = 0;
-    for j in 0..plan.kinds {
-        if j == i {
-            continue;
-        }
-        let other = plan.kind[j as usize];
-        if other.project != kind.project {
-            continue;
-        }
-        sum += supply::workload_part(other.separation, other.length, kind.deadline);
-    }
-    sum
-}
-
 // The k, the excess and the bad slice of a kind, from the cards that its project holds.
 fn fit_on(plan: Plan, cards: [u8; Plan::FRAME], i: u8) -> Fit
     requires { ⌜ (InOrder plan) × (i < plan .kinds) × (cards ≡ projectCards plan (kindOf plan i .project)) ⌝ }
@@ -77,13 +56,13 @@ fn fit_on(plan: Plan, cards: [u8; Plan::FRAME], i: u8) -> Fit
 {
     let kind = plan.kind[i as usize];
     let ceiling = plan.project[kind.project as usize].ceiling;
-    let workload = workload(plan, i);
+    let others = workload::workload(plan, i as usize);
     supply::least_fit(
         cards,
         plan.frame,
         ceiling,
         kind.length,
-        workload,
+        others as u32,
         kind.deadline,
     )
 }

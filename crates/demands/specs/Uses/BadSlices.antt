@@ -25,7 +25,7 @@ use Rattle.layout.specs.Layout.{cellAt, firstCell, owns, slotOf, held}
 use Rattle.supply.specs.Supply.{window, supply, badSlice}
 use Rattle.supply.specs.Workload.{workloadPart}
 use Rattle.supply.specs.Fit.{fitsAt, leastWidth, excessAt, leastExcess, excessWidth, namedWidth, namedSlice}
-use Rattle.verdict.specs.Workload.{besides, partOf, workload}
+use Rattle.workload.specs.Workload.{besides, partOf, workload}
 use Rattle.verdict.specs.Verdict.{widthOf, excessOf, badSliceOf, fitted, admitted, judged}
 use Rattle.verdict.specs.Admission.{asked, given, seen, BadSlice, Names}
 use Rattle.demands.specs.Verdicts.{slice-beside, slice-of-excess, one-slice}

@@ -21,8 +21,8 @@ use Rattle.layout.specs.Layout.{firstCell, held}
 use Rattle.layout.specs.Layout.Properties.{held-from}
 use Rattle.supply.specs.Supply.{window, supply}
 use Rattle.supply.specs.Supply.Properties.{supply-everywhere}
-use Rattle.verdict.specs.Workload
-use Rattle.verdict.specs.Workload.{besides, partOf}
+use Rattle.workload.specs.Workload
+use Rattle.workload.specs.Workload.{besides, partOf}
 use Rattle.verdict.specs.Verdict.{judged}
 use Rattle.verdict.specs.Admission.Properties.{judged-in-order, given-fits}
 use Rattle.rack.specs.declared.State.{State}

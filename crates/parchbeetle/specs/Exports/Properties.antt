@@ -16,7 +16,7 @@ use Rattle.answer.specs.declared.Answer.{Answer}
 use Rattle.answer.specs.declared.Answer.the-variants.{Good, No}
 use Rattle.answer.specs.declared.Refusal.{Refusal}
 use Rattle.answer.specs.Answer.{bare, refuse, _andThen_, ifGood}
-use Rattle.answer.specs.Answer.Properties.{andThen-left, opened-no, opened-on}
+use Rattle.answer.specs.Answer.Properties.{andThen-left, andThen-right, opened-no, opened-on}
 use Rattle.plan.specs.Order.{checked, within, InOrder}
 use Rattle.plan.specs.Order.Properties.{in-order}
 use Rattle.plan_bytes.specs.declared.Reading.{Reading}
@@ -29,6 +29,9 @@ use Rattle.layout.specs.declared.table.TableWritten.{TableWritten}
 use Rattle.layout.specs.Table.{tableAnswer, tableLength, Tabled}
 use Rattle.verdict.specs.declared.Verdict.{Verdict}
 use Rattle.verdict.specs.Verdict.{judged}
+use Rattle.smallest_budget.specs.declared.Smallest.{Smallest}
+use Rattle.smallest_budget.specs.Smallest.{smallestOf}
+use Rattle.smallest_budget.specs.Smallest.Properties.{found-most}
 use Rattle.rack.specs.declared.State.{State}
 use Rattle.rack.specs.declared.Next.{Next}
 use Rattle.rack.specs.State.{freshOf, noState, nextOf, kindAt, unitOf}
@@ -49,8 +52,8 @@ use Rattle.images.specs.Lent.Properties.{state-on}
 use Rattle.answer.specs.Word.{told}
 use Rattle.parchbeetle.specs.Outcome.Properties.{refused-outcome, good-outcome, stored-outcome, uncounted}
 use Rattle.parchbeetle.specs.Exports.{checkAnswer, readsAnswer, Reads, writesAnswer, WritesBytes, slotsAnswer, WritesSlots}
-use Rattle.parchbeetle.specs.Exports.{verdictAnswer, verdictByte, Judges, freshAnswer, Starts, stateAnswer, releasesAnswer, Releases}
-use Rattle.parchbeetle.specs.Exports.{slicesAnswer, Slices}
+use Rattle.parchbeetle.specs.Exports.{verdictAnswer, verdictByte, Judges, budgetAnswer, budgetTold, freshAnswer, Starts, stateAnswer}
+use Rattle.parchbeetle.specs.Exports.{releasesAnswer, Releases, slicesAnswer, Slices}
 
 -- ---- `parchbeetle_check`
 
@@ -192,6 +195,40 @@ judge-good plan k after f v r e g h n l m t =
     good-outcome (verdictAnswer plan k) 0 _ k r after (judge-room plan k f v Good e g h n (long-room k 32 l))
     (t ∙ ap (λ (x : Answer). told x 0) n)
     (m ∙ ap (λ (x : Verdict). written 32 (verdictByte (x .width) (x .slice)) k) (judge-is plan f v e g h))
+
+-- ---- `parchbeetle_smallest_budget`: v is what was found
+
+-- 0 on a refusal, as the operation has it
+budget-is : (p : Plan) (j : ℕ) (a : Answer) → a ≡ smallestOf p j .answer → smallestOf p j .budget ≡ ifGood a (smallestOf p j .budget) 0
+unfolding smallestOf
+budget-is p j Good e = refl
+budget-is p j (No w) e = rw (← e)
+
+-- what the bits of a count hold
+pub budget-most : (plan : List ℕ) (project : ℕ) → budgetAnswer plan project ≡ Good → smallestOf (planFrom plan) project .budget < 65536
+unfolding budgetAnswer
+budget-most plan project e =
+    omega (
+      arith,
+      found-most (planFrom plan) project (andThen-right (room plan planSize) (smallestOf (planFrom plan) project .answer) e),
+    )
+
+pub budget-unfound : (plan : List ℕ) (project : ℕ) (f : PlanFound) (w : Refusal) (r : ℕ) → f ≡ planFound plan → f .answer ≡ No w →
+    r ≡ told (f .answer) 0 → r ≡ budgetTold plan project
+unfolding budgetAnswer
+budget-unfound plan project f w r e g h =
+    let a = plan-no plan f (smallestOf (planFrom plan) project .answer) w e g in
+    h ∙ rw (← a, g)
+
+pub budget-told : (plan : List ℕ) (project : ℕ) (f : PlanFound) (v : Smallest) (r : ℕ) → f ≡ planFound plan → f .answer ≡ Good →
+    v ≡ smallestOf (f .plan) project → r ≡ told (v .answer) (v .budget) → r ≡ budgetTold plan project
+unfolding budgetAnswer
+budget-told plan project f v r e g h t =
+    let s = smallestOf (planFrom plan) project in
+    let q : v ≡ s = h ∙ ap (λ (x : Plan). smallestOf x project) (plan-is plan f e g) in
+    let a : s .answer ≡ (room plan planSize andThen s .answer) = plan-on plan f (s .answer) (s .answer) e g refl in
+    t ∙ ap (λ (x : Smallest). told (x .answer) (x .budget)) q ∙ ap (told (s .answer)) (budget-is (planFrom plan) project (s .answer) refl)
+    ∙ ap (λ (x : Answer). told x (ifGood x (s .budget) 0)) a
 
 -- ---- `parchbeetle_fresh`: v is what the start handed back
 

@@ -1,4 +1,4 @@
--- The proved table: document 01's P1 to P11, computed from the definitions.
+-- The proved table: document 01's P1 to P11 and document 02 (i)'s S1 to S8, computed from the definitions.
 -- Assumes nothing.
 use mathlib.Core.Path.{refl}
 use Rattle.laws.specs.Sum.{sumTo}
@@ -10,6 +10,7 @@ use Rattle.laws.specs.Written.{written}
 use Rattle.answer.specs.Answer.{eachTo}
 use Rattle.plan.specs.Order.{within, sized, emptyProject, emptyKind, tidyProjects, tidyKinds, inRange, timed, budgets, sizes, unused}
 use Rattle.plan.specs.Order.{projectsInRange, kindInRange, kindsInRange, budgetsFit, ranges, checked}
+use Rattle.plan.specs.Open.{projectThere, inRangeOpen, projectsInRangeOpen, rangesOpen, checkedOpen}
 use Rattle.layout.specs.Cards.{heldFrom}
 use Rattle.layout.specs.Layout.{cellAt, firstCell, owns, slotOf, held}
 use Rattle.layout.specs.Table.{tableLength, tableOver, tableAnswer}
@@ -23,8 +24,9 @@ use Rattle.plan_bytes.specs.Parts.{size, headerBytes, projectBytes, kindBytes, 
 use Rattle.plan_bytes.specs.Parts.{projectFrom, kindFrom, projectsFrom, kindsFrom, headed, decoded}
 use Rattle.plan_bytes.specs.Reading.{headerSpare, projectSpare, kindSpare, projectsSpare, kindsSpare, placesSpare, spareZero}
 use Rattle.plan_bytes.specs.Reading.{bodyAnswer, readAnswer, readOf}
-use Rattle.verdict.specs.Workload.{besides, partOf, workload}
+use Rattle.workload.specs.Workload.{besides, partOf, workload}
 use Rattle.verdict.specs.Verdict.{widthOf, excessOf, badSliceOf, fitted, admitted, judged}
+use Rattle.smallest_budget.specs.Smallest.{widthWith, excessWith, sliceWith, serves, leastBudget, servedWith, smallestAnswer, smallestOf}
 use Rattle.table.specs.Table.{Table}
 
 pub table : Table
@@ -33,7 +35,8 @@ unfolding sumTo leastTo leastPlace firstTo countTo allTo written eachTo within s
     tableLength tableOver tableAnswer window supply badSlice workloadPart fitsAt leastWidth excessAt leastExcess excessWidth namedWidth
     namedSlice besides partOf workload widthOf excessOf badSliceOf fitted admitted judged pack unpack numberTo bytesOf size headerBytes projectBytes kindBytes partsTo encoded
     headerFields projectFields kindFields projectFrom kindFrom projectsFrom kindsFrom headed decoded headerSpare projectSpare kindSpare
-    projectsSpare kindsSpare placesSpare spareZero bodyAnswer readAnswer readOf
+    projectsSpare kindsSpare placesSpare spareZero bodyAnswer readAnswer readOf projectThere inRangeOpen projectsInRangeOpen rangesOpen
+    checkedOpen widthWith excessWith sliceWith serves leastBudget servedWith smallestAnswer smallestOf
 table = record {
   P1-read = refl;
   P1-written = refl;
@@ -58,4 +61,15 @@ table = record {
   P9-slice = refl;
   P10 = refl;
   P11 = refl;
+  S1 = refl;
+  S2 = refl;
+  S3-guessed = refl;
+  S3 = refl;
+  S3-written = refl;
+  S4-guessed = refl;
+  S4 = refl;
+  S5 = refl;
+  S6 = refl;
+  S7 = refl;
+  S8 = refl;
 }

@@ -26,7 +26,7 @@ use Rattle.supply.specs.Supply.Properties.{supply-everywhere, bad-below, bad-at
 use Rattle.supply.specs.Fit.{leastWidth, namedSlice}
 use Rattle.supply.specs.Fit.Properties.{width-most, width-fits, width-least, width-some, excess-within, excess-allows, excess-greatest}
 use Rattle.supply.specs.Fit.Properties.{named-is, slice-given}
-use Rattle.verdict.specs.Workload.{workload}
+use Rattle.workload.specs.Workload.{workload}
 use Rattle.verdict.specs.Verdict.{projectOn, ceilingOn, heldOn, widthOf, excessOf, badSliceOf, fitted, admitted, verdictOf, judged}
 use Rattle.verdict.specs.Admission.{Allows, Fits, Excess, NotAdmitted, BadSlice, Names}
 
@@ -173,7 +173,8 @@ module _ (p : Plan) (i : ℕ) where
       none g = let z : _≡_ {A = ℕ} 0 1 = cc in absurd (omega arith)
 
 -- the first place that is refused
-each-no : (n : ℕ) (f : ℕ → Answer) (w : Refusal) → eachTo n f ≡ No w → (i : ℕ) × (i < n) × (f i ≡ No w) × ((j : ℕ) → j < i → f j ≡ Good)
+pub each-no : (n : ℕ) (f : ℕ → Answer) (w : Refusal) → eachTo n f ≡ No w →
+    (i : ℕ) × (i < n) × (f i ≡ No w) × ((j : ℕ) → j < i → f j ≡ Good)
 unfolding eachTo
 each-no zero f w e = let z : _≡_ {A = ℕ} 0 1 = cc in absurd (omega arith)
 each-no (suc n) f w e = go (eachTo n f) refl (each-no n f w)

@@ -24,7 +24,8 @@ use Rattle.supply.specs.declared.Fit.{Fit}
 use Rattle.supply.specs.Fit.{heldAt, fitOf}
 use Rattle.supply.specs.Fit.Properties.{fit-framed, excess-within, slice-in-frame}
 use Rattle.verdict.specs.declared.Verdict.{Verdict}
-use Rattle.verdict.specs.Workload.{workload}
+use Rattle.workload.specs.Workload.{workload}
+use Rattle.workload.specs.Workload.Properties.{workload-most}
 use Rattle.verdict.specs.Verdict.{projectOn, ceilingOn, heldOn, widthOf, excessOf, badSliceOf, fitted, admitted, verdictOf, judged}
 use Rattle.verdict.specs.Steps.{runCards, projectCards, allCards, fitOn}
 
@@ -106,6 +107,9 @@ module _ (p : Plan) (o : InOrder p) (i : ℕ) (l : i < p .kinds) where
             (kindOf p i .deadline) (λ z. omega (arith, o .counts .some-slice)) (o .counts .frame-most),
         cards-held,
       )
+
+  pub workload-room : (w : ℕ) → w ≡ workload p i → w < 4294967296
+  workload-room w e = omega (arith, e, workload-most p (o .counts .kinds-most) (o .kind-at) i l)
 
   pub excess-room : (r : Fit) → r ≡ fitOn p i → r .excess ≤ 16777215
   unfolding excessOf

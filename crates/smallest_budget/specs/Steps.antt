@@ -1,0 +1,24 @@
+-- What the steps of finding the least budget hand on. No statement to a caller cites these.
+-- Assumes nothing.
+use Prim.Native.Nat.{ℕ}
+use mathlib.Core.List.{List}
+use lib.ListN.{replicate}
+use Rattle.laws.specs.Written.{written}
+use Rattle.plan.specs.declared.Plan.{Plan}
+use Rattle.layout.specs.Cards.{heldFrom}
+use Rattle.supply.specs.declared.Fit.{Fit}
+use Rattle.workload.specs.Workload.{workload}
+use Rattle.smallest_budget.specs.Smallest.{widthWith, excessWith, sliceWith}
+pub mod Properties
+
+-- the cards that a budget from cell 0 on holds at each slice of the frame
+unfoldable pub cardsWith : ℕ → ℕ → List ℕ
+cardsWith budget frame = written frame (heldFrom 0 budget frame) (replicate 64 0)
+
+-- the workload of each kind
+unfoldable pub workloadsOf : Plan → List ℕ
+workloadsOf p = written (p .kinds) (workload p) (replicate 16 0)
+
+-- the k, the excess and the bad slice of kind i with a budget of b
+abbrev pub fitWith : Plan → ℕ → ℕ → ℕ → Fit
+fitWith p j b i = record { width = widthWith p j b i; excess = excessWith p j b i; slice = sliceWith p j b i }

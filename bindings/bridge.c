@@ -67,10 +67,12 @@ static uint64_t called(unsigned function, uint8_t *a, size_t a_len, uint8_t *b, 
     case 4:
         return parchbeetle_verdict(a, a_len, b, b_len);
     case 5:
-        return parchbeetle_fresh(a, a_len, b, b_len);
+        return parchbeetle_smallest_budget(a, a_len, x);
     case 6:
-        return parchbeetle_release(a, a_len, x, y);
+        return parchbeetle_fresh(a, a_len, b, b_len);
     case 7:
+        return parchbeetle_release(a, a_len, x, y);
+    case 8:
         return parchbeetle_slice(a, a_len, b, b_len);
     default:
         fprintf(stderr, "bridge: no function %u\n", function);

@@ -29,9 +29,9 @@ extern "C" {
  * A minor version may add functions, fields and numbers; an image belongs to the
  * version that made it. Plan bytes are read by every later version.
  */
-#define PARCHBEETLE_VERSION "0.1.0"
+#define PARCHBEETLE_VERSION "0.2.0"
 #define PARCHBEETLE_VERSION_MAJOR 0
-#define PARCHBEETLE_VERSION_MINOR 1
+#define PARCHBEETLE_VERSION_MINOR 2
 #define PARCHBEETLE_VERSION_PATCH 0
 
 /* ---- Images */
@@ -105,8 +105,9 @@ extern "C" {
  *
  *   bits 0-7    number: 0 for a good answer, else one of those below
  *   bits 8-15   place: the project (with 4) or the kind (with 5, 6, 8); else 0
- *   bits 16-31  count: bytes taken (read) or written (write, slot_table); 0 for
- *               the other functions and on a refusal
+ *   bits 16-31  count: bytes taken (read) or written (write, slot_table), or the
+ *               least budget (smallest_budget); 0 for the other functions and on a
+ *               refusal
  *   bits 32-63  excess (with 8): the slices by which the unit is too long; else 0
  *
  * A plan or state image that is given and is shorter than its size: 9, before
@@ -136,7 +137,8 @@ extern "C" {
     number(12, "there is no such kind")                                         \
     number(13, "the unit's length is 0 or above its kind's")                    \
     number(14, "the kind's last release was less than its separation ago")      \
-    number(15, "slices of the kind's earlier unit are left")
+    number(15, "slices of the kind's earlier unit are left")                    \
+    number(27, "there is no such project")
 
 /* A number in words, as above. */
 static inline const char *parchbeetle_words(unsigned number);
@@ -176,6 +178,16 @@ uint64_t parchbeetle_slot_table(const uint8_t *plan, size_t plan_len, uint8_t *o
  * Refusals: as parchbeetle_check, then 8, then 9 (k_len below 16).
  */
 uint64_t parchbeetle_verdict(const uint8_t *plan, size_t plan_len, uint8_t *k, size_t k_len);
+
+/*
+ * The smallest budget of a project: the least B of 1..qF at which each of its kinds
+ * has a k. Its stored budget is not looked at, and no other project's kinds are
+ * judged. The count is that budget; with it the plan is in order.
+ * Refusals, in order: 9 (plan_len below 140), 2, 3, 27, 4 (of every project; of this
+ * one the ceiling alone), then kind by kind 5 and 6; 8 (no budget of 1..qF serves; place
+ * and excess are those at qF); 7 (the least budget makes the sum too large).
+ */
+uint64_t parchbeetle_smallest_budget(const uint8_t *plan, size_t plan_len, uint64_t project);
 
 /* ---- Running */
 

@@ -88,6 +88,19 @@ static void functions(void) {
     answers("verdict, kind 1 by 2", parchbeetle_verdict(wrong, PLAN, widths, 16), 8, 1, 0, 2);
     answers("fresh, kind 1 by 2", parchbeetle_fresh(wrong, PLAN, state, STATE), 8, 1, 0, 2);
 
+    answers("smallest_budget, project 0", parchbeetle_smallest_budget(plan, PLAN, 0), 0, 0, 3, 0);
+    answers("smallest_budget, project 1", parchbeetle_smallest_budget(plan, PLAN, 1), 0, 0, 4, 0);
+    answers("smallest_budget, short", parchbeetle_smallest_budget(plan, PLAN - 1, 2), 9, 0, 0, 0);
+    answers("smallest_budget, no project", parchbeetle_smallest_budget(plan, PLAN, (uint64_t)1 << 32), 27, 0, 0, 0);
+    answers("smallest_budget, kind 1 by 2", parchbeetle_smallest_budget(wrong, PLAN, 1), 8, 1, 0, 2);
+    memcpy(wrong, plan, PLAN);
+    parchbeetle_set_project_budget(wrong, 1, 9);
+    answers("smallest_budget, the open budget", parchbeetle_smallest_budget(wrong, PLAN, 1), 0, 0, 4, 0);
+    answers("smallest_budget, another budget", parchbeetle_smallest_budget(wrong, PLAN, 0), 4, 1, 0, 0);
+    parchbeetle_set_project_ceiling(wrong, 0, 2);
+    parchbeetle_set_project_budget(wrong, 0, 5);
+    answers("smallest_budget, no room", parchbeetle_smallest_budget(wrong, PLAN, 1), 7, 0, 0, 0);
+
     answers("fresh", parchbeetle_fresh(plan, PLAN, state, STATE), 0, 0, 0, 0);
     expect("the plan in the state", memcmp(state, plan, PLAN) == 0);
     answers("fresh, no room", parchbeetle_fresh(plan, PLAN, state, STATE - 1), 9, 0, 0, 0);
@@ -174,10 +187,11 @@ static void fields(void) {
 
 static void words(void) {
     expect("0 in words", strcmp(parchbeetle_words(0), "good") == 0);
-    for (unsigned number = 1; number < 16; number++) {
-        expect("a number in words", strcmp(parchbeetle_words(number), parchbeetle_words(16)) != 0);
+    for (unsigned number = 1; number < 28; number++) {
+        int known = strcmp(parchbeetle_words(number), parchbeetle_words(28)) != 0;
+        expect("a number in words", known == (number < 16 || number == 27));
     }
-    expect("16 is no number", strcmp(parchbeetle_words(16), "no number of this version") == 0);
+    expect("28 is no number", strcmp(parchbeetle_words(28), "no number of this version") == 0);
 }
 
 int main(void) {

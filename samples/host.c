@@ -1,4 +1,5 @@
-/* A card host: makes a plan, starts on it, releases two units, and runs slices until none is left of them. */
+/* A card host: makes a plan, asks for the budget that it needs, starts on it, releases two units, and runs slices until none is left
+ * of them. */
 #include <stdio.h>
 
 #include "parchbeetle.h"
@@ -8,6 +9,9 @@ static int good(const char *what, uint64_t answer) {
     printf("%s: %s", what, parchbeetle_words(number));
     if (number == 8) {
         printf(" (kind %u, by %u)", PARCHBEETLE_PLACE(answer), PARCHBEETLE_EXCESS(answer));
+    }
+    if (PARCHBEETLE_COUNT(answer) > 0) {
+        printf(" (%u)", PARCHBEETLE_COUNT(answer));
     }
     printf("\n");
     return number == 0;
@@ -27,7 +31,11 @@ int main(void) {
         parchbeetle_set_kind_length(plan, kind, 5);
     }
     while (!good("start", parchbeetle_fresh(plan, sizeof plan, state, sizeof state))) {
-        parchbeetle_set_kind_length(plan, 0, parchbeetle_kind_length(plan, 0) - 1);
+        uint64_t smallest = parchbeetle_smallest_budget(plan, sizeof plan, 0);
+        if (!good("smallest budget", smallest)) {
+            return 1;
+        }
+        parchbeetle_set_project_budget(plan, 0, PARCHBEETLE_COUNT(smallest));
     }
     good("release of kind 0", parchbeetle_release(state, sizeof state, 0, 4));
     good("release of kind 1", parchbeetle_release(state, sizeof state, 1, 2));

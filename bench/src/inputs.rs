@@ -44,6 +44,11 @@ pub fn only_at(q: u8, n: u16, frame: u8, d: u16) -> Plan {
     plan
 }
 
+/// The largest project whose budget can be left open: eight cards, frame 64, sixteen kinds, each of which fits at k = 8 alone.
+pub fn open(d: u16) -> Plan {
+    only_at(8, 16, 64, d)
+}
+
 /// Eight cards held throughout by one project with `n` kinds that all have work, released one slice after another.
 pub fn all_active(n: u16, frame: u8, d: u16) -> State {
     let kinds = vec![(0, d, d, d); usize::from(n)];

@@ -62,6 +62,19 @@ fn main() {
     table.add_grown([4, 8, 16].map(|n| judged(8, n, 64, 4095)));
     table.print();
 
+    let mut table = Table::new(
+        "the smallest budget (the second program walks from 1 upward, the others halve)",
+    );
+    for (name, plan, project) in [
+        ("plan A, project 1", Plan::a(), 1),
+        ("typical, project 0", inputs::typical(), 0),
+        ("largest: q 8, n 16, F 64, D 4095", inputs::open(4095), 0),
+        ("the same, D 4032", inputs::open(4032), 0),
+    ] {
+        table.add(smallest(name, &plan, project));
+    }
+    table.print();
+
     let mut slices = Table::new("one slice, all kinds active (m 8, p 1, q 8, B 8F)");
     for n in [1, 8, 16] {
         slices.add(slice(
@@ -156,6 +169,22 @@ fn verdict(name: String, plan: &Plan) -> Row {
             &mut || kept(Proved.verdict(black_box(&image), black_box(&mut one))),
             &mut || kept(Second.verdict(black_box(&image), black_box(&mut other))),
             &mut || kept(tuned::verdict(black_box(plan), black_box(&mut own))),
+        ],
+    )
+}
+
+fn smallest(name: &str, plan: &Plan, project: u64) -> Row {
+    let image = plan_image(plan);
+    let word = agree(&Case::smallest_budget(image.to_vec(), project));
+    let same = tuned::smallest_budget(plan, project) == word;
+    stop_unless(same, "tuned differs", name);
+
+    medians(
+        format!("{name}, B {}", word >> 16),
+        [
+            &mut || kept(Proved.smallest_budget(black_box(&image), black_box(project))),
+            &mut || kept(Second.smallest_budget(black_box(&image), black_box(project))),
+            &mut || kept(tuned::smallest_budget(black_box(plan), black_box(project))),
         ],
     )
 }

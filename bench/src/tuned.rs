@@ -17,17 +17,21 @@ pub fn check(plan: &Plan) -> u64 {
     if sizes_out_of_range(plan) {
         return 2;
     }
+    match unused_not_zero(plan) {
+        true => 3,
+        false => ranges(plan),
+    }
+}
+
+/// 3, of a plan whose sizes are in range.
+fn unused_not_zero(plan: &Plan) -> bool {
     let (p, n) = (usize::from(plan.p), usize::from(plan.n));
-    let unused = plan.projects[p..]
+    plan.projects[p..]
         .iter()
         .any(|one| (one.ceiling, one.budget) != (0, 0))
         || plan.kinds[n..]
             .iter()
-            .any(|one| (one.project, one.separation, one.deadline, one.length) != (0, 0, 0, 0));
-    match unused {
-        true => 3,
-        false => ranges(plan),
-    }
+            .any(|one| (one.project, one.separation, one.deadline, one.length) != (0, 0, 0, 0))
 }
 
 fn sizes_out_of_range(plan: &Plan) -> bool {
@@ -128,7 +132,6 @@ pub fn verdict(plan: &Plan, k: &mut [u8; 16]) -> u64 {
         return word;
     }
     // The cards that each project holds at each slice, two frames long so that a window never wraps.
-    let frame = usize::from(plan.frame);
     let mut held = [[0u8; 128]; 8];
     let mut first = 0;
     for (project, held) in plan
@@ -138,42 +141,124 @@ pub fn verdict(plan: &Plan, k: &mut [u8; 16]) -> u64 {
         .zip(&mut held)
     {
         let budget = u32::from(project.budget);
-        for slice in 0..frame {
-            let (_, count) = cards(first, budget, frame as u32, slice as u32);
-            held[slice] = count as u8;
-            held[slice + frame] = count as u8;
-        }
+        hold(held, first, budget, plan.frame);
         first += budget;
     }
-    let kinds = &plan.kinds[..usize::from(plan.n)];
     let mut found = [0; 16];
-    for (i, kind) in kinds.iter().enumerate() {
-        let d = u32::from(kind.deadline);
-        let mut w = 0;
-        for (j, other) in kinds.iter().enumerate() {
-            if j != i && other.project == kind.project {
-                let (t, c) = (u32::from(other.separation), u32::from(other.length));
-                w += d / t * c + c.min(d % t);
-            }
-        }
-        let held = &held[usize::from(kind.project)];
-        let ceiling = plan.projects[usize::from(kind.project)].ceiling;
-        let mut least = u32::MAX;
-        for width in 1..=ceiling {
-            let asked = u32::from(width) * u32::from(kind.length) + w;
-            let supply = supply(held, frame, width, d as usize);
-            if asked <= supply {
-                found[i] = width;
-                break;
-            }
-            least = least.min(asked - supply);
-        }
-        if found[i] == 0 {
-            return refused(8, i) | u64::from(least) << 32;
+    for i in 0..usize::from(plan.n) {
+        let held = &held[usize::from(plan.kinds[i].project)];
+        match fit(plan, held, i, workload(plan, i)) {
+            Ok(width) => found[i] = width,
+            Err(least) => return refused(8, i) | u64::from(least) << 32,
         }
     }
     *k = found;
     0
+}
+
+/// The cards held at each slice by cells from `first` on, for two frames.
+fn hold(held: &mut [u8; 128], first: u32, budget: u32, frame: u8) {
+    let (once, twice) = held.split_at_mut(usize::from(frame));
+    for (slice, (one, other)) in once.iter_mut().zip(twice).enumerate() {
+        let (_, count) = cards(first, budget, u32::from(frame), slice as u32);
+        *one = count as u8;
+        *other = count as u8;
+    }
+}
+
+/// What the other kinds of its project may ask for within a kind's deadline.
+fn workload(plan: &Plan, i: usize) -> u32 {
+    let kinds = &plan.kinds[..usize::from(plan.n)];
+    let kind = &kinds[i];
+    let d = u32::from(kind.deadline);
+    let mut w = 0;
+    for (j, other) in kinds.iter().enumerate() {
+        if j != i && other.project == kind.project {
+            let (t, c) = (u32::from(other.separation), u32::from(other.length));
+            w += d / t * c + c.min(d % t);
+        }
+    }
+    w
+}
+
+/// The least k at which a kind fits, or the least excess over all k.
+fn fit(plan: &Plan, held: &[u8; 128], i: usize, w: u32) -> Result<u8, u32> {
+    let kind = &plan.kinds[i];
+    let mut least = u32::MAX;
+    for width in 1..=plan.projects[usize::from(kind.project)].ceiling {
+        let asked = u32::from(width) * u32::from(kind.length) + w;
+        let supply = supply(
+            held,
+            usize::from(plan.frame),
+            width,
+            usize::from(kind.deadline),
+        );
+        if asked <= supply {
+            return Ok(width);
+        }
+        least = least.min(asked - supply);
+    }
+    Err(least)
+}
+
+/// The smallest budget of a project, by halving; its cells are laid from cell 0 on, which leaves the supply as it is.
+pub fn smallest_budget(plan: &Plan, project: u64) -> u64 {
+    if sizes_out_of_range(plan) {
+        return 2;
+    }
+    if unused_not_zero(plan) {
+        return 3;
+    }
+    if project >= u64::from(plan.p) {
+        return 27;
+    }
+    let open = project as usize & 7;
+    let mut filled = *plan;
+    filled.projects[open].budget = 1;
+    let word = ranges(&filled);
+    if word != 0 && word != 7 {
+        return word;
+    }
+    let mut loads = [0; 16];
+    let mut own = 0u32;
+    for i in 0..usize::from(plan.n) {
+        if u64::from(plan.kinds[i].project) == project {
+            own |= 1 << i;
+            loads[i] = workload(plan, i);
+        }
+    }
+    let mut held = [0; 128];
+    let mut unfit = |budget: u32| {
+        hold(&mut held, 0, budget, plan.frame);
+        let mut judged = own;
+        while judged != 0 {
+            let i = judged.trailing_zeros() as usize & 15;
+            judged &= judged - 1;
+            if let Err(least) = fit(plan, &held, i, loads[i]) {
+                return Some((i, least));
+            }
+        }
+        None
+    };
+    let (mut below, mut least) = (
+        0,
+        u32::from(plan.projects[open].ceiling) * u32::from(plan.frame),
+    );
+    if let Some((i, excess)) = unfit(least) {
+        return refused(8, i) | u64::from(excess) << 32;
+    }
+    while least - below > 1 {
+        let half = (below + least) / 2;
+        match unfit(half) {
+            Some(_) => below = half,
+            None => least = half,
+        }
+    }
+    filled.projects[open].budget = least as u16;
+    match ranges(&filled) {
+        0 => u64::from(least) << 16,
+        word => word,
+    }
 }
 
 /// S(k,t): whole frames, and the least window of what is left of t.

@@ -2,7 +2,9 @@
 
 use bench::tuned;
 use compare::interface::word;
-use generate::{fixed_plan_records, fixed_state_records, fixed_streams, Generator};
+use generate::{
+    fixed_open_budgets, fixed_plan_records, fixed_state_records, fixed_streams, Generator,
+};
 use second::{Plan, State};
 
 #[test]
@@ -23,6 +25,24 @@ fn plans() {
         let mut state = State::default();
         assert_eq!(tuned::fresh(&plan, &mut state), word(answer, 0));
         assert_eq!(state, expected);
+    }
+}
+
+#[test]
+fn open_budgets() {
+    let mut g = Generator::new(54);
+    let mut generated = Vec::new();
+    for _ in 0..100 {
+        let plan = g.plan_record();
+        generated.push((plan, g.project_number(&plan)));
+    }
+    for (plan, project) in fixed_open_budgets().into_iter().chain(generated) {
+        let (answer, budget) = second::smallest_budget(&plan, project);
+        assert_eq!(
+            tuned::smallest_budget(&plan, project),
+            word(answer, budget as usize),
+            "{plan:?} {project}"
+        );
     }
 }
 

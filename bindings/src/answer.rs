@@ -1,13 +1,13 @@
 //! What a call gives back: one word of 64 bits, decoded.
 
-/// A number, where it points to, how many bytes, and by how much.
+/// A number, where it points to, how many, and by how much.
 #[derive(Clone, Copy, Debug, Default, PartialEq, Eq, Hash)]
 pub struct Answer {
     /// 0 for a good answer, else the number of the refusal.
     pub number: u8,
     /// The project or the kind that a refusal is about, where its number has one.
     pub place: u8,
-    /// Bytes taken or written.
+    /// Bytes taken or written, or the least budget.
     pub count: u16,
     /// By how many slices a unit is too long.
     pub excess: u32,
@@ -39,7 +39,7 @@ impl Answer {
 }
 
 /// Each number with a short sentence, as in the header.
-pub const NUMBERS: [(u8, &str); 16] = [
+pub const NUMBERS: [(u8, &str); 17] = [
     (0, "good"),
     (1, "fewer bytes than a plan takes"),
     (2, "cards, projects, kinds or frame out of range"),
@@ -62,6 +62,7 @@ pub const NUMBERS: [(u8, &str); 16] = [
         "the kind's last release was less than its separation ago",
     ),
     (15, "slices of the kind's earlier unit are left"),
+    (27, "there is no such project"),
 ];
 
 /// A number in words.

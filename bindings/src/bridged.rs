@@ -87,8 +87,8 @@ fn call(function: u8, given: &[u8], lent: &mut [u8], numbers: [u64; 2]) -> (u64,
 }
 
 /// A call whose first buffer is only read.
-fn reading(function: u8, given: &[u8], lent: &mut [u8]) -> u64 {
-    let (answer, after) = call(function, given, lent, [0; 2]);
+fn reading(function: u8, given: &[u8], lent: &mut [u8], number: u64) -> u64 {
+    let (answer, after) = call(function, given, lent, [number, 0]);
     assert!(
         after == given,
         "function {function} changed a buffer that it reads"
@@ -104,33 +104,37 @@ fn changing(function: u8, state: &mut [u8], lent: &mut [u8], numbers: [u64; 2]) 
 }
 
 pub fn check(plan: &[u8]) -> u64 {
-    reading(0, plan, &mut [])
+    reading(0, plan, &mut [], 0)
 }
 
 pub fn read(bytes: &[u8], plan: &mut [u8]) -> u64 {
-    reading(1, bytes, plan)
+    reading(1, bytes, plan, 0)
 }
 
 pub fn write(plan: &[u8], out: &mut [u8]) -> u64 {
-    reading(2, plan, out)
+    reading(2, plan, out, 0)
 }
 
 pub fn slot_table(plan: &[u8], out: &mut [u8]) -> u64 {
-    reading(3, plan, out)
+    reading(3, plan, out, 0)
 }
 
 pub fn verdict(plan: &[u8], k: &mut [u8]) -> u64 {
-    reading(4, plan, k)
+    reading(4, plan, k, 0)
+}
+
+pub fn smallest_budget(plan: &[u8], project: u64) -> u64 {
+    reading(5, plan, &mut [], project)
 }
 
 pub fn fresh(plan: &[u8], state: &mut [u8]) -> u64 {
-    reading(5, plan, state)
+    reading(6, plan, state, 0)
 }
 
 pub fn release(state: &mut [u8], kind: u64, e: u64) -> u64 {
-    changing(6, state, &mut [], [kind, e])
+    changing(7, state, &mut [], [kind, e])
 }
 
 pub fn slice(state: &mut [u8], row: &mut [u8]) -> u64 {
-    changing(7, state, row, [0; 2])
+    changing(8, state, row, [0; 2])
 }

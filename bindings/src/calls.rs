@@ -32,6 +32,11 @@ pub fn verdict(plan: &[u8], k: &mut [u8]) -> Answer {
     Answer::of_word(library::verdict(plan, k))
 }
 
+/// The smallest budget of a project of an image's plan; the count is that budget.
+pub fn smallest_budget(plan: &[u8], project: u64) -> Answer {
+    Answer::of_word(library::smallest_budget(plan, project))
+}
+
 /// Starts fresh on an image's plan: writes a state image.
 pub fn fresh(plan: &[u8], state: &mut [u8]) -> Answer {
     Answer::of_word(library::fresh(plan, state))

@@ -15,6 +15,7 @@ extern "C" {
         out_len: usize,
     ) -> u64;
     fn parchbeetle_verdict(plan: *const u8, plan_len: usize, k: *mut u8, k_len: usize) -> u64;
+    fn parchbeetle_smallest_budget(plan: *const u8, plan_len: usize, project: u64) -> u64;
     fn parchbeetle_fresh(plan: *const u8, plan_len: usize, state: *mut u8, state_len: usize)
         -> u64;
     fn parchbeetle_release(state: *mut u8, state_len: usize, kind: u64, e: u64) -> u64;
@@ -39,6 +40,10 @@ pub fn slot_table(plan: &[u8], out: &mut [u8]) -> u64 {
 
 pub fn verdict(plan: &[u8], k: &mut [u8]) -> u64 {
     unsafe { parchbeetle_verdict(plan.as_ptr(), plan.len(), k.as_mut_ptr(), k.len()) }
+}
+
+pub fn smallest_budget(plan: &[u8], project: u64) -> u64 {
+    unsafe { parchbeetle_smallest_budget(plan.as_ptr(), plan.len(), project) }
 }
 
 pub fn fresh(plan: &[u8], state: &mut [u8]) -> u64 {

@@ -211,6 +211,12 @@ impl Plan {
         given(calls::verdict(&self.image(), &mut k), k)
     }
 
+    /// The smallest budget of one of its projects, whose stored budget is not looked at.
+    pub fn smallest_budget(&self, project: u64) -> Given<u16> {
+        let answer = calls::smallest_budget(&self.image(), project);
+        given(answer, answer.count)
+    }
+
     /// Its fresh state.
     pub fn fresh(&self) -> Given<State> {
         let mut image = [0; STATE_IMAGE];

@@ -546,7 +546,7 @@ fn the_header_the_bindings_and_the_exported_functions_agree() {
     let texts = texts();
     let found = differences(&texts);
     assert!(found.is_empty(), "{}", found.join("\n"));
-    assert!(declared(&texts.header).len() >= 8);
+    assert!(declared(&texts.header).len() >= 9);
 }
 
 #[test]
@@ -572,6 +572,8 @@ fn one_thing_changed_on_one_side_is_found() {
         (bindings, "kind: u64, e: u64) -> u64;", "e: u64, kind: u64) -> u64;"),
         (bindings, "kind: u64, e: u64) -> Answer {", "e: u64, kind: u64) -> Answer {"),
         (exported, "kind: u64, e: u64", "e: u64, kind: u64"),
+        (header, "uint64_t project)", "uint8_t project)"),
+        (exported, "plan: &[u8], project: u64", "plan: &[u8], place: u64"),
         (header, "uint8_t *k,", "const uint8_t *k,"),
         (bindings, "k: *mut u8", "k: *const u8"),
         (exported, "plan: &[u8], k: &mut [u8]", "plan: &[u8], k: &[u8]"),
@@ -581,7 +583,7 @@ fn one_thing_changed_on_one_side_is_found() {
         (exported, "#[no_mangle]\npub extern \"C\" fn parchbeetle_slice", "pub fn parchbeetle_slice"),
         // A function that the bridge has under another number or not at all.
         (bridge, "return parchbeetle_verdict(", "return parchbeetle_fresh("),
-        (bridged, "changing(7", "changing(8"),
+        (bridged, "changing(8", "changing(9"),
         (bridged, "pub fn verdict(plan: &[u8], k", "pub fn verdict(k: &[u8], plan"),
         // A field's name, width and order, and how many places.
         (header, "field(budget, 2)", "field(budget, 4)"),
@@ -604,6 +606,7 @@ fn one_thing_changed_on_one_side_is_found() {
         (header, "number(15, \"slices", "number(16, \"slices"),
         (code, "struct Plan {", "bare(16) struct Plan {"),
         (header, "12, 13, 14, 15.", "12, 13, 14."),
+        (header, "2, 3, 27, 4", "2, 3, 4"),
         (version, ".", ".1."),
         (header, "VERSION_MINOR ", "VERSION_MINOR 9"),
     ] {
@@ -660,6 +663,8 @@ fn the_records_are_what_the_library_reads_and_writes() {
     assert_eq!(plan.slots(), Ok(vec![1, 1, 1, 2, 2, 2, 2, 2]));
     let k = plan.verdict().unwrap();
     assert_eq!(k[..4], [1, 1, 1, 0]);
+    assert_eq!([0, 1].map(|project| plan.smallest_budget(project)), [Ok(3), Ok(4)]);
+    assert_eq!(plan.smallest_budget(2).map_err(|answer| answer.number), Err(27));
 
     let mut state = plan.fresh().unwrap();
     let fresh = State {
@@ -702,13 +707,14 @@ fn the_sizes_are_the_librarys() {
     let state = plan_a().fresh().unwrap().image();
     let copy = |size: usize| state[..size].to_vec();
     type Call<'a> = &'a dyn Fn(usize) -> Answer;
-    let calls: [(usize, Call); 10] = [
+    let calls: [(usize, Call); 11] = [
         (PLAN_IMAGE, &|size| check(&plan[..size])),
         (PLAN_IMAGE, &|size| read(&PLAN_A, &mut vec![0; size])),
         (PLAN_IMAGE, &|size| write(&plan[..size], &mut [0; 99])),
         (PLAN_IMAGE, &|size| slot_table(&plan[..size], &mut [0; 512])),
         (PLAN_IMAGE, &|size| verdict(&plan[..size], &mut [0; 16])),
         (K_BYTES, &|size| verdict(&plan, &mut vec![0; size])),
+        (PLAN_IMAGE, &|size| smallest_budget(&plan[..size], 0)),
         (PLAN_IMAGE, &|size| fresh(&plan[..size], &mut [0; 256])),
         (STATE_IMAGE, &|size| fresh(&plan, &mut vec![0; size])),
         (STATE_IMAGE, &|size| release(&mut copy(size), 0, 1)),

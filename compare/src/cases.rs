@@ -8,7 +8,10 @@
 use crate::interface::{
     plan_image, plan_of, state_image, state_of, Case, Op, K_BYTES, PLAN_IMAGE, STATE_IMAGE,
 };
-use generate::{fixed_plan_records, fixed_state_records, fixed_streams, spare_bits, Generator};
+use generate::{
+    fixed_open_budgets, fixed_plan_records, fixed_state_records, fixed_streams, spare_bits,
+    Generator,
+};
 use second::bytes::{pack, plan_bytes};
 use second::play::{command, Command};
 use second::rack::LAST_CLOCK;
@@ -17,13 +20,13 @@ use second::{Kind, KindState, Plan, Project, State};
 /// The calls made on one image or one string of plan bytes.
 pub type Record = Vec<Case>;
 
-/// The five functions that are given a plan image.
+/// The functions that are given a plan image and no number.
 const ON_PLANS: [Op; 5] = [Op::Check, Op::Write, Op::SlotTable, Op::Verdict, Op::Fresh];
 
 /// The bytes that a function on this plan needs in its second buffer.
 fn needed(op: Op, plan: &Plan) -> usize {
     match op {
-        Op::Check | Op::Release => 0,
+        Op::Check | Op::SmallestBudget | Op::Release => 0,
         Op::Read => PLAN_IMAGE,
         Op::Write => plan_bytes(plan.p, plan.n),
         Op::SlotTable => usize::from(plan.m) * usize::from(plan.frame),
@@ -51,13 +54,15 @@ pub enum Fixed {
     Released(Plan, usize, u8),
 }
 
-/// Each refusal at each place, each length of each buffer, each released byte, and all plans and states of a small size.
+/// Each refusal at each place, each boundary of a budget left open, each length of each buffer, each released byte, and all plans and states of a small size.
 pub fn fixed() -> Vec<Fixed> {
     let plans = fixed_plan_records().into_iter().chain(small_plans());
     let states = fixed_state_records().into_iter().chain(small_states());
     let bytes = fixed_streams().into_iter().map(|stream| stream.bytes);
+    let open = fixed_open_budgets().into_iter();
     plans
         .map(Fixed::Plan)
+        .chain(open.map(|(plan, project)| Fixed::Call(open_budget(&plan, project))))
         .chain(states.map(Fixed::State))
         .chain(bytes.map(Fixed::Bytes))
         .chain(lengths().into_iter().map(Fixed::Call))
@@ -94,7 +99,18 @@ fn on_plan(plan: &Plan) -> Record {
             record.push(Case::new(op, image.clone(), vec![0xEE; less]));
         }
     }
+    // Each project, and the first that is not there.
+    for project in 0..=plan.used_projects().len() as u64 {
+        if open_effort(plan, project) <= 1_000_000 {
+            record.push(open_budget(plan, project));
+        }
+    }
     record
+}
+
+/// The smallest budget of a project.
+fn open_budget(plan: &Plan, project: u64) -> Case {
+    Case::smallest_budget(plan_image(plan).to_vec(), project)
 }
 
 /// Slices with enough room and too little; releases of the first, the last and no kind, and of each that ran.
@@ -137,6 +153,7 @@ fn lengths() -> Vec<Case> {
         (Op::Write, &image),
         (Op::SlotTable, &image),
         (Op::Verdict, &image),
+        (Op::SmallestBudget, &image),
         (Op::Fresh, &image),
         (Op::Slice, &running),
     ] {
@@ -326,6 +343,23 @@ fn effort(plan: &Plan) -> u64 {
     plan.used_kinds().iter().map(terms).sum()
 }
 
+/// The most terms that the second program adds up to find the smallest budget of this project.
+fn open_effort(plan: &Plan, project: u64) -> u64 {
+    let mut tried = *plan;
+    match tried.projects.get_mut(project as usize) {
+        Some(place) => place.budget = 1,
+        None => return 0,
+    }
+    // A sum that is too large is told after the search.
+    if !matches!(second::check(&tried).number, 0 | 7) {
+        return 0;
+    }
+    let most = u64::from(plan.projects[project as usize].ceiling) * u64::from(plan.frame);
+    let own = plan.used_kinds().iter();
+    let own = own.filter(|kind| u64::from(kind.project) == project);
+    most * most * own.map(|kind| u64::from(kind.deadline)).sum::<u64>()
+}
+
 /// Arbitrary bytes.
 fn arbitrary(g: &mut Generator, count: usize) -> Vec<u8> {
     let mut bytes = Vec::with_capacity(count + 8);
@@ -363,7 +397,8 @@ fn given(g: &mut Generator, image: &[u8]) -> Vec<u8> {
     image
 }
 
-/// The five functions on a plan image; a fresh start, which judges again, only sometimes where that is dear.
+/// The six functions on a plan image; a fresh start, which judges again, and the smallest budget, which judges often, only
+/// sometimes where that is dear.
 fn plan_record(g: &mut Generator, image: &[u8; PLAN_IMAGE], effort: u64) -> Record {
     let plan = plan_of(image);
     let image = given(g, image);
@@ -377,6 +412,10 @@ fn plan_record(g: &mut Generator, image: &[u8; PLAN_IMAGE], effort: u64) -> Reco
             _ => lent(g, needed(op, &plan)),
         };
         record.push(Case::new(op, image.clone(), lent));
+    }
+    let project = g.project_number(&plan);
+    if g.one_in(1 + open_effort(&plan, project) / 100_000) {
+        record.push(Case::smallest_budget(image, project));
     }
     record
 }

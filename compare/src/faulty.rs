@@ -8,12 +8,12 @@ use crate::interface::{
     number, plan_image, plan_of, refused, state_image, word, Side, PLAN_IMAGE, STATE_IMAGE,
 };
 use crate::second_side::{state_or_refuse, Second};
-use second::layout::{cards_held, cells, h};
+use second::layout::{cards_held, cells, h, h_of_cells};
 use second::plan::budgets_sum_above;
 use second::play::{command, Command};
 use second::rack::{in_form, LAST_CLOCK};
 use second::supply::supply;
-use second::verdict::{ceiling_of, workload};
+use second::verdict::{ceiling_of, excess, least_k, workload};
 use second::{Answer, Plan, State};
 use std::io::{self, Read, Write};
 use std::ops::ControlFlow::{self, Break, Continue};
@@ -51,6 +51,19 @@ pub enum Fault {
     PastNeeded,
     RefusalClears,
     NoCount,
+    OpenOneMore,
+    OpenOneLess,
+    OpenKindless,
+    OpenJudgesAll,
+    OpenBudget,
+    OpenCeiling,
+    OpenEarly27,
+    OpenLate27,
+    OpenLowByte,
+    OpenPlace,
+    OpenExcess,
+    OpenSevenFirst,
+    OpenStoredSum,
     PlayEnd,
     PlayLeftOver,
     PlayClock,
@@ -65,7 +78,7 @@ pub enum Fault {
 use Fault::*;
 
 /// Each fault that records must show: its name and what it is.
-pub const RECORD_FAULTS: [(Fault, &str, &str); 28] = [
+pub const RECORD_FAULTS: [(Fault, &str, &str); 41] = [
     (SumFirst, "sum-first", "7 is told before 4"),
     (FiveFirst, "five-first", "all kinds for 5 before any 6"),
     (
@@ -146,6 +159,63 @@ pub const RECORD_FAULTS: [(Fault, &str, &str); 28] = [
         "a refusal clears the lent buffer",
     ),
     (NoCount, "no-count", "the slot table's count is 0"),
+    (
+        OpenOneMore,
+        "open-one-more",
+        "the smallest budget one too large",
+    ),
+    (
+        OpenOneLess,
+        "open-one-less",
+        "the smallest budget one too small",
+    ),
+    (
+        OpenKindless,
+        "open-kindless",
+        "a project with no kinds needs no cell",
+    ),
+    (
+        OpenJudgesAll,
+        "open-judges-all",
+        "the smallest budget judges every project's kinds",
+    ),
+    (
+        OpenBudget,
+        "open-budget",
+        "4 looks at the open budget as well",
+    ),
+    (
+        OpenCeiling,
+        "open-ceiling",
+        "4 passes the open project's ceiling by",
+    ),
+    (OpenEarly27, "open-27-early", "27 is told before 3"),
+    (OpenLate27, "open-27-late", "27 is told after 4"),
+    (
+        OpenLowByte,
+        "open-low-byte",
+        "only the low byte of a project is looked at",
+    ),
+    (
+        OpenPlace,
+        "open-place",
+        "8's place is counted within the open project",
+    ),
+    (
+        OpenExcess,
+        "open-excess",
+        "8's excess is that at the stored budget",
+    ),
+    (
+        OpenSevenFirst,
+        "open-seven-first",
+        "the smallest budget tells 7 before 8",
+    ),
+    (
+        OpenStoredSum,
+        "open-stored-sum",
+        "the smallest budget sums the stored budgets",
+    ),
 ];
 
 /// Each fault that streams must show.
@@ -343,6 +413,96 @@ impl Faulty {
         (Answer::GOOD, ks)
     }
 
+    /// The smallest budget, found by halving.
+    fn opened(&self, plan: &Plan, project: u64) -> (Answer, u64) {
+        let project = match self.0 {
+            OpenLowByte => project % 256,
+            _ => project,
+        };
+        let absent = project >= u64::from(plan.p.min(8));
+        // With one cell for the open project the record order is that of the call, but for 7.
+        let mut tried = *plan;
+        if let (false, Some(place)) = (absent, tried.projects.get_mut(project as usize)) {
+            if !self.is(OpenBudget) {
+                place.budget = 1;
+            }
+            if self.is(OpenCeiling) {
+                place.ceiling = place.ceiling.clamp(1, plan.m.max(1));
+            }
+        }
+        let order = second::check(&tried);
+        let before_27 = match self.0 {
+            OpenEarly27 => order.number == 2,
+            OpenLate27 => !matches!(order.number, 0 | 7),
+            _ => matches!(order.number, 2 | 3),
+        };
+        if absent && !before_27 {
+            return (Answer::refused(27), 0);
+        }
+        if !matches!(order.number, 0 | 7) {
+            return (order, 0);
+        }
+
+        let (open, judged) = (project as usize, tried);
+        let stored = plan.projects[open].budget;
+        let before = plan.projects[..open].iter();
+        let first: u64 = before.map(|place| u64::from(place.budget)).sum();
+        let held = |b: u64| h_of_cells(plan.frame, first, b);
+        let own = |i: &usize| usize::from(plan.kinds[*i].project) == open;
+        let own: Vec<usize> = (0..usize::from(plan.n)).filter(own).collect();
+        let unfit = |b: u64| {
+            let held = held(b);
+            let unfit = own.iter().find(|&&i| least_k(&judged, &held, i).is_none());
+            unfit.copied()
+        };
+        if self.is(OpenJudgesAll) {
+            let told = second::verdict(&tried).0;
+            if told.number == 8 && !own.contains(&(told.place as usize)) {
+                return (told, 0);
+            }
+        }
+        let (mut below, mut least) = (
+            0,
+            u64::from(tried.projects[open].ceiling) * u64::from(plan.frame),
+        );
+        tried.projects[open].budget = least as u16;
+        if let Some(i) = unfit(least) {
+            if self.is(OpenSevenFirst) && budgets_sum_above(&tried) {
+                return (Answer::refused(7), 0);
+            }
+            let at = match self.0 {
+                OpenExcess => u64::from(stored).min(least),
+                _ => least,
+            };
+            let place = match self.0 {
+                OpenPlace => own.iter().position(|&one| one == i).unwrap_or(0),
+                _ => i,
+            };
+            return (Answer::not_admitted(place, excess(plan, &held(at), i)), 0);
+        }
+        while least - below > 1 {
+            let half = (below + least) / 2;
+            match unfit(half) {
+                Some(_) => below = half,
+                None => least = half,
+            }
+        }
+        tried.projects[open].budget = match self.0 {
+            OpenStoredSum => stored,
+            _ => least as u16,
+        };
+        if budgets_sum_above(&tried) {
+            return (Answer::refused(7), 0);
+        }
+        let told = match self.0 {
+            OpenOneMore => least + 1,
+            OpenOneLess => least.max(2) - 1,
+            OpenKindless if own.is_empty() => 0,
+            _ => least,
+        };
+        (Answer::GOOD, told)
+    }
+
     fn start(&self, plan: &Plan) -> (Answer, State) {
         let (answer, _) = self.judge(plan);
         let mut state = State::default();
@@ -491,6 +651,16 @@ impl Side for Faulty {
             word(answer, 0)
         });
         self.after(word, k, 16)
+    }
+
+    fn smallest_budget(&self, plan: &[u8], project: u64) -> u64 {
+        self.on_plan(plan, |plan| {
+            if plan.len() < PLAN_IMAGE {
+                return refused(9);
+            }
+            let (answer, budget) = self.opened(&plan_of(plan), project);
+            word(answer, budget as usize)
+        })
     }
 
     fn fresh(&self, plan: &[u8], state: &mut [u8]) -> u64 {

@@ -10,7 +10,7 @@ pub const STATE_IMAGE: usize = 256;
 /// Bytes of k.
 pub const K_BYTES: usize = 16;
 
-/// The eight functions on bytes. The word: number in bits 0-7, place 8-15, count 16-31, excess 32-63.
+/// The nine functions on bytes. The word: number in bits 0-7, place 8-15, count 16-31, excess 32-63.
 pub trait Side {
     /// Is the plan in order?
     fn check(&self, plan: &[u8]) -> u64;
@@ -22,6 +22,8 @@ pub trait Side {
     fn slot_table(&self, plan: &[u8], out: &mut [u8]) -> u64;
     /// Gives the least k of each kind.
     fn verdict(&self, plan: &[u8], k: &mut [u8]) -> u64;
+    /// Gives the smallest budget of a project.
+    fn smallest_budget(&self, plan: &[u8], project: u64) -> u64;
     /// Starts fresh: writes a state image.
     fn fresh(&self, plan: &[u8], state: &mut [u8]) -> u64;
     /// Releases a unit.
@@ -179,7 +181,7 @@ pub fn state_image(state: &State) -> [u8; STATE_IMAGE] {
     bytes
 }
 
-/// Which of the eight functions.
+/// Which of the nine functions.
 #[derive(Clone, Copy, Debug, PartialEq, Eq, PartialOrd, Ord)]
 #[allow(missing_docs)]
 pub enum Op {
@@ -188,18 +190,20 @@ pub enum Op {
     Write,
     SlotTable,
     Verdict,
+    SmallestBudget,
     Fresh,
     Release,
     Slice,
 }
 
 /// Each function with its name.
-pub const OPS: [(Op, &str); 8] = [
+pub const OPS: [(Op, &str); 9] = [
     (Op::Check, "check"),
     (Op::Read, "read"),
     (Op::Write, "write"),
     (Op::SlotTable, "slot_table"),
     (Op::Verdict, "verdict"),
+    (Op::SmallestBudget, "smallest_budget"),
     (Op::Fresh, "fresh"),
     (Op::Release, "release"),
     (Op::Slice, "slice"),
@@ -219,12 +223,10 @@ pub struct Case {
     pub op: Op,
     /// The first buffer: a plan image, plan bytes or a state image.
     pub given: Vec<u8>,
-    /// The second buffer, as it is lent; empty for `check` and `release`.
+    /// The second buffer, as it is lent; empty for `check`, `smallest_budget` and `release`.
     pub lent: Vec<u8>,
-    /// `release`: the kind.
-    pub kind: u64,
-    /// `release`: the length e.
-    pub e: u64,
+    /// The kind and the length e of `release`, the project of `smallest_budget`.
+    pub numbers: [u64; 2],
 }
 
 /// What a call leaves: the word, and every byte of both buffers.
@@ -267,23 +269,29 @@ impl Fenced {
 }
 
 impl Case {
-    /// A call with no kind and no e.
+    /// A call with no numbers.
     pub fn new(op: Op, given: Vec<u8>, lent: Vec<u8>) -> Case {
         Case {
             op,
             given,
             lent,
-            kind: 0,
-            e: 0,
+            numbers: [0; 2],
         }
     }
 
     /// A release.
     pub fn release(given: Vec<u8>, kind: u64, e: u64) -> Case {
         Case {
-            kind,
-            e,
+            numbers: [kind, e],
             ..Case::new(Op::Release, given, Vec::new())
+        }
+    }
+
+    /// A project's budget left open.
+    pub fn smallest_budget(given: Vec<u8>, project: u64) -> Case {
+        Case {
+            numbers: [project, 0],
+            ..Case::new(Op::SmallestBudget, given, Vec::new())
         }
     }
 
@@ -291,14 +299,16 @@ impl Case {
     pub fn run(&self, side: &impl Side) -> Outcome {
         let (mut given, mut lent) = (Fenced::new(&self.given), Fenced::new(&self.lent));
         let (first, second) = (given.inside(), lent.inside());
+        let [number, e] = self.numbers;
         let word = match self.op {
             Op::Check => side.check(first),
             Op::Read => side.read(first, second),
             Op::Write => side.write(first, second),
             Op::SlotTable => side.slot_table(first, second),
             Op::Verdict => side.verdict(first, second),
+            Op::SmallestBudget => side.smallest_budget(first, number),
             Op::Fresh => side.fresh(first, second),
-            Op::Release => side.release(first, self.kind, self.e),
+            Op::Release => side.release(first, number, e),
             Op::Slice => side.slice(first, second),
         };
         Outcome {
@@ -309,30 +319,29 @@ impl Case {
         }
     }
 
-    /// The call as one line: the function, the bytes given, the bytes lent, kind and e; `-` for no bytes.
+    /// The call as one line: the function, the bytes given, the bytes lent, its two numbers; `-` for no bytes.
     pub fn line(&self) -> String {
         format!(
             "{} {} {} {} {}",
             self.op.name(),
             hex(&self.given),
             hex(&self.lent),
-            self.kind,
-            self.e
+            self.numbers[0],
+            self.numbers[1]
         )
     }
 
     /// The call of such a line.
     pub fn of_line(line: &str) -> Option<Case> {
         let words: Vec<&str> = line.split_whitespace().collect();
-        let [op, given, lent, kind, e] = words[..] else {
+        let [op, given, lent, number, e] = words[..] else {
             return None;
         };
         Some(Case {
             op: OPS.iter().find(|(_, name)| *name == op)?.0,
             given: of_hex(given)?,
             lent: of_hex(lent)?,
-            kind: kind.parse().ok()?,
-            e: e.parse().ok()?,
+            numbers: [number.parse().ok()?, e.parse().ok()?],
         })
     }
 }

@@ -27,6 +27,10 @@ impl Side for Proved {
         bindings::verdict(plan, k).word()
     }
 
+    fn smallest_budget(&self, plan: &[u8], project: u64) -> u64 {
+        bindings::smallest_budget(plan, project).word()
+    }
+
     fn fresh(&self, plan: &[u8], state: &mut [u8]) -> u64 {
         bindings::fresh(plan, state).word()
     }

@@ -11,6 +11,9 @@ use std::panic::resume_unwind;
 use std::sync::atomic::{AtomicU64, Ordering};
 use std::thread::{available_parallelism, scope};
 
+/// Every number given back is below this.
+const NUMBERS: usize = 28;
+
 /// How much was compared.
 #[derive(Clone, Debug, Default)]
 pub struct Tally {
@@ -19,7 +22,7 @@ pub struct Tally {
     /// Calls on them.
     pub calls: u64,
     /// Calls by function and number given back.
-    pub numbers: [[u64; 16]; 8],
+    pub numbers: [[u64; NUMBERS]; OPS.len()],
     /// Streams.
     pub streams: u64,
     /// Lines that they printed.
@@ -148,7 +151,7 @@ fn record_differs(
     for case in record {
         tally.calls += 1;
         let expected = case.run(&Second);
-        tally.numbers[case.op as usize][number(expected.word) as usize & 15] += 1;
+        tally.numbers[case.op as usize][number(expected.word) as usize % NUMBERS] += 1;
         if case.run(side) != expected {
             return Some(RecordDifference {
                 case,
@@ -310,7 +313,7 @@ impl Tally {
     pub fn numbers_in_words(&self) -> String {
         let mut text = String::from("calls by number given back (generated and fixed):\n");
         for ((_, name), counts) in OPS.iter().zip(&self.numbers) {
-            text += &format!("  {name:<10}");
+            text += &format!("  {name:<15}");
             for (number, &count) in counts.iter().enumerate() {
                 if count > 0 {
                     text += &format!(" {number}:{count}");

@@ -73,6 +73,14 @@ impl Side for Second {
         word(answer, 0)
     }
 
+    fn smallest_budget(&self, plan: &[u8], project: u64) -> u64 {
+        if plan.len() < PLAN_IMAGE {
+            return refused(9);
+        }
+        let (answer, budget) = second::smallest_budget(&plan_of(plan), project);
+        word(answer, budget as usize)
+    }
+
     fn fresh(&self, plan: &[u8], state: &mut [u8]) -> u64 {
         if plan.len() < PLAN_IMAGE {
             return refused(9);

@@ -63,12 +63,11 @@ pub fn smaller_case(case: &Case, differs: &mut dyn FnMut(&Case) -> bool) -> Case
             }
         }
         for to in [|v: u64| v & 0xFF, |v| v / 2, |v: u64| v.saturating_sub(1)] {
-            let mut tried = smallest.best.clone();
-            tried.kind = to(tried.kind);
-            better |= smallest.try_one(tried);
-            let mut tried = smallest.best.clone();
-            tried.e = to(tried.e);
-            better |= smallest.try_one(tried);
+            for at in 0..2 {
+                let mut tried = smallest.best.clone();
+                tried.numbers[at] = to(tried.numbers[at]);
+                better |= smallest.try_one(tried);
+            }
         }
         if !better {
             return smallest.best;
@@ -112,8 +111,8 @@ fn without_kind(case: &Case, kind: usize) -> Case {
     if matches!(case.op, Op::Release | Op::Slice) && case.given.len() >= STATE_IMAGE {
         move_up(PLAN_IMAGE + 4);
     }
-    if tried.kind > kind as u64 {
-        tried.kind -= 1;
+    if case.op == Op::Release && tried.numbers[0] > kind as u64 {
+        tried.numbers[0] -= 1;
     }
     tried
 }

@@ -1,4 +1,5 @@
-//! What document 01 gives in numbers: P1 to P11, "Run and compared" and the player's example.
+//! What document 01 gives in numbers: P1 to P11, "Run and compared" and the player's example; and of
+//! document 02's requests what the proved table has of them.
 //!
 //! Here the expected outcome is written down, so that both sides are held to it. P3 and P4 speak of
 //! supply, which no function on bytes gives; the second program's own tests have them.
@@ -111,7 +112,11 @@ fn slicing(state: &State, count: usize) -> Case {
     Case::new(Op::Slice, state_image(state).to_vec(), lent(count))
 }
 
-/// P1 to P11 (without P3 and P4) and "Run and compared".
+fn open(plan: &Plan, project: u64) -> Case {
+    Case::smallest_budget(plan_image(plan).to_vec(), project)
+}
+
+/// P1 to P11 (without P3 and P4), "Run and compared", and the requests.
 pub fn table() -> Vec<Named> {
     let mut table = Table { rows: Vec::new() };
     let (a, b) = (Plan::a(), Plan::b());
@@ -154,6 +159,17 @@ pub fn table() -> Vec<Named> {
     let mut wider = a;
     wider.projects[0].budget = 5;
     table.out_of_order("P11", &wider, 4, 0);
+
+    // (i): a guess that is right, one that is too large, one that is too small, and a project that is not there.
+    let mut smaller = b;
+    smaller.projects[0].budget = 5;
+    for (plan, project, budget) in [(&a, 0, 3), (&a, 1, 4), (&b, 0, 7)] {
+        table.good("(i)", open(plan, project), budget, &[]);
+    }
+    table.refused("(i), no such project", open(&a, 2), 27, 0, 0);
+    table.refused_by_8("(i), a guess too small", &smaller, 0, 2);
+    table.good("(i), a guess too small", open(&smaller, 0), 7, &[]);
+    table.refused("(i), none serves", open(&opening, 0), 8, 0, 4);
 
     let none = Plan {
         n: 0,

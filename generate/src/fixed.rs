@@ -5,6 +5,7 @@ use crate::{release_bytes, spare_bits, Stream, SLICE};
 use second::bytes::pack;
 use second::plan::{Kind, Plan, Project};
 use second::rack::{KindState, State, LAST_CLOCK};
+use second::smallest_budget;
 
 /// Plans at both ends of m, p, n, F, q, B, T, D and C; some are admitted, others are refused by 7 or 8.
 pub fn limit_plans() -> Vec<Plan> {
@@ -531,6 +532,128 @@ pub fn fixed_plan_records() -> Vec<Plan> {
         }
     }
     plans
+}
+
+/// A plan and a project whose budget is left open: each refusal of the smallest budget at each place it can have, each boundary.
+pub fn fixed_open_budgets() -> Vec<(Plan, u64)> {
+    let mut open = Vec::new();
+    let a = Plan::a();
+
+    // 27, beside 2 and 3, which come before it, and 4, which comes after it.
+    let (mut unused, mut ceiling) = (a, a);
+    unused.kinds[15].length = 1;
+    ceiling.projects[0].ceiling = 0;
+    for plan in [a, Plan { m: 9, ..a }, unused, ceiling, wide_plan(8)] {
+        for project in [0, 1, 2, 3, 7, 8, 9, 15, 16, 255] {
+            open.push((plan, project));
+        }
+        // Below p only if no more than the low bits are looked at.
+        for project in [256, 257, 1 << 16, 1 << 32, (1 << 32) + 1, u64::MAX] {
+            open.push((plan, project));
+        }
+    }
+
+    // 4 at each project, with each project open: of the open one the ceiling counts and the budget does not.
+    for (ceiling, budget) in [(0, 1), (9, 1), (255, 1), (2, 0), (2, 17), (2, 16), (1, 9), (8, 1024), (0, 65535)] {
+        for place in 0..8 {
+            let mut plan = wide_plan(8);
+            plan.projects[place] = Project { ceiling, budget };
+            for project in 0..8 {
+                open.push((plan, project));
+            }
+            // And with a later kind wrong as well.
+            plan.kinds[9].length = 0;
+            open.push((plan, place as u64));
+        }
+    }
+
+    // 5 and 6 at each kind, of the open project and of another.
+    for place in 0..16 {
+        for (project, length) in [(8, 1), (255, 0), (0, 0), (0, 99)] {
+            let mut plan = wide_plan(8);
+            plan.kinds[place].project = project;
+            plan.kinds[place].length = length;
+            open.extend([(plan, 0), (plan, 7)]);
+        }
+    }
+
+    // 8 at each kind of the open project, the others' kinds before, between and after; from a fit at half its cells to none at all.
+    for n in 2..=16u8 {
+        for place in 0..n - 1 {
+            let partner = place + 1 + (place + n) % (n - 1 - place);
+            for c in [1, 7, 15, 16, 20, 21, 22, 30] {
+                let kind = |j| match j == place || j == partner {
+                    true => (1, 40, 30, c),
+                    // At no budget do these fit, so to judge them is seen.
+                    false => (0, 200, 190, 190),
+                };
+                let kinds: Vec<_> = (0..n).map(kind).collect();
+                open.push((Plan::of(2, 4, &[(1, 1), (2, 3)], &kinds), 1));
+            }
+        }
+    }
+
+    // The same where a kind before it fits.
+    for n in 2..=16u8 {
+        for place in 1..n {
+            for c in [1, 10, 20, 21, 25, 26, 30] {
+                let kind = |j| match j {
+                    _ if j == place => (1, 40, 30, c),
+                    _ if j == n % place => (1, 200, 190, 10),
+                    _ => (0, 200, 190, 190),
+                };
+                let kinds: Vec<_> = (0..n).map(kind).collect();
+                open.push((Plan::of(2, 4, &[(1, 1), (2, 3)], &kinds), 1));
+            }
+        }
+    }
+
+    // 7: the other project leaves just enough, and one cell less.
+    for c in 1..=22 {
+        for project in [0, 1] {
+            let of = project as u8;
+            let mut plan = Plan::of(2, 4, &[(2, 1); 2], &[(of, 40, 30, c), (1 - of, 9, 9, 9), (of, 40, 30, c)]);
+            let (_, least) = smallest_budget(&plan, project);
+            for more in [0, 1] {
+                plan.projects[1 - usize::from(of)].budget = (8 - least + more).clamp(1, 8) as u16;
+                // Whatever stands there.
+                for stored in [0, 1, 8, 65535] {
+                    plan.projects[usize::from(of)].budget = stored;
+                    open.push((plan, project));
+                }
+            }
+        }
+    }
+
+    // A project without kinds, in each place, with all cells but one taken, and with all.
+    for project in 0..8 {
+        for others in [1, 8] {
+            let mut plan = Plan::of(8, 8, &[(1, others); 8], &[((project as u8 + 1) % 8, 9, 9, 1)]);
+            open.push((plan, project));
+            plan.projects[(project as usize + 1) % 8] = Project {
+                ceiling: 2,
+                budget: 16,
+            };
+            open.push((plan, project));
+        }
+    }
+
+    // The ends of F, q, n and D: a budget of 1, of qF, and none.
+    for frame in [1u8, 64] {
+        for q in [1u8, 8] {
+            for n in [1u16, 16] {
+                for d in [1, u16::from(frame), u16::from(frame) + 1, 200] {
+                    // qC + (n - 1)C <= qD at all cells, C - 1, C and C + 1 slices long.
+                    let fits = (u16::from(q) * d / (u16::from(q) + n - 1)).max(1);
+                    for c in [1, fits - 1, fits, fits + 1] {
+                        let kinds = vec![(1, 4095, d, c.clamp(1, d)); usize::from(n)];
+                        open.push((Plan::of(8, frame, &[(1, 1), (q, 0)], &kinds), 1));
+                    }
+                }
+            }
+        }
+    }
+    open
 }
 
 /// State records in form and out of form in each way at each place, at both ends of the clock.

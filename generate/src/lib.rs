@@ -1,8 +1,8 @@
 //! Seeded input to compare by: streams for the player, and records with fields in and out of range.
 //!
 //! The same seed gives the same sequence. Nothing here decides what is right: the second program's
-//! `verdict`, `release` and `slice` are used only to find plans that are admitted and releases that
-//! are due.
+//! `verdict`, `smallest_budget`, `release` and `slice` are used only to find plans that are admitted,
+//! sums at their edge and releases that are due.
 
 #![forbid(unsafe_code)]
 
@@ -11,7 +11,9 @@ mod plans;
 mod records;
 mod streams;
 
-pub use fixed::{fixed_plan_records, fixed_state_records, fixed_streams, limit_plans};
+pub use fixed::{
+    fixed_open_budgets, fixed_plan_records, fixed_state_records, fixed_streams, limit_plans,
+};
 pub use streams::{long_stream, spare_bits};
 
 /// "a slice has zeros throughout".

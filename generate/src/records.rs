@@ -189,6 +189,18 @@ impl Generator {
         (kind, e)
     }
 
+    /// The number of a project of this plan: mostly below p, else the first that is not, or far beyond any byte.
+    pub fn project_number(&mut self, plan: &Plan) -> u64 {
+        let p = u64::from(plan.p);
+        match self.below(16) {
+            0 => p,
+            1 => self.one_of(&[8, 9, 255, 256, 1 << 16, 1 << 32, u64::MAX, self.seed]),
+            // Would be below p if only its low bits were looked at.
+            2 => self.below(p) + self.one_of(&[1 << 3, 1 << 8, 1 << 16, 1 << 32]),
+            _ => self.below(p),
+        }
+    }
+
     /// A lent buffer of arbitrary bytes, from none to a few more than needed.
     pub fn buffer(&mut self, needed: usize) -> Vec<u8> {
         let needed = needed as u64;

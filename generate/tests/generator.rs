@@ -1,6 +1,9 @@
 //! The generator: the same seed gives the same input, and what it reaches.
 
-use generate::{fixed_plan_records, fixed_state_records, fixed_streams, limit_plans, Generator};
+use generate::{
+    fixed_open_budgets, fixed_plan_records, fixed_state_records, fixed_streams, limit_plans,
+    Generator,
+};
 use second::*;
 use std::collections::{BTreeMap, BTreeSet};
 
@@ -155,6 +158,42 @@ fn fixed_records_reach_each_number_at_each_place() {
 }
 
 #[test]
+fn fixed_open_budgets_reach_each_number_at_each_place_and_each_boundary() {
+    let open = fixed_open_budgets();
+    let mut reached = BTreeSet::new();
+    let (mut ones, mut whole, mut exact, mut one_cell) = (0, 0, 0, 0);
+    for (plan, project) in &open {
+        let (answer, budget) = smallest_budget(plan, *project);
+        reached.insert((answer.number, answer.place));
+        let cells = u64::from(plan.m) * u64::from(plan.frame);
+        let mut sum = budget;
+        for (place, other) in plan.used_projects().iter().enumerate() {
+            if place as u64 != *project {
+                sum += u64::from(other.budget);
+            }
+        }
+        if answer.is_good() {
+            let q = plan.projects[*project as usize].ceiling;
+            ones += u64::from(budget == 1);
+            whole += u64::from(budget == u64::from(q) * u64::from(plan.frame) && budget > 1);
+            exact += u64::from(sum == cells);
+            // With one cell more for another project it would be 7.
+            one_cell += u64::from(sum == cells && plan.p > 1);
+        }
+    }
+    println!(
+        "open budgets {}: 1 {ones}, qF {whole}, sum mF {exact} ({one_cell} with others)",
+        open.len()
+    );
+    assert!(ones > 50 && whole > 50 && exact > 50 && one_cell > 50);
+    for number in [0, 2, 3, 4, 5, 6, 7, 8, 27] {
+        for place in places(number) {
+            assert!(reached.contains(&(number, place)), "{number} at {place}");
+        }
+    }
+}
+
+#[test]
 fn random_records_reach_each_number() {
     let mut generator = Generator::new(32);
     let mut plans: BTreeMap<u64, u64> = BTreeMap::new();
@@ -168,6 +207,16 @@ fn random_records_reach_each_number() {
     for number in 2..=8 {
         assert!(plans.contains_key(&number), "{number}");
     }
+
+    let mut open: BTreeMap<u64, u64> = BTreeMap::new();
+    for _ in 0..RUNS / 8 {
+        let plan = generator.plan_record();
+        let project = generator.project_number(&plan);
+        let (answer, _) = smallest_budget(&plan, project);
+        *open.entry(answer.number).or_default() += 1;
+    }
+    println!("open budgets {}, {open:?}", RUNS / 8);
+    assert!([0, 2, 3, 4, 27].iter().all(|number| open.contains_key(number)));
 
     let mut releases: BTreeMap<u64, u64> = BTreeMap::new();
     let mut slices: BTreeMap<u64, u64> = BTreeMap::new();

@@ -136,7 +136,7 @@ fn read_or_refuse(bytes: &[u8]) -> Result<(Plan, usize), Answer> {
         return Err(Answer::refused(3));
     }
     // "all projects for 4".
-    if let Some(answer) = first_bad_project(&plan) {
+    if let Some(answer) = first_bad_project(&plan, None) {
         return Err(answer);
     }
     // "then kind by kind 5 before 6".

@@ -61,6 +61,15 @@ pub fn h(plan: &Plan, project: usize) -> Vec<u64> {
     h
 }
 
+/// h(0), h(1), ..., h(F-1) of `budget` cells from cell `first` on, on as many cards as they reach: a cell's slice is "x mod F".
+pub fn h_of_cells(frame: u8, first: u64, budget: u64) -> Vec<u64> {
+    let mut h = vec![0; usize::from(frame)];
+    for x in first..first + budget {
+        h[(x % u64::from(frame)) as usize] += 1;
+    }
+    h
+}
+
 /// "The slot table is written card by card, F bytes each: project number plus 1, or 0 for a free cell."
 pub fn slot_table(plan: &Plan, buffer: &mut [u8]) -> (Answer, usize) {
     // "Writing [...] the slot table adds 9 and not 8."

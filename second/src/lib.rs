@@ -1,4 +1,4 @@
-//! The independent second program: document 01 by the most literal reading of each sentence.
+//! The independent second program: documents 01 and 02 by the most literal reading of each sentence.
 //!
 //! Nothing here is meant to be fast, and nothing here is shared with the proved program.
 //! Each operation answers any record whatever, also one that no plan bytes can express.
@@ -14,6 +14,7 @@ pub mod layout;
 pub mod plan;
 pub mod play;
 pub mod rack;
+pub mod smallest;
 pub mod supply;
 pub mod verdict;
 
@@ -23,4 +24,5 @@ pub use layout::slot_table;
 pub use plan::{check, Kind, Plan, Project};
 pub use play::play;
 pub use rack::{fresh, release, slice, KindState, State};
+pub use smallest::smallest_budget;
 pub use verdict::verdict;

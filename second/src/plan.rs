@@ -147,14 +147,15 @@ pub fn unused_place_not_zero(plan: &Plan) -> bool {
     false
 }
 
-/// 4: "q or B out of range", place "first such project".
-pub fn first_bad_project(plan: &Plan) -> Option<Answer> {
+/// 4: "q or B out of range", place "first such project"; where a budget is left open, "4 skipping that one budget".
+pub fn first_bad_project(plan: &Plan, open: Option<usize>) -> Option<Answer> {
     let m = u64::from(plan.m);
     let frame = u64::from(plan.frame);
     for (place, project) in plan.used_projects().iter().enumerate() {
         let q = u64::from(project.ceiling);
         let b = u64::from(project.budget);
-        if !(1..=m).contains(&q) || !(1..=q * frame).contains(&b) {
+        let skipped = open == Some(place);
+        if !(1..=m).contains(&q) || !skipped && !(1..=q * frame).contains(&b) {
             return Some(Answer::refused_at(4, place));
         }
     }
@@ -193,7 +194,7 @@ pub fn check(plan: &Plan) -> Answer {
     if unused_place_not_zero(plan) {
         return Answer::refused(3);
     }
-    if let Some(answer) = first_bad_project(plan) {
+    if let Some(answer) = first_bad_project(plan, None) {
         return answer;
     }
     if let Some(answer) = first_bad_kind(plan) {

@@ -3,12 +3,16 @@
 use crate::layout::h;
 use crate::plan::Plan;
 
-/// S(k,t), "the least, over the F starting slices a, of the sum over x = 0..t-1 of min(k, h(a+x))".
+/// S(k,t) of a project of the plan.
 pub fn supply(plan: &Plan, project: usize, k: u64, t: u64) -> u64 {
-    let frame = usize::from(plan.frame);
+    supply_of(&h(plan, project), k, t)
+}
+
+/// S(k,t) of the cards held in one frame, "the least, over the F starting slices a, of the sum over x = 0..t-1 of min(k, h(a+x))".
+pub fn supply_of(one_frame: &[u64], k: u64, t: u64) -> u64 {
+    let frame = one_frame.len();
     let t = t as usize;
     // "h(s) [...] at slice s, taken modulo F", for each s that some a + x can be.
-    let one_frame = h(plan, project);
     let mut h = Vec::new();
     for s in 0..frame + t {
         h.push(one_frame.get(s % frame.max(1)).copied().unwrap_or(0));

@@ -1,8 +1,9 @@
 //! "Verdict": the least k at which each kind fits, or the first kind with none and its excess.
 
 use crate::answer::Answer;
+use crate::layout::h;
 use crate::plan::{check, Plan};
-use crate::supply::supply;
+use crate::supply::supply_of;
 
 /// W, "the sum over every other kind j of the same project of floor(Di/Tj)Cj + min(Cj, Di mod Tj)".
 pub fn workload(plan: &Plan, i: usize) -> u64 {
@@ -23,14 +24,27 @@ pub fn workload(plan: &Plan, i: usize) -> u64 {
     w
 }
 
-/// The two sides of "Kind i fits at k when kCi + W <= S(k,Di)": what it asks for and what is there.
+/// The two sides of "Kind i fits at k when kCi + W <= S(k,Di)", with S on the plan's layout: what it asks for and what is there.
 pub fn asked_and_supplied(plan: &Plan, i: usize, k: u64) -> (u64, u64) {
+    asked_and_supplied_on(plan, &held_by_its_project(plan, i), i, k)
+}
+
+/// The same with S on these cards held.
+fn asked_and_supplied_on(plan: &Plan, held: &[u64], i: usize, k: u64) -> (u64, u64) {
     let Some(kind) = plan.used_kinds().get(i) else {
         return (0, 0);
     };
     let asked = k * u64::from(kind.length) + workload(plan, i);
-    let supplied = supply(plan, usize::from(kind.project), k, u64::from(kind.deadline));
+    let supplied = supply_of(held, k, u64::from(kind.deadline));
     (asked, supplied)
+}
+
+/// "Let h(s) be the cards a project holds at slice s", of the kind's project.
+fn held_by_its_project(plan: &Plan, i: usize) -> Vec<u64> {
+    match plan.used_kinds().get(i) {
+        Some(kind) => h(plan, usize::from(kind.project)),
+        None => Vec::new(),
+    }
 }
 
 /// The ceiling of the kind's project: "for k in 1..q".
@@ -44,10 +58,10 @@ pub fn ceiling_of(plan: &Plan, i: usize) -> u64 {
     }
 }
 
-/// "The verdict gives for each kind the least such k."
-pub fn least_k(plan: &Plan, i: usize) -> Option<u64> {
+/// "The verdict gives for each kind the least such k", here on these cards held.
+pub fn least_k(plan: &Plan, held: &[u64], i: usize) -> Option<u64> {
     for k in 1..=ceiling_of(plan, i) {
-        let (asked, supplied) = asked_and_supplied(plan, i, k);
+        let (asked, supplied) = asked_and_supplied_on(plan, held, i, k);
         if asked <= supplied {
             return Some(k);
         }
@@ -55,11 +69,11 @@ pub fn least_k(plan: &Plan, i: usize) -> Option<u64> {
     None
 }
 
-/// "its *excess* is the least, over k, of kCi + W - S(k,Di)" (of a kind that fits at no k).
-pub fn excess(plan: &Plan, i: usize) -> u64 {
+/// "its *excess* is the least, over k, of kCi + W - S(k,Di)" (of a kind that fits at no k), here on these cards held.
+pub fn excess(plan: &Plan, held: &[u64], i: usize) -> u64 {
     let mut least = None;
     for k in 1..=ceiling_of(plan, i) {
-        let (asked, supplied) = asked_and_supplied(plan, i, k);
+        let (asked, supplied) = asked_and_supplied_on(plan, held, i, k);
         let over = asked.saturating_sub(supplied);
         least = match least {
             Some(before) if before <= over => Some(before),
@@ -77,10 +91,11 @@ pub fn verdict(plan: &Plan) -> (Answer, [u8; 16]) {
     }
     let mut k = [0; 16];
     for i in 0..usize::from(plan.n) {
-        match least_k(plan, i) {
+        let held = held_by_its_project(plan, i);
+        match least_k(plan, &held, i) {
             Some(least) => k[i] = least as u8,
             // 8: "first kind with no k, with its excess".
-            None => return (Answer::not_admitted(i, excess(plan, i)), [0; 16]),
+            None => return (Answer::not_admitted(i, excess(plan, &held, i)), [0; 16]),
         }
     }
     (Answer::GOOD, k)

@@ -10,7 +10,8 @@
 //!
 //! One thing a line, in any order; blank lines, and what follows a `#`, are passed by. `cards` and
 //! `frame` stand once each. Projects and kinds are numbered from 0 in the order of their lines; the
-//! fields of a line may stand in any order, each once. What is said of a plan is the proved library's.
+//! fields of a line may stand in any order, each once. One project may have `budget ?`: it is given the
+//! smallest that serves it. What is said of a plan is the proved library's.
 
 #![forbid(unsafe_code)]
 
@@ -28,6 +29,8 @@ The text of a plan ('#' starts a comment; projects and kinds are numbered from 0
     frame 4
     project ceiling 1 budget 3
     kind project 0 separation 8 deadline 8 length 6
+
+'budget ?' of one project stands for the smallest budget that serves it.
 
 exit status: 0 done, 1 refused (the reason is told), 2 not run
 ";
@@ -52,8 +55,8 @@ fn main() -> ExitCode {
         return ExitCode::from(2);
     }
     match turn(&input) {
-        Ok((output, note)) => {
-            if let Some(note) = note {
+        Ok((output, notes)) => {
+            for note in notes {
                 eprintln!("plan-text: {note}");
             }
             let mut stdout = io::stdout().lock();
@@ -72,8 +75,8 @@ fn main() -> ExitCode {
     }
 }
 
-/// What to write and a note beside it, or why not.
-type Turned = Result<(Vec<u8>, Option<String>), String>;
+/// What to write and the notes beside it, or why not.
+type Turned = Result<(Vec<u8>, Vec<String>), String>;
 
 /// The numbers of a line, and which line it is.
 struct Line<const N: usize> {
@@ -88,6 +91,8 @@ struct Text {
     frame: Option<Line<1>>,
     projects: Vec<Line<2>>,
     kinds: Vec<Line<4>>,
+    /// The project whose budget is left open.
+    open: Option<usize>,
 }
 
 // ---- From text to bytes
@@ -130,20 +135,34 @@ fn encode(input: &[u8]) -> Turned {
         };
     }
 
+    let mut found = None;
+    if let Some(open) = text.open.filter(|&open| open < plan.project.len()) {
+        let budget = plan
+            .smallest_budget(open as u64)
+            .map_err(|answer| match answer.number {
+                7 | 8 => {
+                    let line = text.projects[open].line;
+                    let reason = advice(&plan, open).unwrap_or_default();
+                    format!("line {line}: {reason} ({})", told(answer))
+                }
+                _ => refusal(answer, &text, &plan),
+            })?;
+        plan.project[open].budget = budget;
+        found = advice(&plan, open);
+    }
     let bytes = plan
         .bytes()
-        .map_err(|answer| refusal(answer, &text, cards, frame))?;
+        .map_err(|answer| refusal(answer, &text, &plan))?;
     // A plan that is not admitted has bytes too.
-    let note = plan.verdict().err().map(|answer| {
+    let refused = plan.verdict().err().map(|answer| {
         let line = text.kinds[usize::from(answer.place)].line;
         format!(
-            "line {line}: the plan is not admitted ({}): kind {} is too long by {}; the bytes are written all the same",
-            told(answer),
-            answer.place,
-            answer.excess
+            "line {line}: {}; the bytes are written all the same",
+            not_admitted(&plan, answer)
         )
     });
-    Ok((bytes, note))
+    let notes: Vec<String> = found.into_iter().chain(refused).collect();
+    Ok((bytes, notes))
 }
 
 fn parsed(input: &[u8]) -> Result<Text, String> {
@@ -163,10 +182,23 @@ fn parsed(input: &[u8]) -> Result<Text, String> {
         match first {
             "cards" => once(&mut text.cards, line, first, rest)?,
             "frame" => once(&mut text.frame, line, first, rest)?,
-            "project" => text.projects.push(Line {
-                numbers: fields(line, first, PROJECT_FIELDS, rest)?,
-                line,
-            }),
+            "project" => {
+                let mut rest = rest.to_vec();
+                if let Some(pair) = rest.chunks_mut(2).find(|pair| **pair == ["budget", "?"]) {
+                    if let Some(other) = text.open.replace(text.projects.len()) {
+                        let other = text.projects[other].line;
+                        return Err(format!(
+                            "line {line}: the budget on line {other} is left open already"
+                        ));
+                    }
+                    // What stands there is not looked at.
+                    pair[1] = "0";
+                }
+                text.projects.push(Line {
+                    numbers: fields(line, first, PROJECT_FIELDS, &rest)?,
+                    line,
+                });
+            }
             "kind" => text.kinds.push(Line {
                 numbers: fields(line, first, KIND_FIELDS, rest)?,
                 line,
@@ -246,10 +278,44 @@ fn told(answer: Answer) -> String {
     format!("refused {} at {}", answer.number, answer.place)
 }
 
+/// The smallest budget of a project in words; nothing where something else of the plan is refused.
+fn advice(plan: &Plan, project: usize) -> Option<String> {
+    match plan.smallest_budget(project as u64) {
+        Ok(budget) => Some(format!(
+            "budget {budget} is the smallest that serves project {project}"
+        )),
+        Err(answer) if answer.number == 8 => Some(format!(
+            "no budget serves project {project}: kind {} is too long by {} even with all cells of its ceiling",
+            answer.place, answer.excess
+        )),
+        Err(answer) if answer.number == 7 => Some(format!(
+            "the smallest budget that serves project {project} is more than the others leave"
+        )),
+        Err(_) => None,
+    }
+}
+
+/// A verdict that refuses, in words, with the smallest budget of the project that it is about.
+fn not_admitted(plan: &Plan, answer: Answer) -> String {
+    let kind = &plan.kind[usize::from(answer.place)];
+    let advice = advice(plan, usize::from(kind.project));
+    format!(
+        "the plan is not admitted ({}): kind {} is too long by {}{}",
+        told(answer),
+        answer.place,
+        answer.excess,
+        advice.map_or(String::new(), |advice| format!("; {advice}"))
+    )
+}
+
 /// The plan's own refusal with the line it is about, in words.
-fn refusal(answer: Answer, text: &Text, cards: &Line<1>, frame: &Line<1>) -> String {
+fn refusal(answer: Answer, text: &Text, plan: &Plan) -> String {
+    let (Some(cards), Some(frame)) = (&text.cards, &text.frame) else {
+        return told(answer);
+    };
     let place = usize::from(answer.place);
     let (m, f) = (cards.numbers[0], frame.numbers[0]);
+    let mut more = String::new();
     let (p, n) = (text.projects.len(), text.kinds.len());
     let (line, reason) = match answer.number {
         2 if !(1..=8).contains(&m) => (Some(cards.line), format!("cards {m} is not 1 to 8")),
@@ -263,6 +329,9 @@ fn refusal(answer: Answer, text: &Text, cards: &Line<1>, frame: &Line<1>) -> Str
                 format!("ceiling {ceiling} is not 1 to {m}, the cards")
             } else {
                 let most = ceiling * f;
+                if let Some(advice) = advice(plan, place) {
+                    more = format!("; {advice}");
+                }
                 format!("budget {budget} is not 1 to {most}, the ceiling times the frame")
             };
             (Some(*line), format!("project {place}: {reason}"))
@@ -280,6 +349,12 @@ fn refusal(answer: Answer, text: &Text, cards: &Line<1>, frame: &Line<1>) -> Str
             )
         }
         _ => {
+            // A guess that is too large: each project that fits in with a smaller budget.
+            for project in 0..p {
+                if plan.smallest_budget(project as u64).is_ok() {
+                    more += &advice(plan, project).map_or(String::new(), |one| format!("; {one}"));
+                }
+            }
             let sum: u64 = text.projects.iter().map(|line| line.numbers[1]).sum();
             let cells = m * f;
             (
@@ -289,7 +364,7 @@ fn refusal(answer: Answer, text: &Text, cards: &Line<1>, frame: &Line<1>) -> Str
         }
     };
     let line = line.map_or(String::new(), |line| format!("line {line}: "));
-    format!("{line}{reason} ({})", told(answer))
+    format!("{line}{reason} ({}){more}", told(answer))
 }
 
 // ---- From bytes to text
@@ -322,16 +397,11 @@ fn decode(input: &[u8]) -> Turned {
     }
     text += &match verdict {
         Ok(_) => "# admitted\n".to_string(),
-        Err(answer) => format!(
-            "# not admitted ({}): kind {} is too long by {}\n",
-            told(answer),
-            answer.place,
-            answer.excess
-        ),
+        Err(answer) => format!("# {}\n", not_admitted(&plan, answer)),
     };
     match input.len() - taken {
         0 => {}
         more => text += &format!("# {more} more bytes follow the plan\n"),
     }
-    Ok((text.into_bytes(), None))
+    Ok((text.into_bytes(), Vec::new()))
 }

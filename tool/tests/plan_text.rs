@@ -151,7 +151,14 @@ fn the_plans_own_refusal_is_told_with_its_line() {
         (
             "budget 3",
             "budget 5",
-            "line 3: project 0: budget 5 is not 1 to 4, the ceiling times the frame (refused 4 at 0)",
+            "line 3: project 0: budget 5 is not 1 to 4, the ceiling times the frame (refused 4 at 0); \
+             budget 3 is the smallest that serves project 0",
+        ),
+        (
+            "budget 5",
+            "budget 0",
+            "line 4: project 1: budget 0 is not 1 to 8, the ceiling times the frame (refused 4 at 1); \
+             budget 4 is the smallest that serves project 1",
         ),
         (
             "kind project 1",
@@ -171,7 +178,8 @@ fn the_plans_own_refusal_is_told_with_its_line() {
         (
             "budget 5",
             "budget 6",
-            "the budgets sum to 9, above 8, the cards times the frame (refused 7 at 0)",
+            "the budgets sum to 9, above 8, the cards times the frame (refused 7 at 0); \
+             budget 4 is the smallest that serves project 1",
         ),
     ] {
         let text = PLAN_A.replacen(old, new, 1);
@@ -191,13 +199,78 @@ fn a_plan_that_is_not_admitted_has_bytes_and_a_note() {
     assert_eq!(
         ran.said,
         "plan-text: line 5: the plan is not admitted (refused 8 at 0): kind 0 is too long by 1; \
+         the smallest budget that serves project 0 is more than the others leave; \
          the bytes are written all the same\n"
     );
     let mut longer = Plan::a();
     longer.kinds[0].length = 7;
     assert_eq!(ran.output, pack(&longer));
     let text = decoded(&ran.output);
-    assert!(text.ends_with("\n# not admitted (refused 8 at 0): kind 0 is too long by 1\n"));
+    assert!(text.ends_with(
+        "\n# the plan is not admitted (refused 8 at 0): kind 0 is too long by 1; \
+         the smallest budget that serves project 0 is more than the others leave\n"
+    ));
+
+    // With room in the rack the budget that would do is told, and where none would, that.
+    for (old, new, said) in [
+        ("budget 5", "budget 4", "budget 4 is the smallest that serves project 0"),
+        (
+            "kind project 1 separation 4",
+            "kind project 0 separation 8 deadline 8 length 2\nkind project 1 separation 4",
+            "no budget serves project 0: kind 0 is too long by 1 even with all cells of its ceiling",
+        ),
+    ] {
+        let text = PLAN_A
+            .replacen("length 6", "length 7", 1)
+            .replacen(old, new, 1);
+        let ran = plan_text(&["encode"], text.as_bytes());
+        assert!(ran.said.contains(said), "{}", ran.said);
+        assert!(decoded(&ran.output).contains(said));
+    }
+}
+
+#[test]
+fn a_budget_left_open_is_the_smallest_that_serves() {
+    for (place, project, budget) in [("budget 3", 0, 3), ("budget 5", 1, 4)] {
+        let ran = plan_text(
+            &["encode"],
+            PLAN_A.replacen(place, "budget ?", 1).as_bytes(),
+        );
+        assert_eq!(ran.status, Some(0));
+        let said = format!("plan-text: budget {budget} is the smallest that serves project {project}\n");
+        assert_eq!(ran.said, said);
+        let mut plan = Plan::a();
+        plan.projects[project].budget = budget;
+        assert_eq!(ran.output, pack(&plan));
+    }
+    let open = PLAN_A.replacen("budget 5", "budget ?", 1);
+    for (old, new, said) in [
+        (
+            "budget 3",
+            "budget ?",
+            "line 4: the budget on line 3 is left open already",
+        ),
+        (
+            "ceiling 2",
+            "ceiling 3",
+            "line 4: project 1: ceiling 3 is not 1 to 2, the cards (refused 4 at 1)",
+        ),
+        (
+            "deadline 4 length 2",
+            "deadline 4 length 4",
+            "line 4: no budget serves project 1: kind 1 is too long by 2 \
+             even with all cells of its ceiling (refused 8 at 1)",
+        ),
+        (
+            "ceiling 1 budget 3",
+            "ceiling 2 budget 5",
+            "line 4: the smallest budget that serves project 1 is more than the others leave (refused 7 at 0)",
+        ),
+        ("length 6", "length ?", "line 5: `?` is not a whole number"),
+    ] {
+        let text = open.replacen(old, new, 1);
+        assert_eq!(refused(&text), format!("plan-text: {said}"));
+    }
 }
 
 #[test]

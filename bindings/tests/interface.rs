@@ -663,8 +663,14 @@ fn the_records_are_what_the_library_reads_and_writes() {
     assert_eq!(plan.slots(), Ok(vec![1, 1, 1, 2, 2, 2, 2, 2]));
     let k = plan.verdict().unwrap();
     assert_eq!(k[..4], [1, 1, 1, 0]);
-    assert_eq!([0, 1].map(|project| plan.smallest_budget(project)), [Ok(3), Ok(4)]);
-    assert_eq!(plan.smallest_budget(2).map_err(|answer| answer.number), Err(27));
+    assert_eq!(
+        [0, 1].map(|project| plan.smallest_budget(project)),
+        [Ok(3), Ok(4)]
+    );
+    assert_eq!(
+        plan.smallest_budget(2).map_err(|answer| answer.number),
+        Err(27)
+    );
 
     let mut state = plan.fresh().unwrap();
     let fresh = State {

@@ -554,7 +554,17 @@ pub fn fixed_open_budgets() -> Vec<(Plan, u64)> {
     }
 
     // 4 at each project, with each project open: of the open one the ceiling counts and the budget does not.
-    for (ceiling, budget) in [(0, 1), (9, 1), (255, 1), (2, 0), (2, 17), (2, 16), (1, 9), (8, 1024), (0, 65535)] {
+    for (ceiling, budget) in [
+        (0, 1),
+        (9, 1),
+        (255, 1),
+        (2, 0),
+        (2, 17),
+        (2, 16),
+        (1, 9),
+        (8, 1024),
+        (0, 65535),
+    ] {
         for place in 0..8 {
             let mut plan = wide_plan(8);
             plan.projects[place] = Project { ceiling, budget };
@@ -588,7 +598,7 @@ pub fn fixed_open_budgets() -> Vec<(Plan, u64)> {
                     false => (0, 200, 190, 190),
                 };
                 let kinds: Vec<_> = (0..n).map(kind).collect();
-                open.push((Plan::of(2, 4, &[(1, 1), (2, 3)], &kinds), 1));
+                open.push((Plan::of(3, 4, &[(1, 1), (2, 3)], &kinds), 1));
             }
         }
     }
@@ -603,7 +613,7 @@ pub fn fixed_open_budgets() -> Vec<(Plan, u64)> {
                     _ => (0, 200, 190, 190),
                 };
                 let kinds: Vec<_> = (0..n).map(kind).collect();
-                open.push((Plan::of(2, 4, &[(1, 1), (2, 3)], &kinds), 1));
+                open.push((Plan::of(3, 4, &[(1, 1), (2, 3)], &kinds), 1));
             }
         }
     }
@@ -612,7 +622,12 @@ pub fn fixed_open_budgets() -> Vec<(Plan, u64)> {
     for c in 1..=22 {
         for project in [0, 1] {
             let of = project as u8;
-            let mut plan = Plan::of(2, 4, &[(2, 1); 2], &[(of, 40, 30, c), (1 - of, 9, 9, 9), (of, 40, 30, c)]);
+            let mut plan = Plan::of(
+                2,
+                4,
+                &[(2, 1); 2],
+                &[(of, 40, 30, c), (1 - of, 9, 9, 9), (of, 40, 30, c)],
+            );
             let (_, least) = smallest_budget(&plan, project);
             for more in [0, 1] {
                 plan.projects[1 - usize::from(of)].budget = (8 - least + more).clamp(1, 8) as u16;
@@ -628,7 +643,12 @@ pub fn fixed_open_budgets() -> Vec<(Plan, u64)> {
     // A project without kinds, in each place, with all cells but one taken, and with all.
     for project in 0..8 {
         for others in [1, 8] {
-            let mut plan = Plan::of(8, 8, &[(1, others); 8], &[((project as u8 + 1) % 8, 9, 9, 1)]);
+            let mut plan = Plan::of(
+                8,
+                8,
+                &[(1, others); 8],
+                &[((project as u8 + 1) % 8, 9, 9, 1)],
+            );
             open.push((plan, project));
             plan.projects[(project as usize + 1) % 8] = Project {
                 ceiling: 2,
@@ -640,7 +660,8 @@ pub fn fixed_open_budgets() -> Vec<(Plan, u64)> {
 
     // The ends of F, q, n and D: a budget of 1, of qF, and none.
     for frame in [1u8, 64] {
-        for q in [1u8, 8] {
+        // With q 8 there is one cell too few for all of them.
+        for q in [1u8, 7, 8] {
             for n in [1u16, 16] {
                 for d in [1, u16::from(frame), u16::from(frame) + 1, 200] {
                     // qC + (n - 1)C <= qD at all cells, C - 1, C and C + 1 slices long.

@@ -161,7 +161,7 @@ fn fixed_records_reach_each_number_at_each_place() {
 fn fixed_open_budgets_reach_each_number_at_each_place_and_each_boundary() {
     let open = fixed_open_budgets();
     let mut reached = BTreeSet::new();
-    let (mut ones, mut whole, mut exact, mut one_cell) = (0, 0, 0, 0);
+    let (mut ones, mut whole, mut exact) = (0, 0, 0);
     for (plan, project) in &open {
         let (answer, budget) = smallest_budget(plan, *project);
         reached.insert((answer.number, answer.place));
@@ -177,15 +177,13 @@ fn fixed_open_budgets_reach_each_number_at_each_place_and_each_boundary() {
             ones += u64::from(budget == 1);
             whole += u64::from(budget == u64::from(q) * u64::from(plan.frame) && budget > 1);
             exact += u64::from(sum == cells);
-            // With one cell more for another project it would be 7.
-            one_cell += u64::from(sum == cells && plan.p > 1);
         }
     }
     println!(
-        "open budgets {}: 1 {ones}, qF {whole}, sum mF {exact} ({one_cell} with others)",
+        "open budgets {}: 1 {ones}, qF {whole}, sum mF {exact}",
         open.len()
     );
-    assert!(ones > 50 && whole > 50 && exact > 50 && one_cell > 50);
+    assert!(ones > 50 && whole > 50 && exact > 50);
     for number in [0, 2, 3, 4, 5, 6, 7, 8, 27] {
         for place in places(number) {
             assert!(reached.contains(&(number, place)), "{number} at {place}");
@@ -216,7 +214,9 @@ fn random_records_reach_each_number() {
         *open.entry(answer.number).or_default() += 1;
     }
     println!("open budgets {}, {open:?}", RUNS / 8);
-    assert!([0, 2, 3, 4, 27].iter().all(|number| open.contains_key(number)));
+    assert!([0, 2, 3, 4, 27]
+        .iter()
+        .all(|number| open.contains_key(number)));
 
     let mut releases: BTreeMap<u64, u64> = BTreeMap::new();
     let mut slices: BTreeMap<u64, u64> = BTreeMap::new();

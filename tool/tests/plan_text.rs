@@ -237,7 +237,8 @@ fn a_budget_left_open_is_the_smallest_that_serves() {
             PLAN_A.replacen(place, "budget ?", 1).as_bytes(),
         );
         assert_eq!(ran.status, Some(0));
-        let said = format!("plan-text: budget {budget} is the smallest that serves project {project}\n");
+        let said =
+            format!("plan-text: budget {budget} is the smallest that serves project {project}\n");
         assert_eq!(ran.said, said);
         let mut plan = Plan::a();
         plan.projects[project].budget = budget;

@@ -26,12 +26,13 @@ extern "C" {
 
 /*
  * The version of this header and of the library beside it, as "major.minor.patch".
- * A minor version may add functions, fields and numbers; an image belongs to the
- * version that made it. Plan bytes are read by every later version.
+ * A minor version may add functions, fields and numbers, and before 1.0.0 it may
+ * change them; an image belongs to the version that made it. Plan bytes are read by
+ * every later version.
  */
-#define PARCHBEETLE_VERSION "0.2.0"
+#define PARCHBEETLE_VERSION "0.3.0"
 #define PARCHBEETLE_VERSION_MAJOR 0
-#define PARCHBEETLE_VERSION_MINOR 2
+#define PARCHBEETLE_VERSION_MINOR 3
 #define PARCHBEETLE_VERSION_PATCH 0
 
 /* ---- Images */
@@ -73,8 +74,14 @@ extern "C" {
 #define PARCHBEETLE_PLAN_IMAGE 140u
 #define PARCHBEETLE_STATE_IMAGE 256u
 
-/* The least k of each kind, one byte each; 0 beyond n. */
-#define PARCHBEETLE_K_BYTES 16u
+/*
+ * What a verdict writes: bytes 0-15 are the least k of each kind, bytes 16-31 the bad
+ * slice for that k, of which every kind has one byte; 0 beyond n. A unit that arrives
+ * in the bad slice of the frame has the fewest cells ahead of it within its deadline;
+ * of several such slices it is the earliest.
+ */
+#define PARCHBEETLE_VERDICT_BYTES 32u
+#define PARCHBEETLE_SLICES_AT 16u
 
 /* The most bytes that a plan, a slot table or a row can take. */
 #define PARCHBEETLE_MOST_PLAN_BYTES 99u
@@ -108,7 +115,9 @@ extern "C" {
  *   bits 16-31  count: bytes taken (read) or written (write, slot_table), or the
  *               least budget (smallest_budget); 0 for the other functions and on a
  *               refusal
- *   bits 32-63  excess (with 8): the slices by which the unit is too long; else 0
+ *   bits 32-55  excess (with 8): the slices by which the unit is too long; else 0
+ *   bits 56-63  slice (with 8): the bad slice of the frame for that unit to arrive
+ *               in, for the k of the excess, the least such k; else 0
  *
  * A plan or state image that is given and is shorter than its size: 9, before
  * anything else is looked at. An image or a buffer may be longer than needed; the
@@ -118,7 +127,8 @@ extern "C" {
 #define PARCHBEETLE_NUMBER(answer) ((unsigned)((answer) & 0xffu))
 #define PARCHBEETLE_PLACE(answer) ((unsigned)((answer) >> 8 & 0xffu))
 #define PARCHBEETLE_COUNT(answer) ((unsigned)((answer) >> 16 & 0xffffu))
-#define PARCHBEETLE_EXCESS(answer) ((uint32_t)((answer) >> 32))
+#define PARCHBEETLE_EXCESS(answer) ((uint32_t)((answer) >> 32 & 0xffffffu))
+#define PARCHBEETLE_SLICE(answer) ((unsigned)((answer) >> 56 & 0xffu))
 
 /* Each number and what it says; 8 names the first kind with no k, 4 the first such project. */
 #define PARCHBEETLE_NUMBERS(number)                                             \
@@ -173,9 +183,9 @@ uint64_t parchbeetle_write(const uint8_t *plan, size_t plan_len, uint8_t *out, s
 uint64_t parchbeetle_slot_table(const uint8_t *plan, size_t plan_len, uint8_t *out, size_t out_len);
 
 /*
- * Judges the plan. When it is admitted, the first 16 bytes at `k` are the least k of
- * each kind, 0 beyond n.
- * Refusals: as parchbeetle_check, then 8, then 9 (k_len below 16).
+ * Judges the plan. When it is admitted, the first 32 bytes at `k` are the least k of
+ * each kind and then the bad slice of each, 0 beyond n.
+ * Refusals: as parchbeetle_check, then 8, then 9 (k_len below 32).
  */
 uint64_t parchbeetle_verdict(const uint8_t *plan, size_t plan_len, uint8_t *k, size_t k_len);
 
@@ -184,8 +194,8 @@ uint64_t parchbeetle_verdict(const uint8_t *plan, size_t plan_len, uint8_t *k, s
  * has a k. Its stored budget is not looked at, and no other project's kinds are
  * judged. The count is that budget; with it the plan is in order.
  * Refusals, in order: 9 (plan_len below 140), 2, 3, 27, 4 (of every project; of this
- * one the ceiling alone), then kind by kind 5 and 6; 8 (no budget of 1..qF serves; place
- * and excess are those at qF); 7 (the least budget makes the sum too large).
+ * one the ceiling alone), then kind by kind 5 and 6; 8 (no budget of 1..qF serves; place,
+ * excess and slice are those at qF); 7 (the least budget makes the sum too large).
  */
 uint64_t parchbeetle_smallest_budget(const uint8_t *plan, size_t plan_len, uint64_t project);
 

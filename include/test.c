@@ -1,4 +1,4 @@
-/* Holds the header to the library: every function through it, on good and refused answers, with the four
+/* Holds the header to the library: every function through it, on good and refused answers, with the five
  * parts of each answer; every field of the images by its name and its bytes; every number in words. */
 #include <stdio.h>
 #include <string.h>
@@ -17,17 +17,23 @@ static void expect(const char *what, int holds) {
     }
 }
 
-/* The four parts of an answer, by the header's macros. */
-static void answers(const char *what, uint64_t answer, unsigned number, unsigned place, unsigned count, uint32_t excess) {
+/* The five parts of an answer, by the header's macros; most have slice 0. */
+static void answers_from(const char *what, uint64_t answer, unsigned number, unsigned place, unsigned count, uint32_t excess,
+                         unsigned slice) {
     expect(what, PARCHBEETLE_NUMBER(answer) == number && PARCHBEETLE_PLACE(answer) == place &&
-                     PARCHBEETLE_COUNT(answer) == count && PARCHBEETLE_EXCESS(answer) == excess);
+                     PARCHBEETLE_COUNT(answer) == count && PARCHBEETLE_EXCESS(answer) == excess &&
+                     PARCHBEETLE_SLICE(answer) == slice);
+}
+
+static void answers(const char *what, uint64_t answer, unsigned number, unsigned place, unsigned count, uint32_t excess) {
+    answers_from(what, answer, number, place, count, excess, 0);
 }
 
 /* Plan A of the rules, and what they say of it. */
 static const uint8_t bytes_a[22] = {0x22, 0x18, 0x40, 0x10, 0x0c, 0x20, 0x14, 0x00, 0x10, 0x01, 0x00,
                                     0x0c, 0x20, 0x08, 0x00, 0x80, 0x04, 0x20, 0x10, 0x01, 0x00, 0x04};
 static const uint8_t slots_a[8] = {1, 1, 1, 2, 2, 2, 2, 2};
-static const uint8_t widths_a[16] = {1, 1, 1};
+static const uint8_t verdict_a[32] = {1, 1, 1};
 
 static void make_plan_a(uint8_t *plan) {
     static const unsigned kinds[3][4] = {{0, 8, 8, 6}, {1, 4, 4, 2}, {1, 8, 8, 2}};
@@ -51,7 +57,7 @@ static void make_plan_a(uint8_t *plan) {
 /* Every function, on good answers and on refusals with each part. */
 static void functions(void) {
     uint8_t plan[PLAN], made[PLAN], wrong[PLAN], state[STATE], kept[STATE];
-    uint8_t bytes[22], slots[8], widths[16], row[2];
+    uint8_t bytes[22], slots[8], verdict[32], row[2];
 
     answers("read", parchbeetle_read(bytes_a, 22, plan, PLAN), 0, 0, 22, 0);
     make_plan_a(made);
@@ -80,12 +86,20 @@ static void functions(void) {
     expect("slots", memcmp(slots, slots_a, 8) == 0);
     answers("slot_table, no room", parchbeetle_slot_table(plan, PLAN, slots, 7), 9, 0, 0, 0);
 
-    answers("verdict", parchbeetle_verdict(plan, PLAN, widths, 16), 0, 0, 0, 0);
-    expect("widths", memcmp(widths, widths_a, 16) == 0);
-    answers("verdict, no room", parchbeetle_verdict(plan, PLAN, widths, 15), 9, 0, 0, 0);
+    answers("verdict", parchbeetle_verdict(plan, PLAN, verdict, 32), 0, 0, 0, 0);
+    expect("k and slices", memcmp(verdict, verdict_a, 32) == 0);
+    answers("verdict, no room", parchbeetle_verdict(plan, PLAN, verdict, 31), 9, 0, 0, 0);
+    memcpy(wrong, plan, PLAN);
+    parchbeetle_set_kind_deadline(wrong, 0, 3);
+    parchbeetle_set_kind_length(wrong, 0, 2);
+    answers("verdict, kind 0 from slice 1", parchbeetle_verdict(wrong, PLAN, verdict, 32), 0, 0, 0, 0);
+    expect("the slice of kind 0", verdict[PARCHBEETLE_SLICES_AT] == 1 && verdict[PARCHBEETLE_SLICES_AT + 1] == 0);
+    parchbeetle_set_kind_length(wrong, 0, 3);
+    answers_from("verdict, kind 0 by 1", parchbeetle_verdict(wrong, PLAN, verdict, 32), 8, 0, 0, 1, 1);
+    answers_from("fresh, kind 0 by 1", parchbeetle_fresh(wrong, PLAN, state, STATE), 8, 0, 0, 1, 1);
     memcpy(wrong, plan, PLAN);
     parchbeetle_set_kind_length(wrong, 1, 4);
-    answers("verdict, kind 1 by 2", parchbeetle_verdict(wrong, PLAN, widths, 16), 8, 1, 0, 2);
+    answers("verdict, kind 1 by 2", parchbeetle_verdict(wrong, PLAN, verdict, 32), 8, 1, 0, 2);
     answers("fresh, kind 1 by 2", parchbeetle_fresh(wrong, PLAN, state, STATE), 8, 1, 0, 2);
 
     answers("smallest_budget, project 0", parchbeetle_smallest_budget(plan, PLAN, 0), 0, 0, 3, 0);

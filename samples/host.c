@@ -8,7 +8,8 @@ static int good(const char *what, uint64_t answer) {
     unsigned number = PARCHBEETLE_NUMBER(answer);
     printf("%s: %s", what, parchbeetle_words(number));
     if (number == 8) {
-        printf(" (kind %u, by %u)", PARCHBEETLE_PLACE(answer), PARCHBEETLE_EXCESS(answer));
+        printf(" (kind %u, by %u from slice %u on)", PARCHBEETLE_PLACE(answer), PARCHBEETLE_EXCESS(answer),
+               PARCHBEETLE_SLICE(answer));
     }
     if (PARCHBEETLE_COUNT(answer) > 0) {
         printf(" (%u)", PARCHBEETLE_COUNT(answer));

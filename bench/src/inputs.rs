@@ -39,7 +39,7 @@ pub fn only_at(q: u8, n: u16, frame: u8, d: u16) -> Plan {
     let c = (u32::from(q) * u32::from(d) / (u32::from(q) + u32::from(n) - 1)) as u16;
     let kinds = vec![(0, d, d, c); usize::from(n)];
     let plan = Plan::of(8, frame, &[(q, u16::from(q) * u16::from(frame))], &kinds);
-    let (answer, k) = verdict(&plan);
+    let (answer, k, _) = verdict(&plan);
     assert!(answer.is_good() && k[..usize::from(n)].iter().all(|&k| k == q));
     plan
 }

@@ -158,9 +158,10 @@ fn read(name: &str, plan: &Plan) -> Row {
 
 fn verdict(name: String, plan: &Plan) -> Row {
     let image = plan_image(plan);
-    let word = agree(&Case::new(Op::Verdict, image.to_vec(), vec![0; 16]));
-    let (mut one, mut other, mut own) = ([0; 16], [0; 16], [0; 16]);
-    let same = tuned::verdict(plan, &mut own) == word && own == second::verdict(plan).1;
+    let word = agree(&Case::new(Op::Verdict, image.to_vec(), vec![0; 32]));
+    let (mut one, mut other, mut own) = ([0; 32], [0; 32], [0; 32]);
+    let (_, k, slices) = second::verdict(plan);
+    let same = tuned::verdict(plan, &mut own) == word && own[..] == [k, slices].concat();
     stop_unless(same, "tuned differs", &name);
 
     medians(

@@ -125,8 +125,13 @@ fn cards(first: u32, budget: u32, frame: u32, slice: u32) -> (u32, u32) {
     )
 }
 
-/// Judges the plan; k is changed on a good answer only.
-pub fn verdict(plan: &Plan, k: &mut [u8; 16]) -> u64 {
+/// The word of 8: by so many slices, worst from this slice on.
+fn not_admitted(place: usize, (least, slice): (u32, usize)) -> u64 {
+    refused(8, place) | u64::from(least) << 32 | (slice as u64) << 56
+}
+
+/// Judges the plan: the least k of each kind, then the slice of each; changed on a good answer only.
+pub fn verdict(plan: &Plan, k: &mut [u8; 32]) -> u64 {
     let word = check(plan);
     if word != 0 {
         return word;
@@ -144,12 +149,15 @@ pub fn verdict(plan: &Plan, k: &mut [u8; 16]) -> u64 {
         hold(held, first, budget, plan.frame);
         first += budget;
     }
-    let mut found = [0; 16];
+    let mut found = [0; 32];
     for i in 0..usize::from(plan.n) {
         let held = &held[usize::from(plan.kinds[i].project)];
         match fit(plan, held, i, workload(plan, i)) {
-            Ok(width) => found[i] = width,
-            Err(least) => return refused(8, i) | u64::from(least) << 32,
+            Ok((width, slice)) => {
+                found[i] = width;
+                found[16 + i] = slice as u8;
+            }
+            Err(over) => return not_admitted(i, over),
         }
     }
     *k = found;
@@ -181,22 +189,24 @@ fn workload(plan: &Plan, i: usize) -> u32 {
     w
 }
 
-/// The least k at which a kind fits, or the least excess over all k.
-fn fit(plan: &Plan, held: &[u8; 128], i: usize, w: u32) -> Result<u8, u32> {
+/// The least k at which a kind fits, or the least excess over all k; with the slice of that k.
+fn fit(plan: &Plan, held: &[u8; 128], i: usize, w: u32) -> Result<(u8, usize), (u32, usize)> {
     let kind = &plan.kinds[i];
-    let mut least = u32::MAX;
+    let mut least = (u32::MAX, 0);
     for width in 1..=plan.projects[usize::from(kind.project)].ceiling {
         let asked = u32::from(width) * u32::from(kind.length) + w;
-        let supply = supply(
+        let (supply, slice) = supply(
             held,
             usize::from(plan.frame),
             width,
             usize::from(kind.deadline),
         );
         if asked <= supply {
-            return Ok(width);
+            return Ok((width, slice));
         }
-        least = least.min(asked - supply);
+        if asked - supply < least.0 {
+            least = (asked - supply, slice);
+        }
     }
     Err(least)
 }
@@ -234,8 +244,8 @@ pub fn smallest_budget(plan: &Plan, project: u64) -> u64 {
         while judged != 0 {
             let i = judged.trailing_zeros() as usize & 15;
             judged &= judged - 1;
-            if let Err(least) = fit(plan, &held, i, loads[i]) {
-                return Some((i, least));
+            if let Err(over) = fit(plan, &held, i, loads[i]) {
+                return Some((i, over));
             }
         }
         None
@@ -244,8 +254,8 @@ pub fn smallest_budget(plan: &Plan, project: u64) -> u64 {
         0,
         u32::from(plan.projects[open].ceiling) * u32::from(plan.frame),
     );
-    if let Some((i, excess)) = unfit(least) {
-        return refused(8, i) | u64::from(excess) << 32;
+    if let Some((i, over)) = unfit(least) {
+        return not_admitted(i, over);
     }
     while least - below > 1 {
         let half = (below + least) / 2;
@@ -261,27 +271,29 @@ pub fn smallest_budget(plan: &Plan, project: u64) -> u64 {
     }
 }
 
-/// S(k,t): whole frames, and the least window of what is left of t.
-fn supply(held: &[u8; 128], frame: usize, width: u8, t: usize) -> u32 {
+/// S(k,t): whole frames, and the least window of what is left of t; and the first start of such a window.
+fn supply(held: &[u8; 128], frame: usize, width: u8, t: usize) -> (u32, usize) {
     let (whole, rest) = (t / frame, t % frame);
     let capped = |&cards: &u8| u32::from(cards.min(width));
     let in_frame: u32 = held[..frame].iter().map(capped).sum();
-    let mut least = 0;
+    let (mut least, mut first) = (0, 0);
     if rest > 0 {
         let mut window: u32 = held[..rest].iter().map(capped).sum();
         least = window;
         let (leaving, entering) = (&held[..frame - 1], &held[rest..rest + frame - 1]);
-        for (out, into) in leaving.iter().zip(entering) {
+        for (before, (out, into)) in leaving.iter().zip(entering).enumerate() {
             window = window + capped(into) - capped(out);
-            least = least.min(window);
+            if window < least {
+                (least, first) = (window, before + 1);
+            }
         }
     }
-    whole as u32 * in_frame + least
+    (whole as u32 * in_frame + least, first)
 }
 
 /// Starts fresh; the state is changed on a good answer only.
 pub fn fresh(plan: &Plan, state: &mut State) -> u64 {
-    let word = verdict(plan, &mut [0; 16]);
+    let word = verdict(plan, &mut [0; 32]);
     if word == 0 {
         *state = State {
             plan: *plan,

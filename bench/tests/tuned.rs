@@ -17,10 +17,14 @@ fn plans() {
             word(second::check(&plan), 0),
             "{plan:?}"
         );
-        let (answer, expected) = second::verdict(&plan);
-        let mut k = [7; 16];
+        let (answer, ks, slices) = second::verdict(&plan);
+        let mut k = [7; 32];
         assert_eq!(tuned::verdict(&plan, &mut k), word(answer, 0), "{plan:?}");
-        assert_eq!(k, if answer.is_good() { expected } else { [7; 16] });
+        let expected = match answer.is_good() {
+            true => [ks, slices].concat(),
+            false => vec![7; 32],
+        };
+        assert_eq!(k[..], expected);
         let (answer, expected) = second::fresh(&plan);
         let mut state = State::default();
         assert_eq!(tuned::fresh(&plan, &mut state), word(answer, 0));

@@ -1,6 +1,6 @@
 //! What a call gives back: one word of 64 bits, decoded.
 
-/// A number, where it points to, how many, and by how much.
+/// A number, where it points to, how many, by how much, and from which slice.
 #[derive(Clone, Copy, Debug, Default, PartialEq, Eq, Hash)]
 pub struct Answer {
     /// 0 for a good answer, else the number of the refusal.
@@ -9,9 +9,14 @@ pub struct Answer {
     pub place: u8,
     /// Bytes taken or written, or the least budget.
     pub count: u16,
-    /// By how many slices a unit is too long.
+    /// By how many slices a unit is too long; 24 bits.
     pub excess: u32,
+    /// The bad slice of the frame for such a unit to arrive in.
+    pub slice: u8,
 }
+
+/// The bits that an excess has.
+const EXCESS: u32 = 0xFF_FFFF;
 
 impl Answer {
     /// The answer that a word carries.
@@ -20,7 +25,8 @@ impl Answer {
             number: word as u8,
             place: (word >> 8) as u8,
             count: (word >> 16) as u16,
-            excess: (word >> 32) as u32,
+            excess: (word >> 32) as u32 & EXCESS,
+            slice: (word >> 56) as u8,
         }
     }
 
@@ -29,7 +35,8 @@ impl Answer {
         u64::from(self.number)
             | u64::from(self.place) << 8
             | u64::from(self.count) << 16
-            | u64::from(self.excess) << 32
+            | u64::from(self.excess & EXCESS) << 32
+            | u64::from(self.slice) << 56
     }
 
     /// Whether the call was accepted.

@@ -27,7 +27,7 @@ pub fn slot_table(plan: &[u8], out: &mut [u8]) -> Answer {
     Answer::of_word(library::slot_table(plan, out))
 }
 
-/// Judges the plan of an image: the least k of each kind.
+/// Judges the plan of an image: the least k of each kind, and then the slice beside each.
 pub fn verdict(plan: &[u8], k: &mut [u8]) -> Answer {
     Answer::of_word(library::verdict(plan, k))
 }

@@ -17,7 +17,7 @@ mod record;
 
 pub use answer::{in_words, Answer, NUMBERS};
 pub use calls::{check, fresh, read, release, slice, slot_table, smallest_budget, verdict, write};
-pub use record::{Kind, Plan, Project, State, Unit};
+pub use record::{Kind, Plan, Project, State, Unit, Verdict};
 
 /// Whether the library is linked, so that a call takes no more than its own time.
 pub const LINKED: bool = cfg!(target_arch = "x86_64");
@@ -26,8 +26,8 @@ pub const LINKED: bool = cfg!(target_arch = "x86_64");
 pub const PLAN_IMAGE: usize = 140;
 /// Bytes of a state image.
 pub const STATE_IMAGE: usize = 256;
-/// Bytes of k.
-pub const K_BYTES: usize = 16;
+/// Bytes of a verdict: the k of each kind, then the slice of each.
+pub const VERDICT_BYTES: usize = 32;
 /// The most bytes that a plan takes.
 pub const MOST_PLAN_BYTES: usize = 99;
 /// The most bytes that a slot table takes.

@@ -1,7 +1,9 @@
 //! The plan and the state as records, and their images: field after field without a gap, numbers of
 //! more than one byte with the high byte first.
 
-use crate::{calls, Answer, K_BYTES, MOST_PLAN_BYTES, MOST_TABLE_BYTES, PLAN_IMAGE, STATE_IMAGE};
+use crate::{
+    calls, Answer, MOST_PLAN_BYTES, MOST_TABLE_BYTES, PLAN_IMAGE, STATE_IMAGE, VERDICT_BYTES,
+};
 
 /// What an image is made of.
 trait Part: Copy + Default {
@@ -140,6 +142,14 @@ records! {
         pub left: u16,
     }
 
+    /// What the verdict says of an admitted plan.
+    pub struct Verdict {
+        /// The least k of each kind; 0 beyond the plan's kinds.
+        pub k: [u8; 16],
+        /// The bad slice of the frame to arrive in, for that k.
+        pub slice: [u8; 16],
+    }
+
     /// A plan that runs.
     pub struct State {
         /// The plan.
@@ -153,6 +163,7 @@ records! {
 
 // The records and the header agree on the sizes.
 const _: () = assert!(Plan::BYTES == PLAN_IMAGE && State::BYTES == STATE_IMAGE);
+const _: () = assert!(Verdict::BYTES == VERDICT_BYTES);
 
 /// What a call gives, or its refusal.
 type Given<T> = Result<T, Answer>;
@@ -205,10 +216,11 @@ impl Plan {
         given(answer, out)
     }
 
-    /// The least k of each kind.
-    pub fn verdict(&self) -> Given<[u8; K_BYTES]> {
-        let mut k = [0; K_BYTES];
-        given(calls::verdict(&self.image(), &mut k), k)
+    /// The least k of each kind, and the slice beside it.
+    pub fn verdict(&self) -> Given<Verdict> {
+        let mut k = [0; VERDICT_BYTES];
+        let answer = calls::verdict(&self.image(), &mut k);
+        given(answer, Part::of(&k))
     }
 
     /// The smallest budget of one of its projects, whose stored budget is not looked at.

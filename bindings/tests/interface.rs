@@ -363,7 +363,7 @@ fn spoken_of(header: &str) -> BTreeSet<u64> {
 const SIZES: [&str; 6] = [
     "PLAN_IMAGE",
     "STATE_IMAGE",
-    "K_BYTES",
+    "VERDICT_BYTES",
     "MOST_PLAN_BYTES",
     "MOST_TABLE_BYTES",
     "MOST_ROW_BYTES",
@@ -599,6 +599,7 @@ fn one_thing_changed_on_one_side_is_found() {
         (images, "row 8 projectWidths", "row 9 projectWidths"),
         // A size.
         (header, "PLAN_IMAGE 140u", "PLAN_IMAGE 141u"),
+        (header, "VERDICT_BYTES 32u", "VERDICT_BYTES 16u"),
         (bindings, "MOST_ROW_BYTES: usize = 8", "MOST_ROW_BYTES: usize = 16"),
         // A number: its words, one that is not given, one that is not listed or not said of any function.
         (header, "there is no such kind", "no such kind"),
@@ -661,8 +662,16 @@ fn the_records_are_what_the_library_reads_and_writes() {
     assert_eq!(plan.check(), Ok(()));
     assert_eq!(plan.bytes(), Ok(PLAN_A.to_vec()));
     assert_eq!(plan.slots(), Ok(vec![1, 1, 1, 2, 2, 2, 2, 2]));
-    let k = plan.verdict().unwrap();
-    assert_eq!(k[..4], [1, 1, 1, 0]);
+    let verdict = plan.verdict().unwrap();
+    assert_eq!(verdict.k[..4], [1, 1, 1, 0]);
+    assert_eq!(verdict.slice, [0; 16]);
+    let mut due = plan;
+    (due.kind[0].deadline, due.kind[0].length) = (3, 2);
+    assert_eq!(due.verdict().unwrap().slice[..4], [1, 0, 0, 0]);
+    due.kind[0].length = 3;
+    let refused = due.verdict().unwrap_err();
+    let parts = (refused.number, refused.place, refused.excess, refused.slice);
+    assert_eq!(parts, (8, 0, 1, 1));
     assert_eq!(
         [0, 1].map(|project| plan.smallest_budget(project)),
         [Ok(3), Ok(4)]
@@ -718,8 +727,8 @@ fn the_sizes_are_the_librarys() {
         (PLAN_IMAGE, &|size| read(&PLAN_A, &mut vec![0; size])),
         (PLAN_IMAGE, &|size| write(&plan[..size], &mut [0; 99])),
         (PLAN_IMAGE, &|size| slot_table(&plan[..size], &mut [0; 512])),
-        (PLAN_IMAGE, &|size| verdict(&plan[..size], &mut [0; 16])),
-        (K_BYTES, &|size| verdict(&plan, &mut vec![0; size])),
+        (PLAN_IMAGE, &|size| verdict(&plan[..size], &mut [0; 32])),
+        (VERDICT_BYTES, &|size| verdict(&plan, &mut vec![0; size])),
         (PLAN_IMAGE, &|size| smallest_budget(&plan[..size], 0)),
         (PLAN_IMAGE, &|size| fresh(&plan[..size], &mut [0; 256])),
         (STATE_IMAGE, &|size| fresh(&plan, &mut vec![0; size])),
@@ -761,14 +770,14 @@ fn an_answer_is_all_of_its_word() {
     for word in [
         0,
         14,
-        0x0000_0005_0000_0108,
+        0x0300_0005_0000_0108,
         0x0016_0000,
         u64::MAX,
         0x0123_4567_89AB_CDEF,
     ] {
         assert_eq!(Answer::of_word(word).word(), word);
     }
-    let answer = Answer::of_word(0x0000_0005_0016_0108);
+    let answer = Answer::of_word(0x3F00_0005_0016_0108);
     let parts = (answer.number, answer.place, answer.count, answer.excess);
-    assert_eq!(parts, (8, 1, 22, 5));
+    assert_eq!((parts, answer.slice), ((8, 1, 22, 5), 63));
 }

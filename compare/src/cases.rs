@@ -6,7 +6,7 @@
 //! bytes whole and damaged, states on it, and a run from its fresh start, step by step.
 
 use crate::interface::{
-    plan_image, plan_of, state_image, state_of, Case, Op, K_BYTES, PLAN_IMAGE, STATE_IMAGE,
+    plan_image, plan_of, state_image, state_of, Case, Op, PLAN_IMAGE, STATE_IMAGE, VERDICT_BYTES,
 };
 use generate::{
     fixed_open_budgets, fixed_plan_records, fixed_state_records, fixed_streams, spare_bits,
@@ -30,7 +30,7 @@ fn needed(op: Op, plan: &Plan) -> usize {
         Op::Read => PLAN_IMAGE,
         Op::Write => plan_bytes(plan.p, plan.n),
         Op::SlotTable => usize::from(plan.m) * usize::from(plan.frame),
-        Op::Verdict => K_BYTES,
+        Op::Verdict => VERDICT_BYTES,
         Op::Fresh => STATE_IMAGE,
         Op::Slice => usize::from(plan.m),
     }

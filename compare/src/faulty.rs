@@ -6,13 +6,14 @@
 
 use crate::interface::{
     number, plan_image, plan_of, refused, state_image, word, Side, PLAN_IMAGE, STATE_IMAGE,
+    VERDICT_BYTES,
 };
 use crate::second_side::{state_or_refuse, Second};
 use second::layout::{cards_held, cells, h, h_of_cells};
 use second::plan::budgets_sum_above;
 use second::play::{command, Command};
 use second::rack::{in_form, LAST_CLOCK};
-use second::supply::supply;
+use second::supply::supply_and_slice;
 use second::verdict::{ceiling_of, excess, least_k, workload};
 use second::{Answer, Plan, State};
 use std::io::{self, Read, Write};
@@ -64,6 +65,14 @@ pub enum Fault {
     OpenExcess,
     OpenSevenFirst,
     OpenStoredSum,
+    SliceLatest,
+    SliceBeyond,
+    SliceFromCell0,
+    SliceOfTop,
+    SliceOfLast,
+    SliceGreaterK,
+    SliceStands,
+    SliceBeyondN,
     PlayEnd,
     PlayLeftOver,
     PlayClock,
@@ -78,7 +87,7 @@ pub enum Fault {
 use Fault::*;
 
 /// Each fault that records must show: its name and what it is.
-pub const RECORD_FAULTS: [(Fault, &str, &str); 41] = [
+pub const RECORD_FAULTS: [(Fault, &str, &str); 49] = [
     (SumFirst, "sum-first", "7 is told before 4"),
     (FiveFirst, "five-first", "all kinds for 5 before any 6"),
     (
@@ -215,6 +224,46 @@ pub const RECORD_FAULTS: [(Fault, &str, &str); 41] = [
         OpenStoredSum,
         "open-stored-sum",
         "the smallest budget sums the stored budgets",
+    ),
+    (
+        SliceLatest,
+        "slice-latest",
+        "the latest slice that attains the supply",
+    ),
+    (
+        SliceBeyond,
+        "slice-beyond",
+        "a slice told as that of the next frame",
+    ),
+    (
+        SliceFromCell0,
+        "slice-from-0",
+        "the slice as if laid from cell 0",
+    ),
+    (
+        SliceOfTop,
+        "slice-of-top",
+        "the slice of k = q, not of the k it names",
+    ),
+    (
+        SliceOfLast,
+        "slice-of-last",
+        "the slice of the last kind for all kinds",
+    ),
+    (
+        SliceGreaterK,
+        "slice-greater-k",
+        "the slice of the greatest k on equal excess",
+    ),
+    (
+        SliceStands,
+        "slice-stands",
+        "a slice left standing beside 9",
+    ),
+    (
+        SliceBeyondN,
+        "slice-beyond-n",
+        "a slice beside a k of 0 beyond n",
     ),
 ];
 
@@ -359,12 +408,28 @@ impl Faulty {
         }
     }
 
-    fn supply(&self, plan: &Plan, project: usize, k: u64, t: u64) -> u64 {
+    /// The supply, and the slice beside it.
+    fn supply(&self, plan: &Plan, project: usize, k: u64, t: u64) -> (u64, u64) {
         let held = h(plan, project);
+        let frame = held.len() as u64;
+        let (supply, slice) = supply_and_slice(&held, k, t);
+        let from = |a: u64| (a..a + t).map(|s| held[(s % frame) as usize].min(k));
         match self.0 {
-            FrameStart => (0..t as usize).map(|x| held[x % held.len()].min(k)).sum(),
-            Average => held.iter().map(|h| h.min(&k)).sum::<u64>() * t / held.len() as u64,
-            _ => supply(plan, project, k, t),
+            FrameStart => (from(0).sum(), 0),
+            Average => (
+                held.iter().map(|h| h.min(&k)).sum::<u64>() * t / frame,
+                slice,
+            ),
+            SliceLatest => {
+                let latest = (0..frame).rfind(|&a| from(a).sum::<u64>() == supply);
+                (supply, latest.unwrap_or(0))
+            }
+            SliceBeyond if slice > 0 => (supply, slice + frame),
+            SliceFromCell0 => {
+                let moved = h_of_cells(plan.frame, 0, held.iter().sum());
+                supply_and_slice(&moved, k, t)
+            }
+            _ => (supply, slice),
         }
     }
 
@@ -386,31 +451,48 @@ impl Faulty {
         }
     }
 
-    fn judge(&self, plan: &Plan) -> (Answer, [u8; 16]) {
-        let mut ks = [0; 16];
+    fn judge(&self, plan: &Plan) -> (Answer, [u8; VERDICT_BYTES]) {
+        let mut found = [0; VERDICT_BYTES];
         let answer = second::check(plan);
         if !answer.is_good() {
-            return (answer, ks);
+            return (answer, found);
         }
         for (i, kind) in plan.used_kinds().iter().enumerate() {
             let w = self.workload(plan, i);
-            let over = |k: u64| {
-                let asked = k * u64::from(kind.length) + w;
-                let d = u64::from(kind.deadline);
-                asked.saturating_sub(self.supply(plan, usize::from(kind.project), k, d))
-            };
+            let d = u64::from(kind.deadline);
+            let supply = |k| self.supply(plan, usize::from(kind.project), k, d);
+            let over = |k: u64| (k * u64::from(kind.length) + w).saturating_sub(supply(k).0);
             let q = ceiling_of(plan, i);
+            let slice = |k| match self.0 {
+                SliceOfTop => supply(q).1,
+                _ => supply(k).1,
+            };
             let first = if self.is(OnlyTop) { q } else { 1 };
             match (first..=q).find(|&k| over(k) == 0) {
-                Some(k) => ks[i] = k as u8,
+                Some(k) => {
+                    found[i] = k as u8;
+                    found[16 + i] = slice(k) as u8;
+                }
                 None => {
                     let from = if self.is(ExcessAtTop) { q } else { first };
-                    let excess = (from..=q).map(over).min().unwrap_or(0);
-                    return (Answer::not_admitted(i, excess), [0; 16]);
+                    let k = match self.0 {
+                        SliceGreaterK => (from..=q).rev().min_by_key(|&k| over(k)),
+                        _ => (from..=q).min_by_key(|&k| over(k)),
+                    };
+                    let k = k.unwrap_or(q);
+                    let answer = Answer::not_admitted(i, over(k), slice(k));
+                    return (answer, [0; VERDICT_BYTES]);
                 }
             }
         }
-        (Answer::GOOD, ks)
+        let n = usize::from(plan.n);
+        let last = found[15 + n];
+        match self.0 {
+            SliceOfLast => found[16..16 + n].fill(last),
+            SliceBeyondN => found[16 + n..].fill(last),
+            _ => {}
+        }
+        (Answer::GOOD, found)
     }
 
     /// The smallest budget, found by halving.
@@ -478,7 +560,8 @@ impl Faulty {
                 OpenPlace => own.iter().position(|&one| one == i).unwrap_or(0),
                 _ => i,
             };
-            return (Answer::not_admitted(place, excess(plan, &held(at), i)), 0);
+            let (excess, slice) = excess(plan, &held(at), i);
+            return (Answer::not_admitted(place, excess, slice), 0);
         }
         while least - below > 1 {
             let half = (below + least) / 2;
@@ -615,7 +698,7 @@ impl Side for Faulty {
     fn write(&self, plan: &[u8], out: &mut [u8]) -> u64 {
         let word = self.on_plan(plan, |plan| {
             if self.is(WriteJudges) && number(Second.check(plan)) == 0 {
-                let word = Second.verdict(plan, &mut [0; 16]);
+                let word = Second.verdict(plan, &mut [0; VERDICT_BYTES]);
                 if number(word) != 0 {
                     return word;
                 }
@@ -640,17 +723,20 @@ impl Side for Faulty {
             if plan.len() < PLAN_IMAGE {
                 return refused(9);
             }
-            let (answer, ks) = self.judge(&plan_of(plan));
+            let (answer, found) = self.judge(&plan_of(plan));
             let judged = answer.is_good() || answer.number == 8;
-            if k.len() < 16 && (answer.is_good() || self.is(NineFirst) && judged) {
-                return refused(9);
+            if k.len() < VERDICT_BYTES && (answer.is_good() || self.is(NineFirst) && judged) {
+                return match self.0 {
+                    SliceStands => refused(9) | u64::from(found[16]) << 56,
+                    _ => refused(9),
+                };
             }
             if answer.is_good() {
-                k[..16].copy_from_slice(&ks);
+                k[..VERDICT_BYTES].copy_from_slice(&found);
             }
             word(answer, 0)
         });
-        self.after(word, k, 16)
+        self.after(word, k, VERDICT_BYTES)
     }
 
     fn smallest_budget(&self, plan: &[u8], project: u64) -> u64 {

@@ -7,10 +7,10 @@ use std::fmt;
 pub const PLAN_IMAGE: usize = 140;
 /// Bytes of a state image.
 pub const STATE_IMAGE: usize = 256;
-/// Bytes of k.
-pub const K_BYTES: usize = 16;
+/// Bytes of a verdict: the k of each kind, then the slice of each.
+pub const VERDICT_BYTES: usize = 32;
 
-/// The nine functions on bytes. The word: number in bits 0-7, place 8-15, count 16-31, excess 32-63.
+/// The nine functions on bytes. The word: number in bits 0-7, place 8-15, count 16-31, excess 32-55, slice 56-63.
 pub trait Side {
     /// Is the plan in order?
     fn check(&self, plan: &[u8]) -> u64;
@@ -20,7 +20,7 @@ pub trait Side {
     fn write(&self, plan: &[u8], out: &mut [u8]) -> u64;
     /// Writes the slot table.
     fn slot_table(&self, plan: &[u8], out: &mut [u8]) -> u64;
-    /// Gives the least k of each kind.
+    /// Gives the least k of each kind, and the slice of each.
     fn verdict(&self, plan: &[u8], k: &mut [u8]) -> u64;
     /// Gives the smallest budget of a project.
     fn smallest_budget(&self, plan: &[u8], project: u64) -> u64;
@@ -34,7 +34,8 @@ pub trait Side {
 
 /// The word that carries an answer and a count.
 pub fn word(answer: Answer, count: usize) -> u64 {
-    answer.number | answer.place << 8 | (count as u64) << 16 | answer.excess << 32
+    let count = (count as u64) << 16;
+    answer.number | answer.place << 8 | count | answer.excess << 32 | answer.slice << 56
 }
 
 /// The word of a refusal with place 0.
@@ -350,11 +351,12 @@ impl Case {
 pub fn outcome_in_words(own: &Outcome, other: &Outcome) -> String {
     let word = own.word;
     let mut line = format!(
-        "number {} place {} count {} excess {}",
+        "number {} place {} count {} excess {} slice {}",
         number(word),
         word >> 8 & 0xFF,
         word >> 16 & 0xFFFF,
-        word >> 32
+        word >> 32 & 0xFF_FFFF,
+        word >> 56
     );
     for (name, own, other) in [
         ("given", &own.given, &other.given),

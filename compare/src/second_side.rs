@@ -1,8 +1,8 @@
 //! The second program behind the same interface.
 
 use crate::interface::{
-    plan_image, plan_of, refused, state_image, state_of, word, Side, K_BYTES, PLAN_IMAGE,
-    STATE_IMAGE,
+    plan_image, plan_of, refused, state_image, state_of, word, Side, PLAN_IMAGE, STATE_IMAGE,
+    VERDICT_BYTES,
 };
 use second::State;
 
@@ -62,14 +62,14 @@ impl Side for Second {
         if plan.len() < PLAN_IMAGE {
             return refused(9);
         }
-        let (answer, found) = second::verdict(&plan_of(plan));
+        let (answer, ks, slices) = second::verdict(&plan_of(plan));
         if !answer.is_good() {
             return word(answer, 0);
         }
-        if k.len() < K_BYTES {
+        if k.len() < VERDICT_BYTES {
             return refused(9);
         }
-        k[..K_BYTES].copy_from_slice(&found);
+        k[..VERDICT_BYTES].copy_from_slice(&[ks, slices].concat());
         word(answer, 0)
     }
 

@@ -5,7 +5,7 @@
 //! supply, which no function on bytes gives; the second program's own tests have them.
 
 use crate::interface::{
-    plan_image, state_image, word, Case, Op, Outcome, K_BYTES, PLAN_IMAGE, STATE_IMAGE,
+    plan_image, state_image, word, Case, Op, Outcome, PLAN_IMAGE, STATE_IMAGE, VERDICT_BYTES,
 };
 use generate::{release_bytes, SLICE};
 use second::bytes::pack;
@@ -53,7 +53,12 @@ impl Table {
             number,
             place,
             excess,
+            slice: 0,
         };
+        self.answered(name, case, answer);
+    }
+
+    fn answered(&mut self, name: &'static str, case: Case, answer: Answer) {
         let expected = Outcome {
             word: word(answer, 0),
             given: case.given.clone(),
@@ -67,17 +72,19 @@ impl Table {
         });
     }
 
-    /// The verdict and the fresh start alike.
-    fn refused_by_8(&mut self, name: &'static str, plan: &Plan, place: u64, excess: u64) {
+    /// The verdict and the fresh start alike, at kind 0.
+    fn refused_by_8(&mut self, name: &'static str, plan: &Plan, excess: u64, slice: u64) {
         for op in [Op::Verdict, Op::Fresh] {
-            self.refused(name, on(plan, op, STATE_IMAGE), 8, place, excess);
+            let answer = Answer::not_admitted(0, excess, slice);
+            self.answered(name, on(plan, op, STATE_IMAGE), answer);
         }
     }
 
-    fn admitted(&mut self, name: &'static str, plan: &Plan, k: &[u8]) {
-        let mut ks = [0; K_BYTES];
-        ks[..k.len()].copy_from_slice(k);
-        self.good(name, on(plan, Op::Verdict, K_BYTES + 2), 0, &ks);
+    fn admitted(&mut self, name: &'static str, plan: &Plan, k: &[u8], slices: &[u8]) {
+        let mut verdict = [0; VERDICT_BYTES];
+        verdict[..k.len()].copy_from_slice(k);
+        verdict[16..16 + slices.len()].copy_from_slice(slices);
+        self.good(name, on(plan, Op::Verdict, VERDICT_BYTES + 2), 0, &verdict);
         let fresh = State {
             plan: *plan,
             ..State::default()
@@ -133,10 +140,10 @@ pub fn table() -> Vec<Named> {
     table.good("P1, written", on(&a, Op::Write, 25), 22, &PLAN_A);
     let slots = [1, 1, 1, 2, 2, 2, 2, 2];
     table.good("P2", on(&a, Op::SlotTable, 10), 8, &slots);
-    table.admitted("P5", &a, &[1, 1, 1]);
+    table.admitted("P5", &a, &[1, 1, 1], &[0, 0, 0]);
     let mut longer = a;
     longer.kinds[0].length = 7;
-    table.refused_by_8("P6", &longer, 0, 1);
+    table.refused_by_8("P6", &longer, 1, 0);
     let mut earlier = a;
     for length in [2, 3] {
         earlier.kinds[0] = Kind {
@@ -146,13 +153,13 @@ pub fn table() -> Vec<Named> {
             length,
         };
         match length {
-            2 => table.admitted("P7 with C 2", &earlier, &[1, 1, 1]),
-            _ => table.refused_by_8("P7 with C 3", &earlier, 0, 1),
+            2 => table.admitted("P7 with C 2", &earlier, &[1, 1, 1], &[1, 0, 0]),
+            _ => table.refused_by_8("P7 with C 3", &earlier, 1, 1),
         }
     }
-    table.admitted("P8", &b, &[2, 1, 1]);
+    table.admitted("P8", &b, &[2, 1, 1], &[0, 0, 0]);
     let opening = Plan::of(2, 1, &[(2, 2)], &[(0, 3, 3, 2), (0, 6, 6, 4), (0, 6, 6, 3)]);
-    table.refused_by_8("P9", &opening, 0, 4);
+    table.refused_by_8("P9", &opening, 4, 0);
     let mut wider = a;
     wider.projects[1].budget = 6;
     table.out_of_order("P10", &wider, 7, 0);
@@ -167,7 +174,7 @@ pub fn table() -> Vec<Named> {
         table.good("(i)", open(plan, project), budget, &[]);
     }
     table.refused("(i), no such project", open(&a, 2), 27, 0, 0);
-    table.refused_by_8("(i), a guess too small", &smaller, 0, 2);
+    table.refused_by_8("(i), a guess too small", &smaller, 2, 0);
     table.good("(i), a guess too small", open(&smaller, 0), 7, &[]);
     table.refused("(i), none serves", open(&opening, 0), 8, 0, 4);
 
@@ -208,7 +215,7 @@ pub fn table() -> Vec<Named> {
     table.refused(short, reading(&PLAN_A, PLAN_IMAGE - 1), 9, 0, 0);
     table.refused(short, on(&a, Op::Write, 21), 9, 0, 0);
     table.refused(short, on(&a, Op::SlotTable, 7), 9, 0, 0);
-    table.refused(short, on(&a, Op::Verdict, K_BYTES - 1), 9, 0, 0);
+    table.refused(short, on(&a, Op::Verdict, VERDICT_BYTES - 1), 9, 0, 0);
     table.refused(short, on(&a, Op::Fresh, STATE_IMAGE - 1), 9, 0, 0);
     table.refused(short, slicing(&state, 1), 9, 0, 0);
     for op in [Op::Check, Op::Write, Op::SlotTable, Op::Verdict, Op::Fresh] {

@@ -103,7 +103,7 @@ impl Generator {
             let (i, excess) = match surely_refused(plan) {
                 Some(found) => found,
                 None => {
-                    let (answer, _) = verdict(plan);
+                    let (answer, ..) = verdict(plan);
                     if answer.is_good() {
                         return true;
                     }

@@ -11,11 +11,11 @@ fn refused(number: u64, place: u64) -> Answer {
     Answer {
         number,
         place,
-        excess: 0,
+        ..Answer::GOOD
     }
 }
 
-/// "place" of the table: only 4, 5, 6 and 8 have one; "Excess is 0 except with 8."
+/// "place" of the table: only 4, 5, 6 and 8 have one; "Excess is 0 except with 8", and so is its slice.
 fn well_made(answer: Answer, plan: &Plan) {
     match answer.number {
         4 => assert!(answer.place < u64::from(plan.p)),
@@ -23,6 +23,7 @@ fn well_made(answer: Answer, plan: &Plan) {
         _ => assert_eq!(answer.place, 0),
     }
     assert_eq!(answer.excess > 0, answer.number == 8);
+    assert!(answer.slice == 0 || answer.number == 8 && answer.slice < u64::from(plan.frame));
 }
 
 #[test]
@@ -33,7 +34,7 @@ fn any_plan_record_is_answered() {
         let answer = check(&plan);
         well_made(answer, &plan);
 
-        let (told, k) = verdict(&plan);
+        let (told, k, slices) = verdict(&plan);
         well_made(told, &plan);
         if !answer.is_good() {
             assert_eq!(told, answer);
@@ -41,6 +42,7 @@ fn any_plan_record_is_answered() {
         for (i, k) in k.into_iter().enumerate() {
             let has_k = told.is_good() && i < usize::from(plan.n);
             assert_eq!(k > 0, has_k);
+            assert!(slices[i] == 0 || has_k && slices[i] < plan.frame);
             if has_k {
                 assert!(k <= plan.projects[usize::from(plan.kinds[i].project)].ceiling);
             }

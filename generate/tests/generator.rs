@@ -248,7 +248,7 @@ fn admitted_plans_are_admitted_and_of_every_shape() {
     let mut found: BTreeSet<(&str, u64)> = BTreeSet::new();
     for _ in 0..RUNS {
         let plan = generator.admitted_plan();
-        let (answer, k) = verdict(&plan);
+        let (answer, k, _) = verdict(&plan);
         assert_eq!(answer, Answer::GOOD);
         let mut exact = false;
         for (i, &k) in k[..usize::from(plan.n)].iter().enumerate() {

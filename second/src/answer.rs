@@ -9,6 +9,8 @@ pub struct Answer {
     pub place: u64,
     /// "the slices by which its unit is too long".
     pub excess: u64,
+    /// "which slice is the bad one to arrive in", for the k that the excess names.
+    pub slice: u64,
 }
 
 impl Answer {
@@ -17,14 +19,14 @@ impl Answer {
         number: 0,
         place: 0,
         excess: 0,
+        slice: 0,
     };
 
     /// A row of the table whose place is 0.
     pub fn refused(number: u64) -> Answer {
         Answer {
             number,
-            place: 0,
-            excess: 0,
+            ..Answer::GOOD
         }
     }
 
@@ -33,16 +35,17 @@ impl Answer {
         Answer {
             number,
             place: place as u64,
-            excess: 0,
+            ..Answer::GOOD
         }
     }
 
-    /// 8, "first kind with no k, with its excess".
-    pub fn not_admitted(place: usize, excess: u64) -> Answer {
+    /// 8, "first kind with no k, with its excess"; "every verdict and excess should pass that slice on".
+    pub fn not_admitted(place: usize, excess: u64, slice: u64) -> Answer {
         Answer {
             number: 8,
             place: place as u64,
             excess,
+            slice,
         }
     }
 

@@ -59,7 +59,7 @@ pub fn in_form(state: &State) -> bool {
 
 /// "Starting fresh and the verdict add 8"; "a refused fresh start gives an all-zero state".
 pub fn fresh(plan: &Plan) -> (Answer, State) {
-    let (answer, _) = verdict(plan);
+    let (answer, _, _) = verdict(plan);
     if !answer.is_good() {
         return (answer, State::default());
     }

@@ -50,7 +50,8 @@ fn smallest_or_refuse(plan: &Plan, project: u64) -> Result<u64, Answer> {
     // "then 8 exactly when no B up to qF serves (place and excess at qF)".
     let place = first_with_no_k(plan, open, most).unwrap_or(0);
     let held = held_with(plan, open, most);
-    Err(Answer::not_admitted(place, excess(plan, &held, place)))
+    let (excess, slice) = excess(plan, &held, place);
+    Err(Answer::not_admitted(place, excess, slice))
 }
 
 /// The plan with this budget for the open project.

@@ -1,15 +1,16 @@
-//! "Supply": S(k,t) by its definition, term by term.
+//! "Supply": S(k,t) by its definition, term by term, and the bad slice to arrive in.
 
 use crate::layout::h;
 use crate::plan::Plan;
 
 /// S(k,t) of a project of the plan.
 pub fn supply(plan: &Plan, project: usize, k: u64, t: u64) -> u64 {
-    supply_of(&h(plan, project), k, t)
+    supply_and_slice(&h(plan, project), k, t).0
 }
 
-/// S(k,t) of the cards held in one frame, "the least, over the F starting slices a, of the sum over x = 0..t-1 of min(k, h(a+x))".
-pub fn supply_of(one_frame: &[u64], k: u64, t: u64) -> u64 {
+/// S(k,t) of the cards held in one frame, "the least, over the F starting slices a, of the sum over x = 0..t-1 of min(k, h(a+x))",
+/// "with the earliest starting slice that attains it".
+pub fn supply_and_slice(one_frame: &[u64], k: u64, t: u64) -> (u64, u64) {
     let frame = one_frame.len();
     let t = t as usize;
     // "h(s) [...] at slice s, taken modulo F", for each s that some a + x can be.
@@ -25,9 +26,9 @@ pub fn supply_of(one_frame: &[u64], k: u64, t: u64) -> u64 {
             sum += k.min(from_a[x]);
         }
         least = match least {
-            Some(before) if before <= sum => Some(before),
-            _ => Some(sum),
+            Some((before, earlier)) if before <= sum => Some((before, earlier)),
+            _ => Some((sum, a as u64)),
         };
     }
-    least.unwrap_or(0)
+    least.unwrap_or((0, 0))
 }

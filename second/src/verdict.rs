@@ -3,7 +3,7 @@
 use crate::answer::Answer;
 use crate::layout::h;
 use crate::plan::{check, Plan};
-use crate::supply::supply_of;
+use crate::supply::supply_and_slice;
 
 /// W, "the sum over every other kind j of the same project of floor(Di/Tj)Cj + min(Cj, Di mod Tj)".
 pub fn workload(plan: &Plan, i: usize) -> u64 {
@@ -26,17 +26,19 @@ pub fn workload(plan: &Plan, i: usize) -> u64 {
 
 /// The two sides of "Kind i fits at k when kCi + W <= S(k,Di)", with S on the plan's layout: what it asks for and what is there.
 pub fn asked_and_supplied(plan: &Plan, i: usize, k: u64) -> (u64, u64) {
-    asked_and_supplied_on(plan, &held_by_its_project(plan, i), i, k)
+    let held = held_by_its_project(plan, i);
+    let (asked, supplied, _) = asked_and_supplied_on(plan, &held, i, k);
+    (asked, supplied)
 }
 
-/// The same with S on these cards held.
-fn asked_and_supplied_on(plan: &Plan, held: &[u64], i: usize, k: u64) -> (u64, u64) {
+/// The same with S on these cards held, and the slice that comes with S.
+fn asked_and_supplied_on(plan: &Plan, held: &[u64], i: usize, k: u64) -> (u64, u64, u64) {
     let Some(kind) = plan.used_kinds().get(i) else {
-        return (0, 0);
+        return (0, 0, 0);
     };
     let asked = k * u64::from(kind.length) + workload(plan, i);
-    let supplied = supply_of(held, k, u64::from(kind.deadline));
-    (asked, supplied)
+    let (supplied, slice) = supply_and_slice(held, k, u64::from(kind.deadline));
+    (asked, supplied, slice)
 }
 
 /// "Let h(s) be the cards a project holds at slice s", of the kind's project.
@@ -58,45 +60,53 @@ pub fn ceiling_of(plan: &Plan, i: usize) -> u64 {
     }
 }
 
-/// "The verdict gives for each kind the least such k", here on these cards held.
-pub fn least_k(plan: &Plan, held: &[u64], i: usize) -> Option<u64> {
+/// "The verdict gives for each kind the least such k", here on these cards held, with the slice "for the k it names".
+pub fn least_k(plan: &Plan, held: &[u64], i: usize) -> Option<(u64, u64)> {
     for k in 1..=ceiling_of(plan, i) {
-        let (asked, supplied) = asked_and_supplied_on(plan, held, i, k);
+        let (asked, supplied, slice) = asked_and_supplied_on(plan, held, i, k);
         if asked <= supplied {
-            return Some(k);
+            return Some((k, slice));
         }
     }
     None
 }
 
-/// "its *excess* is the least, over k, of kCi + W - S(k,Di)" (of a kind that fits at no k), here on these cards held.
-pub fn excess(plan: &Plan, held: &[u64], i: usize) -> u64 {
+/// "its *excess* is the least, over k, of kCi + W - S(k,Di)" (of a kind that fits at no k), here on these cards held, with the
+/// slice "for the k it names (the least k on equal excess)".
+pub fn excess(plan: &Plan, held: &[u64], i: usize) -> (u64, u64) {
     let mut least = None;
     for k in 1..=ceiling_of(plan, i) {
-        let (asked, supplied) = asked_and_supplied_on(plan, held, i, k);
+        let (asked, supplied, slice) = asked_and_supplied_on(plan, held, i, k);
         let over = asked.saturating_sub(supplied);
         least = match least {
-            Some(before) if before <= over => Some(before),
-            _ => Some(over),
+            Some((before, of_lesser_k)) if before <= over => Some((before, of_lesser_k)),
+            _ => Some((over, slice)),
         };
     }
-    least.unwrap_or(0)
+    least.unwrap_or((0, 0))
 }
 
-/// "Starting fresh and the verdict add 8"; "A refused verdict gives k 0 for every kind."
-pub fn verdict(plan: &Plan) -> (Answer, [u8; 16]) {
+/// "Starting fresh and the verdict add 8"; "A refused verdict gives k 0 for every kind", and the slice is 0 "beside a k of 0".
+pub fn verdict(plan: &Plan) -> (Answer, [u8; 16], [u8; 16]) {
     let answer = check(plan);
     if !answer.is_good() {
-        return (answer, [0; 16]);
+        return (answer, [0; 16], [0; 16]);
     }
-    let mut k = [0; 16];
+    let mut ks = [0; 16];
+    let mut slices = [0; 16];
     for i in 0..usize::from(plan.n) {
         let held = held_by_its_project(plan, i);
         match least_k(plan, &held, i) {
-            Some(least) => k[i] = least as u8,
-            // 8: "first kind with no k, with its excess".
-            None => return (Answer::not_admitted(i, excess(plan, &held, i)), [0; 16]),
+            Some((k, slice)) => {
+                ks[i] = k as u8;
+                slices[i] = slice as u8;
+            }
+            None => {
+                // 8: "first kind with no k, with its excess".
+                let (excess, slice) = excess(plan, &held, i);
+                return (Answer::not_admitted(i, excess, slice), [0; 16], [0; 16]);
+            }
         }
     }
-    (Answer::GOOD, k)
+    (Answer::GOOD, ks, slices)
 }

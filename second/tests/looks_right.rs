@@ -5,12 +5,10 @@ use second::supply::supply;
 use second::verdict::{asked_and_supplied, workload};
 use second::*;
 
-/// "8: not admitted", at kind 0, with excess 1.
-const SHORT_BY_ONE: Answer = Answer {
-    number: 8,
-    place: 0,
-    excess: 1,
-};
+/// "8: not admitted", at kind 0, with excess 1, worst for a unit that arrives in this slice.
+fn short_by_one(slice: u64) -> Answer {
+    Answer::not_admitted(0, 1, slice)
+}
 
 /// A hand-made start: "the record order, 10, 9, 11" has no 8, so a refused plan runs all the same.
 fn started(plan: &Plan, clock: u32) -> State {
@@ -44,7 +42,7 @@ fn supply_is_not_taken_from_the_frames_start_only() {
     let plan = Plan::of(1, 4, &[(1, 3)], &[(0, 4, 1, 1)]);
     assert_eq!(h(&plan, 0), [1, 1, 1, 0]);
     assert_eq!(supply(&plan, 0, 1, 1), 0);
-    assert_eq!(verdict(&plan).0, SHORT_BY_ONE);
+    assert_eq!(verdict(&plan).0, short_by_one(3));
     // The refusal is right: released at clock 3, the unit is not finished at clock 4.
     let late = sliced(released(started(&plan, 3), 0, 1), 1);
     assert_eq!((late.clock, late.kinds[0].left), (4, 1));
@@ -57,7 +55,7 @@ fn supply_is_not_the_budgets_share_of_t() {
     let (b, t, frame) = (2, 2, 4);
     assert_eq!(b * t / frame, 1);
     assert_eq!(supply(&plan, 0, 1, t), 0);
-    assert_eq!(verdict(&plan).0, SHORT_BY_ONE);
+    assert_eq!(verdict(&plan).0, short_by_one(2));
     let late = sliced(released(started(&plan, 2), 0, 1), 2);
     assert_eq!((late.clock, late.kinds[0].left), (4, 1));
 }
@@ -81,7 +79,7 @@ fn the_cut_off_unit_is_in_w() {
     // floor(3/4)*2 is 0, and the cut-off unit adds min(2, 3) = 2.
     let plan = Plan::of(1, 1, &[(1, 1)], &[(0, 10, 3, 2), (0, 4, 2, 2)]);
     assert_eq!(workload(&plan, 0), 2);
-    assert_eq!(verdict(&plan).0, SHORT_BY_ONE);
+    assert_eq!(verdict(&plan).0, short_by_one(0));
     // Without it both kinds would fit (2 <= 3 and 2 <= 2); released together, kind 0 is late.
     let both = released(released(started(&plan, 0), 0, 2), 1, 2);
     let late = sliced(both, 3);

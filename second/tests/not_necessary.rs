@@ -22,12 +22,7 @@ fn outlook(state: &State) -> Vec<(u16, u32)> {
 #[test]
 fn a_refused_plan_that_no_order_of_releases_makes_late() {
     let plan = Plan::of(1, 1, &[(1, 1)], &[(0, 2, 1, 1), (0, 2, 2, 1)]);
-    let refused = Answer {
-        number: 8,
-        place: 0,
-        excess: 1,
-    };
-    assert_eq!(verdict(&plan).0, refused);
+    assert_eq!(verdict(&plan).0, Answer::not_admitted(0, 1, 0));
 
     let start = State {
         plan,

@@ -7,7 +7,7 @@ fn refused(number: u64, place: u64) -> Answer {
     Answer {
         number,
         place,
-        excess: 0,
+        ..Answer::GOOD
     }
 }
 
@@ -48,7 +48,7 @@ fn the_record_order() {
                 ..State::default()
             };
             assert_eq!(check(&plan), answer);
-            assert_eq!(verdict(&plan), (answer, [0; 16]));
+            assert_eq!(verdict(&plan), (answer, [0; 16], [0; 16]));
             assert_eq!(fresh(&plan), (answer, State::default()));
             assert_eq!(write(&plan, &mut []), (answer, 0));
             assert_eq!(slot_table(&plan, &mut []), (answer, 0));

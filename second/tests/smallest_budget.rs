@@ -1,14 +1,16 @@
 //! "Tell me the smallest budget", document 02's request (i).
 
 use second::layout::h_of_cells;
-use second::supply::supply_of;
+use second::supply::supply_and_slice;
 use second::*;
 
 fn refused(number: u64, place: u64, excess: u64) -> (Answer, u64) {
+    // "at qF, h is constant", so the slice is 0.
     let answer = Answer {
         number,
         place,
         excess,
+        slice: 0,
     };
     (answer, 0)
 }
@@ -144,6 +146,7 @@ fn four_skips_that_one_budget_and_no_ceiling() {
 fn moving_the_first_cell_never_alters_the_supply_and_more_cells_never_lower_it() {
     for frame in 1..=5u8 {
         for budget in 0..=11 {
+            let supply_of = |held: &[u64], k, t| supply_and_slice(held, k, t).0;
             let at_0 = h_of_cells(frame, 0, budget);
             let more = h_of_cells(frame, 0, budget + 1);
             for k in 1..=3 {

@@ -1,4 +1,4 @@
-//! P1 to P11 of document 01, and its line "Run and compared".
+//! P1 to P11 of document 01, with the slices of document 02's request (ii), and its line "Run and compared".
 
 use second::supply::supply;
 use second::*;
@@ -13,6 +13,7 @@ fn refused(number: u64, place: u64, excess: u64) -> Answer {
         number,
         place,
         excess,
+        slice: 0,
     }
 }
 
@@ -54,14 +55,16 @@ fn p4_supply_of_project_1() {
 
 #[test]
 fn p5_plan_a_is_admitted() {
-    assert_eq!(verdict(&Plan::a()), (Answer::GOOD, ks(&[1, 1, 1])));
+    let admitted = (Answer::GOOD, ks(&[1, 1, 1]), [0; 16]);
+    assert_eq!(verdict(&Plan::a()), admitted);
 }
 
 #[test]
 fn p6_one_slice_too_long() {
     let mut plan = Plan::a();
     plan.kinds[0].length = 7;
-    assert_eq!(verdict(&plan), (refused(8, 0, 1), ks(&[])));
+    // From each slice two frames hold 6.
+    assert_eq!(verdict(&plan), (refused(8, 0, 1), [0; 16], [0; 16]));
     assert_eq!(fresh(&plan), (refused(8, 0, 1), State::default()));
 }
 
@@ -74,20 +77,25 @@ fn p7_a_deadline_below_the_separation() {
         deadline: 3,
         length: 2,
     };
-    assert_eq!(verdict(&plan), (Answer::GOOD, ks(&[1, 1, 1])));
+    // From slice 0 three slices hold 3, from slice 1 they hold 2.
+    let admitted = (Answer::GOOD, ks(&[1, 1, 1]), ks(&[1]));
+    assert_eq!(verdict(&plan), admitted);
     plan.kinds[0].length = 3;
-    assert_eq!(verdict(&plan), (refused(8, 0, 1), ks(&[])));
+    let answer = Answer::not_admitted(0, 1, 1);
+    assert_eq!(verdict(&plan), (answer, [0; 16], [0; 16]));
+    assert_eq!(fresh(&plan), (answer, State::default()));
 }
 
 #[test]
 fn p8_plan_b_is_admitted() {
-    assert_eq!(verdict(&Plan::b()), (Answer::GOOD, ks(&[2, 1, 1])));
+    let admitted = (Answer::GOOD, ks(&[2, 1, 1]), [0; 16]);
+    assert_eq!(verdict(&Plan::b()), admitted);
 }
 
 #[test]
 fn p9_the_opening_example_of_000() {
     let plan = Plan::of(2, 1, &[(2, 2)], &[(0, 3, 3, 2), (0, 6, 6, 4), (0, 6, 6, 3)]);
-    assert_eq!(verdict(&plan), (refused(8, 0, 4), ks(&[])));
+    assert_eq!(verdict(&plan), (refused(8, 0, 4), [0; 16], [0; 16]));
 }
 
 #[test]

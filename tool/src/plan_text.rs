@@ -300,10 +300,11 @@ fn not_admitted(plan: &Plan, answer: Answer) -> String {
     let kind = &plan.kind[usize::from(answer.place)];
     let advice = advice(plan, usize::from(kind.project));
     format!(
-        "the plan is not admitted ({}): kind {} is too long by {}{}",
+        "the plan is not admitted ({}): kind {} is too long by {} when it arrives in slice {} of the frame{}",
         told(answer),
         answer.place,
         answer.excess,
+        answer.slice,
         advice.map_or(String::new(), |advice| format!("; {advice}"))
     )
 }
@@ -391,7 +392,10 @@ fn decode(input: &[u8]) -> Turned {
             text += &format!(" {name} {number}");
         }
         text += &match verdict {
-            Ok(k) => format!("  # kind {place}, k {}\n", k[place]),
+            Ok(verdict) => format!(
+                "  # kind {place}, k {}, worst in slice {}\n",
+                verdict.k[place], verdict.slice[place]
+            ),
             Err(_) => format!("  # kind {place}\n"),
         };
     }

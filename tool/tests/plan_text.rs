@@ -67,7 +67,9 @@ fn plan_a_is_written_and_read_back() {
     assert_eq!(encoded(PLAN_A), pack(&Plan::a()));
     let text = decoded(&pack(&Plan::a()));
     assert!(text.starts_with("cards 2\nframe 4\nproject ceiling 1 budget 3  # project 0\n"));
-    assert!(text.contains("\nkind project 0 separation 8 deadline 8 length 6  # kind 0, k 1\n"));
+    assert!(text.contains(
+        "\nkind project 0 separation 8 deadline 8 length 6  # kind 0, k 1, worst in slice 0\n"
+    ));
     assert!(text.ends_with("\n# admitted\n"));
     assert_eq!(encoded(&text), pack(&Plan::a()));
 }
@@ -198,7 +200,8 @@ fn a_plan_that_is_not_admitted_has_bytes_and_a_note() {
     assert_eq!(ran.status, Some(0));
     assert_eq!(
         ran.said,
-        "plan-text: line 5: the plan is not admitted (refused 8 at 0): kind 0 is too long by 1; \
+        "plan-text: line 5: the plan is not admitted (refused 8 at 0): \
+         kind 0 is too long by 1 when it arrives in slice 0 of the frame; \
          the smallest budget that serves project 0 is more than the others leave; \
          the bytes are written all the same\n"
     );
@@ -207,9 +210,20 @@ fn a_plan_that_is_not_admitted_has_bytes_and_a_note() {
     assert_eq!(ran.output, pack(&longer));
     let text = decoded(&ran.output);
     assert!(text.ends_with(
-        "\n# the plan is not admitted (refused 8 at 0): kind 0 is too long by 1; \
+        "\n# the plan is not admitted (refused 8 at 0): \
+         kind 0 is too long by 1 when it arrives in slice 0 of the frame; \
          the smallest budget that serves project 0 is more than the others leave\n"
     ));
+
+    // The slice is that of the verdict: three slices from slice 1 on hold 2.
+    for (length, said) in [
+        (2, "kind 0, k 1, worst in slice 1"),
+        (3, "too long by 1 when it arrives in slice 1 of the frame"),
+    ] {
+        let mut due = Plan::a();
+        (due.kinds[0].deadline, due.kinds[0].length) = (3, length);
+        assert!(decoded(&pack(&due)).contains(said), "{length}");
+    }
 
     // With room in the rack the budget that would do is told, and where none would, that.
     for (old, new, said) in [

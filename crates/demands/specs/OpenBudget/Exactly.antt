@@ -19,9 +19,11 @@ use Rattle.answer.specs.Answer.Properties.{refuse-good}
 use Rattle.answer.specs.Numbers.{among, Numbered}
 use Rattle.answer.specs.Numbers.Properties.{andThen-numbered}
 use Rattle.plan.specs.declared.Plan.{Plan}
-use Rattle.plan.specs.Order.{kindOf, budgets, tidyProject, tidyKind, tidyProjects, tidyKinds, Sized, sizes, unused, kindsInRange}
+use Rattle.plan.specs.Order.{projectOf, kindOf, budgets, tidyProject, tidyKind, tidyProjects, tidyKinds, Sized, sizes, unused, kindsInRange}
 use Rattle.plan.specs.Order.Properties.{sizes-says, sizes-of}
 use Rattle.plan.specs.Open.{withBudget, projectThere, projectsInRangeOpen, rangesOpen, checkedOpen, InOrderOpen}
+use Rattle.layout.specs.Layout.{firstCell}
+use Rattle.supply.specs.Supply.{window, supply}
 use Rattle.smallest_budget.specs.Flat.{supply-flat}
 use Rattle.smallest_budget.specs.Smallest.Properties.{slice-at-most}
 use Rattle.smallest_budget.specs.Smallest.{heldWith, excessWith, sliceWith, mostBudget, leastBudget, smallestAnswer, smallestOf}

@@ -56,12 +56,12 @@ output = ascii "plan ok\nr 0 6 ok\nr 1 2 ok\nr 2 2 ok\nt 0: 1 2\nt 1: 1 2\nt 2: 
 
 pub example : played input ≡ output
 unfolding sumTo leastTo firstTo countTo allTo written rankIn firstIn sooner eachTo within sized emptyProject emptyKind tidyProjects
-    tidyKinds inRange timed budgets sizes unused projectsInRange kindInRange kindsInRange budgetsFit ranges checked unpack numberTo size
-    partsTo headerFields projectFields kindFields projectFrom kindFrom projectsFrom kindsFrom headed decoded headerSpare projectSpare
-    kindSpare projectsSpare kindsSpare placesSpare spareZero bodyAnswer readAnswer readOf cellAt heldFrom firstCell owns slotOf held window
-    supply workloadPart fitsAt leastWidth greatestTo allowedLength leastExcess besides partOf workload widthOf excessOf fitted admitted untouched underway
-    unitInForm emptyUnit early startable inForm ready gone due working active outranks hasCard cardsHeld rankOf chosen takesCard byteOn
-    viewOf rank served byteBy rowByte startAnswer startOf releaseAnswer released releaseOf unitAfter advanced timeLeft roomFor sliceAnswer
-    sliceOf commandFields fieldsSay commandOf decimalIn decimal planLine outcome releaseLine rowText sliceLine endLine lineOf after turns
-    opening played
+    tidyKinds inRange timed budgets sizes unused projectsInRange kindInRange kindsInRange budgetsFit ranges checked unpack numberTo
+    size partsTo headerFields projectFields kindFields projectFrom kindFrom projectsFrom kindsFrom headed decoded headerSpare
+    projectSpare kindSpare projectsSpare kindsSpare placesSpare spareZero bodyAnswer readAnswer readOf cellAt heldFrom firstCell
+    owns slotOf held window supply workloadPart fitsAt leastWidth greatestTo allowedLength leastExcess besides partOf workload
+    widthOf excessOf fitted admitted untouched underway unitInForm emptyUnit early startable inForm ready gone due working active
+    outranks hasCard cardsHeld rankOf chosen takesCard byteOn viewOf rank served byteBy rowByte startAnswer startOf releaseAnswer
+    released releaseOf unitAfter advanced timeLeft roomFor sliceAnswer sliceOf commandFields fieldsSay commandOf decimalIn decimal
+    planLine outcome releaseLine rowText sliceLine endLine lineOf after turns opening played
 example = refl

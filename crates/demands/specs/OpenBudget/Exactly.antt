@@ -110,7 +110,8 @@ eight-says p j i x =
     told p j (λ a. Eight a i x → (InOrderOpen p j) × (NotServed p j i x)) (λ r e t. absurd (order-not p j r 8 refl e (t .0))) here
     (λ o y l t. absurd (omega (arith, t .0))) (λ o y l t. absurd (omega (arith, t .0)))
   where
-    here : (h : ℕ) → InOrderOpen p j → Lacking p j h → Eight (notAdmitted h (excessWith p j (mostBudget p j) h) (sliceWith p j (mostBudget p j) h)) i x →
+    here : (h : ℕ) → InOrderOpen p j → Lacking p j h →
+        Eight (notAdmitted h (excessWith p j (mostBudget p j) h) (sliceWith p j (mostBudget p j) h)) i x →
         (InOrderOpen p j) × (NotServed p j i x)
     here h o y t =
         let a : h ≡ i = t .1 in

@@ -27,8 +27,8 @@ use Rattle.supply.specs.Fit.Properties.{width-most, width-fits, width-some, exc
 use Rattle.workload.specs.Workload.{workload}
 use Rattle.verdict.specs.Verdict.{ceilingOn}
 use Rattle.verdict.specs.Admission.Properties.{each-no}
-use Rattle.smallest_budget.specs.Smallest.{its, heldWith, widthWith, excessWith, sliceWith, lacks, serves, mostBudget, leastBudget, fittedWith}
-use Rattle.smallest_budget.specs.Smallest.{servedWith, servedAtMost, sumFits, smallestAnswer, smallestOf}
+use Rattle.smallest_budget.specs.Smallest.{its, heldWith, widthWith, excessWith, sliceWith, lacks, serves, mostBudget, leastBudget}
+use Rattle.smallest_budget.specs.Smallest.{fittedWith, servedWith, servedAtMost, sumFits, smallestAnswer, smallestOf}
 use Rattle.smallest_budget.specs.Smallest.Properties.{served-serves, least-most}
 use Rattle.smallest_budget.specs.Steps.Properties.{most-some}
 use Rattle.demands.specs.Numbers.{openOrder, check-open-numbers}
@@ -90,8 +90,8 @@ module _ (p : Plan) (j b i : ℕ) where
     excess-longest : (c k : ℕ) → c ≤ kindOf p i .length → AllowsWith p j b i c k → c + excessWith p j b i ≤ kindOf p i .length
     unfolding excessWith
     excess-longest c k l a =
-        excess-greatest (p .frame) (heldWith p j b) (kindOf p i .length) (workload p i) (kindOf p i .deadline) (projectOf p j .ceiling) c k l
-        (a .width .some) (omega (arith, ceiling-own own, a .width .most)) (a .room)
+        excess-greatest (p .frame) (heldWith p j b) (kindOf p i .length) (workload p i) (kindOf p i .deadline) (projectOf p j .ceiling) c k
+        l (a .width .some) (omega (arith, ceiling-own own, a .width .most)) (a .room)
 
   pub lacks-not : lacks p j b i ≡ false → kindOf p i .project ≡ j → 0 < widthWith p j b i
   lacks-not e own = let z = eqb-false (widthWith p j b i) 0 (rw (eq-eqb (kindOf p i .project) j own) at e) in omega arith
@@ -204,7 +204,8 @@ module _ (p : Plan) (j : ℕ) where
   sum = budgets (withBudget p j (leastBudget p j))
 
   module _ (P : Answer → Type 0) (order : (r : Refusal) → checkedOpen p j ≡ No r → P (No r))
-      (eight : (i : ℕ) → InOrderOpen p j → Lacking i → P (notAdmitted i (excessWith p j (mostBudget p j) i) (sliceWith p j (mostBudget p j) i)))
+      (eight : (i : ℕ) → InOrderOpen p j → Lacking i →
+      P (notAdmitted i (excessWith p j (mostBudget p j) i) (sliceWith p j (mostBudget p j) i)))
       (seven : InOrderOpen p j → Least p j (leastBudget p j) → p .cards * p .frame < sum → P (bare 7))
       (good : InOrderOpen p j → Least p j (leastBudget p j) → sum ≤ p .cards * p .frame → P Good)
     where

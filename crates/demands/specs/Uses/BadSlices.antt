@@ -77,10 +77,10 @@ pub record Figures : Type 0 where
   pub full-given : given full 0 1 ≡ 2
 
 pub figures : Figures
-unfolding sumTo leastTo leastPlace firstTo countTo allTo written eachTo within sized emptyProject emptyKind tidyProjects tidyKinds inRange
-    timed budgets sizes unused projectsInRange kindInRange kindsInRange budgetsFit ranges checked cellAt firstCell owns slotOf held
-    window supply badSlice workloadPart fitsAt leastWidth greatestTo allowedLength leastExcess namedWidth namedSlice besides partOf workload
-    widthOf excessOf badSliceOf fitted admitted judged
+unfolding sumTo leastTo leastPlace firstTo countTo allTo written eachTo within sized emptyProject emptyKind tidyProjects tidyKinds
+    inRange timed budgets sizes unused projectsInRange kindInRange kindsInRange budgetsFit ranges checked cellAt firstCell owns
+    slotOf held window supply badSlice workloadPart fitsAt leastWidth greatestTo allowedLength leastExcess namedWidth namedSlice
+    besides partOf workload widthOf excessOf badSliceOf fitted admitted judged
 figures = record {
   order = refl;
   good = refl;

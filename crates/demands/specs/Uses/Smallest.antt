@@ -100,10 +100,11 @@ record Figures : Type 0 where
   seven : number (smallestOf (beside 6) 0 .answer) ≡ 7
 
 figures : Figures
-unfolding sumTo leastTo firstTo countTo allTo written eachTo within sized emptyProject emptyKind tidyProjects tidyKinds inRange timed
-    budgets sizes unused projectsInRange kindInRange kindsInRange budgetsFit ranges checked projectThere inRangeOpen projectsInRangeOpen
-    rangesOpen checkedOpen cellAt heldFrom firstCell owns held window supply workloadPart fitsAt leastWidth greatestTo allowedLength leastExcess
-    besides partOf workload widthWith excessWith serves leastBudget servedWith smallestAnswer smallestOf among
+unfolding sumTo leastTo firstTo countTo allTo written eachTo within sized emptyProject emptyKind tidyProjects tidyKinds inRange
+    timed budgets sizes unused projectsInRange kindInRange kindsInRange budgetsFit ranges checked projectThere inRangeOpen
+    projectsInRangeOpen rangesOpen checkedOpen cellAt heldFrom firstCell owns held window supply workloadPart fitsAt leastWidth
+    greatestTo allowedLength leastExcess besides partOf workload widthWith excessWith serves leastBudget servedWith smallestAnswer
+    smallestOf among
 figures = record {
   from-none = refl;
   asked-none = λ B. refl;

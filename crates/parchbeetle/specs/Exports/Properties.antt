@@ -189,8 +189,8 @@ judge-short plan k f v x r e g h n b l t =
     refused-outcome (verdictAnswer plan k) x _ _ _ k r b t (judge-room plan k f v x e g h n (short-room k 32 x b l))
 
 pub judge-good : (plan k after : List ℕ) (f : PlanFound) (v : Verdict) (r : ℕ) → f ≡ planFound plan → f .answer ≡ Good →
-    v ≡ judged (f .plan) → v .answer ≡ Good → 32 ≤ length k → after ≡ written 32 (verdictByte (v .width) (v .slice)) k → r ≡ told (v .answer) 0 →
-    Judges plan k r after
+    v ≡ judged (f .plan) → v .answer ≡ Good → 32 ≤ length k → after ≡ written 32 (verdictByte (v .width) (v .slice)) k →
+    r ≡ told (v .answer) 0 → Judges plan k r after
 judge-good plan k after f v r e g h n l m t =
     good-outcome (verdictAnswer plan k) 0 _ k r after (judge-room plan k f v Good e g h n (long-room k 32 l))
     (t ∙ ap (λ (x : Answer). told x 0) n)

@@ -35,8 +35,8 @@ module _ (p : Plan) (j b : ℕ) where
   pub kind-skipped : (i : ℕ) → (kindOf p i .project ≡ j → ⊥) → Good ≡ fittedWith p j b i
   kind-skipped i n = rw (ne-eqb (kindOf p i .project) j n)
 
-  pub kind-lacks : (i w x a : ℕ) → kindOf p i .project ≡ j → w ≡ widthWith p j b i → x ≡ excessWith p j b i → a ≡ sliceWith p j b i → w ≡ 0 →
-      notAdmitted i x a ≡ fittedWith p j b i
+  pub kind-lacks : (i w x a : ℕ) → kindOf p i .project ≡ j → w ≡ widthWith p j b i → x ≡ excessWith p j b i → a ≡ sliceWith p j b i →
+      w ≡ 0 → notAdmitted i x a ≡ fittedWith p j b i
   kind-lacks i w x a e f g h z = rw (eq-eqb (kindOf p i .project) j e, eq-eqb (widthWith p j b i) 0 (sym f ∙ z), g, h)
 
   pub kind-fits : (i w : ℕ) → kindOf p i .project ≡ j → w ≡ widthWith p j b i → (w ≡ 0 → ⊥) → Good ≡ fittedWith p j b i
@@ -115,7 +115,8 @@ module _ (p : Plan) (j : ℕ) where
 pub slice-at-most : (p : Plan) (j i : ℕ) → 0 < p .frame → sliceWith p j (mostBudget p j) i ≡ 0
 unfolding sliceWith
 slice-at-most p j i some =
-    slice-flat 0 (projectOf p j .ceiling) (p .frame) some (kindOf p i .length) (workload p i) (kindOf p i .deadline) (projectOf p j .ceiling)
+    slice-flat 0 (projectOf p j .ceiling) (p .frame) some (kindOf p i .length) (workload p i) (kindOf p i .deadline)
+    (projectOf p j .ceiling)
 
 -- at most the 512 cells that a frame can have
 pub found-most : (p : Plan) (j : ℕ) → smallestOf p j .answer ≡ Good → smallestOf p j .budget ≤ 512

@@ -14,22 +14,24 @@ use Rattle.supply.proofs.least_fit.Statement.{statement}
 use Rattle.supply.proofs.least_fit.Tie as tie
 
 abbrev Inv-loop2 : tie.InvT-loop2
-Inv-loop2 frame ceiling length workload deadline slices frames rest cards beyond found excess short below width one-frame least start sum₀ x₀ sum x =
+Inv-loop2 frame ceiling length workload deadline slices frames rest cards beyond found excess short below width one-frame least start
+    sum₀ x₀ sum x =
     (x ≤ rest) × (sum ≡ window width (heldAt slices cards) start x) × (sum ≤ 255 * x)
 
 abbrev μ-loop2 : tie.MeasureT-loop2
-μ-loop2 frame ceiling length workload deadline slices frames rest cards beyond found excess short below width one-frame least start sum₀ x₀ sum x =
+μ-loop2 frame ceiling length workload deadline slices frames rest cards beyond found excess short below width one-frame least start
+    sum₀ x₀ sum x =
     rest - x
 
 abbrev Inv-loop : tie.InvT-loop
-Inv-loop frame ceiling length workload deadline slices frames rest cards beyond found excess short below width one-frame₀ least₀ start₀ one-frame least
-    start =
-    (start ≤ slices) × (one-frame ≡ window width (heldAt slices cards) 0 start) × (least ≡ suppliedTo start (heldAt slices cards) width rest) ×
-    (one-frame ≤ 255 * start) × (least .value ≤ 16320)
+Inv-loop frame ceiling length workload deadline slices frames rest cards beyond found excess short below width one-frame₀ least₀
+    start₀ one-frame least start =
+    (start ≤ slices) × (one-frame ≡ window width (heldAt slices cards) 0 start) ×
+    (least ≡ suppliedTo start (heldAt slices cards) width rest) × (one-frame ≤ 255 * start) × (least .value ≤ 16320)
 
 abbrev μ-loop : tie.MeasureT-loop
-μ-loop frame ceiling length workload deadline slices frames rest cards beyond found excess short below width one-frame₀ least₀ start₀ one-frame least
-    start =
+μ-loop frame ceiling length workload deadline slices frames rest cards beyond found excess short below width one-frame₀ least₀
+    start₀ one-frame least start =
     slices - start
 
 abbrev Inv-widths : tie.InvT-widths
@@ -39,7 +41,8 @@ Inv-widths frame ceiling length workload deadline slices frames rest cards beyon
     (short .value ≤ 65536)
 
 abbrev μ-widths : tie.MeasureT-widths
-μ-widths frame ceiling length workload deadline slices frames rest cards beyond found₀ excess₀ short₀ below₀ found excess short below = ceiling - below
+μ-widths frame ceiling length workload deadline slices frames rest cards beyond found₀ excess₀ short₀ below₀ found excess short below =
+    ceiling - below
 
 returns : tie.Need-returns Inv-loop2 μ-loop2 Inv-loop μ-loop Inv-widths μ-widths
 returns c = search no-frame
@@ -177,15 +180,19 @@ widths-again c =
     let some = c .before .before .before .before .before .before .before .before .before .before .before .before .before .if1 .left in
     let most = c .before .before .before .before .before .before .before .before .before .before .before .before .if2 .left in
     let two = c .before .before .before .before .before .before .before .before .before .before .before .two-frames .ensures in
+    let so-far = c .before .before .before .before .before .before .before .before .before .before .widths .inv in
     let inv = c .before .before .before .before .before .before .before .before .loop .inv in
     let end = c .before .before .before .before .before .before .before .loop-test .left in
-    let s = supplied _ _ _ some most two _ _ _ _ _ _ (c .before .before .before .before .before .before .product .ensures .0) (inv .1) (inv .2) (inv .0) end in
+    let frames = c .before .before .before .before .before .before .product .ensures .0 in
+    let asked = c .before .before .before .before .asked .ensures .0 in
+    let here = c .before .before .short-by .ensures .0 in
+    let s = supplied _ _ _ some most two _ _ _ _ _ _ frames (inv .1) (inv .2) (inv .0) end in
     let t = bad-found _ _ _ some most two _ _ _ _ (inv .2) (inv .0) end in (
       search,
       omega arith,
       search,
-      width-again _ _ _ _ _ _ _ _ (c .before .before .before .before .before .before .before .before .before .before .widths .inv .3) s (c .before .before .before .before .asked .ensures .0) (c .before .before .before .if3 .left),
-      short-again _ _ _ _ _ _ _ _ _ _ _ (c .before .before .before .before .before .before .before .before .before .before .widths .inv .4) s t (c .before .before .short-by .ensures .0) (c .before .least-with2 .ensures .0),
+      width-again _ _ _ _ _ _ _ _ (so-far .3) s asked (c .before .before .before .if3 .left),
+      short-again _ _ _ _ _ _ _ _ _ _ _ (so-far .4) s t here (c .before .least-with2 .ensures .0),
       omega arith,
       omega arith,
     )

@@ -211,7 +211,8 @@ module _ (F : ℕ) (h : ℕ → ℕ) (C W D : ℕ) where
     where
       some : (w : ℕ) → leastWidth F h (allowedLength F h C W D q) W D q ≡ w → 0 < w
       some zero e =
-          absurd (true≢false (sym (greatest-holds C (allowed q) (omega (arith, excess-left q))) ∙ allowed-no q (allowedLength F h C W D q) e))
+          let holds = greatest-holds C (allowed q) (omega (arith, excess-left q)) in
+          absurd (true≢false (sym holds ∙ allowed-no q (allowedLength F h C W D q) e))
       some (suc w) e = omega arith
 
   -- and nothing longer has
@@ -281,7 +282,8 @@ module _ (F : ℕ) (h : ℕ → ℕ) (C W D : ℕ) where
   slice-found : 0 < F → (q : ℕ) → shortTo F h C W D q .slice ≡ namedSlice F h C W D q
   unfolding namedSlice namedWidth
   slice-found p q =
-      rw (allowed-is q) (elim (decLe v C) [ yes l ↦ some l (short-attained F h C W D q (short-some F h C W D q l)) | no l ↦ none (omega arith) ])
+      rw (allowed-is q)
+      (elim (decLe v C) [ yes l ↦ some l (short-attained F h C W D q (short-some F h C W D q l)) | no l ↦ none (omega arith) ])
     where
       v : ℕ
       v = shortTo F h C W D q .value
@@ -412,7 +414,8 @@ module _ (F : ℕ) (h : ℕ → ℕ) (C W D : ℕ) where
   short-again j s b m t r e f g u q =
       let same : t ≡ shortAt F h C W D (j + 1) = u ∙ ap₂ (shortBy (j + 1) C W) f g in
       q
-      ∙ with-again j m (t .value) (t .slice) (λ i. shortAt F h C W D (i + 1) .value) (λ i. shortAt F h C W D (i + 1) .slice) (λ p. e ∙ so j p)
+      ∙ with-again j m (t .value) (t .slice) (λ i. shortAt F h C W D (i + 1) .value) (λ i. shortAt F h C W D (i + 1) .slice)
+      (λ p. e ∙ so j p)
       (ap (λ (x : Least). x .value) same) (ap (λ (x : Least). x .slice) same)
       ∙ sym (so (j + 1) (omega arith))
     where

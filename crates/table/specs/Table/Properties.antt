@@ -31,13 +31,14 @@ use Rattle.smallest_budget.specs.Smallest.{widthWith, excessWith, sliceWith, se
 use Rattle.table.specs.Table.{Table}
 
 pub table : Table
-unfolding sumTo leastTo leastPlace firstTo countTo allTo written eachTo within sized emptyProject emptyKind tidyProjects tidyKinds inRange timed
-    budgets sizes unused projectsInRange kindInRange kindsInRange budgetsFit ranges checked cellAt heldFrom firstCell owns slotOf held
-    tableLength tableOver tableAnswer window supply badSlice workloadPart fitsAt leastWidth greatestTo allowedLength leastExcess namedWidth
-    namedSlice besides partOf workload widthOf excessOf badSliceOf fitted admitted judged pack unpack numberTo bytesOf size headerBytes projectBytes kindBytes partsTo encoded
-    headerFields projectFields kindFields projectFrom kindFrom projectsFrom kindsFrom headed decoded headerSpare projectSpare kindSpare
-    projectsSpare kindsSpare placesSpare spareZero bodyAnswer readAnswer readOf projectThere inRangeOpen projectsInRangeOpen rangesOpen
-    checkedOpen widthWith excessWith sliceWith serves leastBudget servedWith smallestAnswer smallestOf
+unfolding sumTo leastTo leastPlace firstTo countTo allTo written eachTo within sized emptyProject emptyKind tidyProjects tidyKinds
+    inRange timed budgets sizes unused projectsInRange kindInRange kindsInRange budgetsFit ranges checked cellAt heldFrom firstCell
+    owns slotOf held tableLength tableOver tableAnswer window supply badSlice workloadPart fitsAt leastWidth greatestTo
+    allowedLength leastExcess namedWidth namedSlice besides partOf workload widthOf excessOf badSliceOf fitted admitted judged pack
+    unpack numberTo bytesOf size headerBytes projectBytes kindBytes partsTo encoded headerFields projectFields kindFields
+    projectFrom kindFrom projectsFrom kindsFrom headed decoded headerSpare projectSpare kindSpare projectsSpare kindsSpare
+    placesSpare spareZero bodyAnswer readAnswer readOf projectThere inRangeOpen projectsInRangeOpen rangesOpen checkedOpen widthWith
+    excessWith sliceWith serves leastBudget servedWith smallestAnswer smallestOf
 table = record {
   P1-read = refl;
   P1-written = refl;

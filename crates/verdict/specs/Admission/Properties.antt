@@ -60,7 +60,8 @@ module _ (p : Plan) (i : ℕ) where
   widthFor c = leastWidth (p .frame) (heldOn p i) c (workload p i) (kindOf p i .deadline) (ceilingOn p i)
 
   width-allows : (c : ℕ) → 0 < widthFor c → Allows p i c (widthFor c)
-  width-allows c l = record { width = record { some = l; most = width-most _ _ _ _ _ (ceilingOn p i) }; room = width-fits _ _ _ _ _ (ceilingOn p i) l }
+  width-allows c l =
+      record { width = record { some = l; most = width-most _ _ _ _ _ (ceilingOn p i) }; room = width-fits _ _ _ _ _ (ceilingOn p i) l }
 
   allows-width : (c k : ℕ) → Allows p i c k → 0 < widthFor c
   allows-width c k a = width-some _ _ _ _ _ (ceilingOn p i) k (a .width .some) (a .width .most) (a .room)
@@ -102,7 +103,8 @@ module _ (p : Plan) (i : ℕ) where
     -- beside the k given
     bad-given : 0 < widthOf p i → BadSlice p i (widthOf p i) (badSliceOf p i)
     unfolding widthOf badSliceOf
-    bad-given l = rw (slice-given (p .frame) (heldOn p i) (kindOf p i .length) (workload p i) (kindOf p i .deadline) (ceilingOn p i) l) (bad-on _)
+    bad-given l =
+        rw (slice-given (p .frame) (heldOn p i) (kindOf p i .length) (workload p i) (kindOf p i .deadline) (ceilingOn p i) l) (bad-on _)
 
     -- it is that of the least k that allows what the excess leaves
     slice-is : badSliceOf p i ≡ badSlice (p .frame) (heldOn p i) (widthFor (kindOf p i .length - excessOf p i)) (kindOf p i .deadline)
@@ -128,7 +130,8 @@ module _ (p : Plan) (i : ℕ) where
                     absurd (omega (
                       arith,
                       n .allows .room,
-                      width-least (p .frame) (heldOn p i) c (workload p i) (kindOf p i .deadline) (ceilingOn p i) k (n .allows .width .some) m,
+                      width-least (p .frame) (heldOn p i) c (workload p i) (kindOf p i .deadline) (ceilingOn p i) k
+                          (n .allows .width .some) m,
                     ))
                 | no m ↦ omega arith
               ]

@@ -128,7 +128,8 @@ unfolding badSliceOf
 slice-room p o i =
     omega (
       arith,
-      slice-in-frame (p .frame) (heldOn p i) (kindOf p i .length) (workload p i) (kindOf p i .deadline) (o .counts .some-slice) (ceilingOn p i),
+      slice-in-frame (p .frame) (heldOn p i) (kindOf p i .length) (workload p i) (kindOf p i .deadline) (o .counts .some-slice)
+          (ceilingOn p i),
       o .counts .frame-most,
     )
 

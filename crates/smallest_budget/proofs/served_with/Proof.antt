@@ -82,16 +82,18 @@ loop-less-2 c = search needs
 
 loop-again-2 : tie.Need-loop-again-2 Inv-loop μ-loop
 loop-again-2 c =
-    let here = c .before .before .before .before .before .before .before .before in
+    let inside = c .before .before .before .before .before .before .before in
+    let here = inside .before in
+    let within = inside .loop-test .taken in
     let laid = here .before in
     let given = laid .before .args in
     let found = c .before .before .least-fit .result in
     let some : found .width ≡ 0 → ⊥ = search in (
-      omega arith,
-      search,
-      search,
-      served-again (given .t1) (given .project) (search) (here .loop .i) (search) (given .budget) (laid .cards-with .result)
-          (now (given .workloads)) found (search) (search) (search) (search) some (search),
+      omega (arith, within),
+      here .loop .inv .1,
+      here .loop .inv .2,
+      served-again (given .t1) (given .project) (search) (here .loop .i) (omega (arith, within)) (given .budget)
+          (laid .cards-with .result) (now (given .workloads)) found (search) (search) (search) (search) some (search),
     )
 
 returns-2 : tie.Need-returns-2 Inv-loop μ-loop

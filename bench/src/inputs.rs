@@ -49,6 +49,17 @@ pub fn open(d: u16) -> Plan {
     only_at(8, 16, 64, d)
 }
 
+/// The same project where fifteen kinds fit at k = 5 with five cards or more and the last one with all cells alone, so that each
+/// budget but the first few that are tried is judged for all kinds.
+pub fn open_last() -> Plan {
+    let mut kinds = [(0, 4095, 4095, 910); 16];
+    kinds[15].3 = 2388;
+    let plan = Plan::of(8, 64, &[(8, 512)], &kinds);
+    let (answer, k, _) = verdict(&plan);
+    assert!(answer.is_good() && k[..15] == [5; 15] && k[15] == 8);
+    plan
+}
+
 /// Eight cards held throughout by one project with `n` kinds that all have work, released one slice after another.
 pub fn all_active(n: u16, frame: u8, d: u16) -> State {
     let kinds = vec![(0, d, d, d); usize::from(n)];

@@ -70,6 +70,7 @@ fn main() {
         ("typical, project 0", inputs::typical(), 0),
         ("largest: q 8, n 16, F 64, D 4095", inputs::open(4095), 0),
         ("the same, D 4032", inputs::open(4032), 0),
+        ("the same, the last kind decides", inputs::open_last(), 0),
     ] {
         table.add(smallest(name, &plan, project));
     }

@@ -4,7 +4,7 @@
 use bindings::*;
 use std::collections::BTreeSet;
 use std::fs::{read_dir, read_to_string};
-use std::path::Path;
+use std::path::{Path, PathBuf};
 
 /// The texts that have to agree.
 #[derive(Clone)]
@@ -26,16 +26,26 @@ struct Texts {
     version: String,
 }
 
+/// The files of a folder and of those in it; none where there is no folder.
+fn files_below(folder: &Path) -> Vec<PathBuf> {
+    let mut files = Vec::new();
+    for entry in read_dir(folder).into_iter().flatten() {
+        let path = entry.unwrap().path();
+        match path.is_dir() {
+            true => files.extend(files_below(&path)),
+            false => files.push(path),
+        }
+    }
+    files
+}
+
 fn texts() -> Texts {
     let root = Path::new(env!("CARGO_MANIFEST_DIR")).join("..");
     let text = |path: &str| read_to_string(root.join(path)).expect(path);
     let (mut code, mut exported) = (String::new(), String::new());
     for folder in read_dir(root.join("crates")).unwrap() {
-        let Ok(files) = read_dir(folder.unwrap().path().join("src")) else {
-            continue;
-        };
-        for file in files {
-            let text = read_to_string(file.unwrap().path()).unwrap();
+        for file in files_below(&folder.unwrap().path().join("src")) {
+            let text = read_to_string(file).unwrap();
             if text.contains("#[no_mangle]") {
                 exported += &text;
             }

@@ -30,9 +30,9 @@ extern "C" {
  * change them; an image belongs to the version that made it. Plan bytes are read by
  * every later version.
  */
-#define PARCHBEETLE_VERSION "0.3.0"
+#define PARCHBEETLE_VERSION "0.4.0"
 #define PARCHBEETLE_VERSION_MAJOR 0
-#define PARCHBEETLE_VERSION_MINOR 3
+#define PARCHBEETLE_VERSION_MINOR 4
 #define PARCHBEETLE_VERSION_PATCH 0
 
 /* ---- Images */
@@ -115,9 +115,11 @@ extern "C" {
  *   bits 16-31  count: bytes taken (read) or written (write, slot_table), or the
  *               least budget (smallest_budget); 0 for the other functions and on a
  *               refusal
- *   bits 32-55  excess (with 8): the slices by which the unit is too long; else 0
- *   bits 56-63  slice (with 8): the bad slice of the frame for that unit to arrive
- *               in, for the k of the excess, the least such k; else 0
+ *   bits 32-55  excess (with 8): the slices by which the unit is too long. With a
+ *               length that is shorter by so much or more the kind has a k, by less it
+ *               has none; where no length fits it is the whole length. Else 0
+ *   bits 56-63  slice (with 8): the bad slice of the frame for a unit that is
+ *               shorter by the excess, for the least k that allows it; else 0
  *
  * A plan or state image that is given and is shorter than its size: 9, before
  * anything else is looked at. An image or a buffer may be longer than needed; the

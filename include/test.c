@@ -106,7 +106,7 @@ static void functions(void) {
     answers("smallest_budget, project 1", parchbeetle_smallest_budget(plan, PLAN, 1), 0, 0, 4, 0);
     answers("smallest_budget, short", parchbeetle_smallest_budget(plan, PLAN - 1, 2), 9, 0, 0, 0);
     answers("smallest_budget, no project", parchbeetle_smallest_budget(plan, PLAN, (uint64_t)1 << 32), 27, 0, 0, 0);
-    answers("smallest_budget, kind 1 by 2", parchbeetle_smallest_budget(wrong, PLAN, 1), 8, 1, 0, 2);
+    answers("smallest_budget, kind 1 by 1", parchbeetle_smallest_budget(wrong, PLAN, 1), 8, 1, 0, 1);
     memcpy(wrong, plan, PLAN);
     parchbeetle_set_project_budget(wrong, 1, 9);
     answers("smallest_budget, the open budget", parchbeetle_smallest_budget(wrong, PLAN, 1), 0, 0, 4, 0);

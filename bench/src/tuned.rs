@@ -189,12 +189,14 @@ fn workload(plan: &Plan, i: usize) -> u32 {
     w
 }
 
-/// The least k at which a kind fits, or the least excess over all k; with the slice of that k.
+/// The least k at which a kind fits, or by how much it is too long for the k that allows most; with the slice of that k.
 fn fit(plan: &Plan, held: &[u8; 128], i: usize, w: u32) -> Result<(u8, usize), (u32, usize)> {
     let kind = &plan.kinds[i];
-    let mut least = (u32::MAX, 0);
+    let length = u32::from(kind.length);
+    // Nothing allows so much: the first k that allows any length is taken.
+    let (mut least, mut first) = (length + 1, 0);
     for width in 1..=plan.projects[usize::from(kind.project)].ceiling {
-        let asked = u32::from(width) * u32::from(kind.length) + w;
+        let asked = u32::from(width) * length + w;
         let (supply, slice) = supply(
             held,
             usize::from(plan.frame),
@@ -204,11 +206,14 @@ fn fit(plan: &Plan, held: &[u8; 128], i: usize, w: u32) -> Result<(u8, usize), (
         if asked <= supply {
             return Ok((width, slice));
         }
-        if asked - supply < least.0 {
-            least = (asked - supply, slice);
+        if let Some(room) = supply.checked_sub(w) {
+            let over = length - room / u32::from(width);
+            if over < least {
+                (least, first) = (over, slice);
+            }
         }
     }
-    Err(least)
+    Err((least.min(length), first))
 }
 
 /// The smallest budget of a project, by halving; its cells are laid from cell 0 on, which leaves the supply as it is.

@@ -73,6 +73,11 @@ pub enum Fault {
     SliceGreaterK,
     SliceStands,
     SliceBeyondN,
+    ExcessOld,
+    ExcessRounded,
+    ExcessGreatest,
+    ExcessZeroAsNone,
+    ExcessNoneLess,
     PlayEnd,
     PlayLeftOver,
     PlayClock,
@@ -87,7 +92,7 @@ pub enum Fault {
 use Fault::*;
 
 /// Each fault that records must show: its name and what it is.
-pub const RECORD_FAULTS: [(Fault, &str, &str); 49] = [
+pub const RECORD_FAULTS: [(Fault, &str, &str); 54] = [
     (SumFirst, "sum-first", "7 is told before 4"),
     (FiveFirst, "five-first", "all kinds for 5 before any 6"),
     (
@@ -106,11 +111,7 @@ pub const RECORD_FAULTS: [(Fault, &str, &str); 49] = [
     ),
     (Average, "average", "supply as floor(Bt/F)"),
     (OnlyTop, "only-top", "only k = q is counted"),
-    (
-        ExcessAtTop,
-        "excess-at-top",
-        "the excess at q, not the least over k",
-    ),
+    (ExcessAtTop, "excess-at-top", "the excess at q alone"),
     (Ties, "ties", "a tie goes to the higher kind number"),
     (
         RankByD,
@@ -253,7 +254,7 @@ pub const RECORD_FAULTS: [(Fault, &str, &str); 49] = [
     (
         SliceGreaterK,
         "slice-greater-k",
-        "the slice of the greatest k on equal excess",
+        "the slice of the greatest k that allows C'",
     ),
     (
         SliceStands,
@@ -264,6 +265,31 @@ pub const RECORD_FAULTS: [(Fault, &str, &str); 49] = [
         SliceBeyondN,
         "slice-beyond-n",
         "a slice beside a k of 0 beyond n",
+    ),
+    (
+        ExcessOld,
+        "excess-old",
+        "the excess as the least of kC + W - S(k,D)",
+    ),
+    (
+        ExcessRounded,
+        "excess-rounded",
+        "the excess with a division rounded up",
+    ),
+    (
+        ExcessGreatest,
+        "excess-greatest",
+        "the greatest excess over k, not the least",
+    ),
+    (
+        ExcessZeroAsNone,
+        "excess-0-as-none",
+        "C' of 0 is taken for none",
+    ),
+    (
+        ExcessNoneLess,
+        "excess-none-less",
+        "an excess of C - 1 where there is no C'",
     ),
 ];
 
@@ -475,12 +501,29 @@ impl Faulty {
                 }
                 None => {
                     let from = if self.is(ExcessAtTop) { q } else { first };
+                    let c = u64::from(kind.length);
+                    // The length that each k allows, 1 too many for each so that 0 is none.
+                    let allowed = |k: u64| match supply(k).0.checked_sub(w) {
+                        Some(room) if self.is(ExcessRounded) => room.div_ceil(k).min(c - 1) + 1,
+                        Some(room) if self.is(ExcessZeroAsNone) && room < k => 0,
+                        Some(room) => room / k + 1,
+                        None => 0,
+                    };
                     let k = match self.0 {
-                        SliceGreaterK => (from..=q).rev().min_by_key(|&k| over(k)),
-                        _ => (from..=q).min_by_key(|&k| over(k)),
+                        ExcessOld => (from..=q).min_by_key(|&k| over(k)),
+                        ExcessGreatest => (from..=q).min_by_key(|&k| allowed(k)),
+                        // The last of several is the greatest.
+                        SliceGreaterK => (from..=q).max_by_key(|&k| allowed(k)),
+                        _ => (from..=q).rev().max_by_key(|&k| allowed(k)),
                     };
                     let k = k.unwrap_or(q);
-                    let answer = Answer::not_admitted(i, over(k), slice(k));
+                    let (excess, slice) = match allowed(k) {
+                        _ if self.is(ExcessOld) => (over(k), slice(k)),
+                        0 if self.is(ExcessNoneLess) => (c - 1, 0),
+                        0 => (c, 0),
+                        more => (c + 1 - more, slice(k)),
+                    };
+                    let answer = Answer::not_admitted(i, excess, slice);
                     return (answer, [0; VERDICT_BYTES]);
                 }
             }

@@ -159,7 +159,10 @@ pub fn table() -> Vec<Named> {
     }
     table.admitted("P8", &b, &[2, 1, 1], &[0, 0, 0]);
     let opening = Plan::of(2, 1, &[(2, 2)], &[(0, 3, 3, 2), (0, 6, 6, 4), (0, 6, 6, 3)]);
-    table.refused_by_8("P9", &opening, 4, 0);
+    table.refused_by_8("P9", &opening, 2, 0);
+    let mut longer = b;
+    longer.kinds[0].length = 3;
+    table.refused_by_8("(iii)", &longer, 2, 0);
     let mut wider = a;
     wider.projects[1].budget = 6;
     table.out_of_order("P10", &wider, 7, 0);
@@ -174,9 +177,9 @@ pub fn table() -> Vec<Named> {
         table.good("(i)", open(plan, project), budget, &[]);
     }
     table.refused("(i), no such project", open(&a, 2), 27, 0, 0);
-    table.refused_by_8("(i), a guess too small", &smaller, 2, 0);
+    table.refused_by_8("(i), a guess too small", &smaller, 1, 0);
     table.good("(i), a guess too small", open(&smaller, 0), 7, &[]);
-    table.refused("(i), none serves", open(&opening, 0), 8, 0, 4);
+    table.refused("(i), none serves", open(&opening, 0), 8, 0, 2);
 
     let none = Plan {
         n: 0,

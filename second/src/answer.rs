@@ -7,9 +7,9 @@ pub struct Answer {
     pub number: u64,
     /// The column "place".
     pub place: u64,
-    /// "the slices by which its unit is too long".
+    /// The slices by which its unit is too long, "C minus the greatest C'".
     pub excess: u64,
-    /// "which slice is the bad one to arrive in", for the k that the excess names.
+    /// "which slice is the bad one to arrive in", for the least k that allows C'.
     pub slice: u64,
 }
 

@@ -71,19 +71,26 @@ pub fn least_k(plan: &Plan, held: &[u64], i: usize) -> Option<(u64, u64)> {
     None
 }
 
-/// "its *excess* is the least, over k, of kCi + W - S(k,Di)" (of a kind that fits at no k), here on these cards held, with the
-/// slice "for the k it names (the least k on equal excess)".
+/// "C minus the greatest C' of at least 0 with kC' + W <= S(k,D) for some k, or the whole C where there is none" (of a kind that
+/// fits at no k, so that C' is below C), here on these cards held; with the slice "of the least k that allows C', or 0 without one".
 pub fn excess(plan: &Plan, held: &[u64], i: usize) -> (u64, u64) {
-    let mut least = None;
+    let Some(kind) = plan.used_kinds().get(i) else {
+        return (0, 0);
+    };
+    let c = u64::from(kind.length);
+    let w = workload(plan, i);
+    let mut supplies = Vec::new();
     for k in 1..=ceiling_of(plan, i) {
-        let (asked, supplied, slice) = asked_and_supplied_on(plan, held, i, k);
-        let over = asked.saturating_sub(supplied);
-        least = match least {
-            Some((before, of_lesser_k)) if before <= over => Some((before, of_lesser_k)),
-            _ => Some((over, slice)),
-        };
+        supplies.push((k, supply_and_slice(held, k, u64::from(kind.deadline))));
     }
-    least.unwrap_or((0, 0))
+    for shorter in (0..c).rev() {
+        for &(k, (supplied, slice)) in &supplies {
+            if k * shorter + w <= supplied {
+                return (c - shorter, slice);
+            }
+        }
+    }
+    (c, 0)
 }
 
 /// "Starting fresh and the verdict add 8"; "A refused verdict gives k 0 for every kind", and the slice is 0 "beside a k of 0".

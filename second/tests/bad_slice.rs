@@ -72,19 +72,24 @@ fn a_first_cell_that_moves_leaves_the_supply_and_may_change_the_slice() {
 }
 
 #[test]
-fn the_slice_of_the_least_k_on_equal_excess() {
-    let plan = |c, other| {
-        let kinds = [(1, 9, 5, c), (1, 9, 9, 5), (other, 9, 9, 3)];
+fn the_slice_of_the_least_k_that_allows_the_length() {
+    // A kind of length c beside others of these lengths, each of which counts whole.
+    let plan = |c, others: &[u16]| {
+        let mut kinds = vec![(1, 9, 5, c)];
+        kinds.extend(others.iter().map(|&other| (1, 9, 9, other)));
         Plan::of(3, 4, &[(1, 3), (2, 6)], &kinds)
     };
-    let held = h(&plan(2, 0), 1);
+    let held = h(&plan(2, &[]), 1);
     assert_eq!(held, [2, 1, 1, 2]);
     assert_eq!(supply_and_slice(&held, 1, 5), (5, 0));
     assert_eq!(supply_and_slice(&held, 2, 5), (7, 1));
-    // 2 + 5 against 5 and 4 + 5 against 7: by 2 at either k.
-    assert_eq!(verdict(&plan(2, 0)).0, Answer::not_admitted(0, 2, 0));
-    // 1 + 8 against 5 and 2 + 8 against 7: by 4 and by 3.
-    assert_eq!(verdict(&plan(1, 1)).0, Answer::not_admitted(0, 3, 1));
+    // W 3: either k allows 2, and no more.
+    assert_eq!(verdict(&plan(3, &[3])).0, Answer::not_admitted(0, 1, 0));
+    // W 5: k 1 allows 0, k 2 allows 1.
+    assert_eq!(verdict(&plan(2, &[5])).0, Answer::not_admitted(0, 1, 1));
+    // W 7: 0 at k 2 alone. W 8: none at all, and no slice.
+    assert_eq!(verdict(&plan(4, &[5, 2])).0, Answer::not_admitted(0, 4, 1));
+    assert_eq!(verdict(&plan(4, &[5, 3])).0, Answer::not_admitted(0, 4, 0));
 }
 
 #[test]

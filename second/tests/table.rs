@@ -1,4 +1,5 @@
-//! P1 to P11 of document 01, with the slices of document 02's request (ii), and its line "Run and compared".
+//! P1 to P11 of document 01, with the slices and the excess of document 02's requests (ii) and (iii), and its line "Run and
+//! compared".
 
 use second::supply::supply;
 use second::*;
@@ -95,7 +96,8 @@ fn p8_plan_b_is_admitted() {
 #[test]
 fn p9_the_opening_example_of_000() {
     let plan = Plan::of(2, 1, &[(2, 2)], &[(0, 3, 3, 2), (0, 6, 6, 4), (0, 6, 6, 3)]);
-    assert_eq!(verdict(&plan), (refused(8, 0, 4), [0; 16], [0; 16]));
+    // "P9 becomes 2": W alone is all that two cards give.
+    assert_eq!(verdict(&plan), (refused(8, 0, 2), [0; 16], [0; 16]));
 }
 
 #[test]

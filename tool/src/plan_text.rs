@@ -285,8 +285,8 @@ fn advice(plan: &Plan, project: usize) -> Option<String> {
             "budget {budget} is the smallest that serves project {project}"
         )),
         Err(answer) if answer.number == 8 => Some(format!(
-            "no budget serves project {project}: kind {} is too long by {} even with all cells of its ceiling",
-            answer.place, answer.excess
+            "no budget serves project {project}: even with all cells of its ceiling {}",
+            too_long(plan, answer)
         )),
         Err(answer) if answer.number == 7 => Some(format!(
             "the smallest budget that serves project {project} is more than the others leave"
@@ -295,16 +295,26 @@ fn advice(plan: &Plan, project: usize) -> Option<String> {
     }
 }
 
+/// The excess in words, and the slice beside it.
+fn too_long(plan: &Plan, answer: Answer) -> String {
+    let (place, excess, slice) = (answer.place, answer.excess, answer.slice);
+    let length = u32::from(plan.kind[usize::from(place)].length);
+    match length.saturating_sub(excess) {
+        0 => format!("kind {place} would be too long at any length"),
+        fits => format!(
+            "kind {place} is too long by {excess} when it arrives in slice {slice} of the frame, and would fit with length {fits}"
+        ),
+    }
+}
+
 /// A verdict that refuses, in words, with the smallest budget of the project that it is about.
 fn not_admitted(plan: &Plan, answer: Answer) -> String {
     let kind = &plan.kind[usize::from(answer.place)];
     let advice = advice(plan, usize::from(kind.project));
     format!(
-        "the plan is not admitted ({}): kind {} is too long by {} when it arrives in slice {} of the frame{}",
+        "the plan is not admitted ({}): {}{}",
         told(answer),
-        answer.place,
-        answer.excess,
-        answer.slice,
+        too_long(plan, answer),
         advice.map_or(String::new(), |advice| format!("; {advice}"))
     )
 }

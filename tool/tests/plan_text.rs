@@ -201,7 +201,7 @@ fn a_plan_that_is_not_admitted_has_bytes_and_a_note() {
     assert_eq!(
         ran.said,
         "plan-text: line 5: the plan is not admitted (refused 8 at 0): \
-         kind 0 is too long by 1 when it arrives in slice 0 of the frame; \
+         kind 0 is too long by 1 when it arrives in slice 0 of the frame, and would fit with length 6; \
          the smallest budget that serves project 0 is more than the others leave; \
          the bytes are written all the same\n"
     );
@@ -211,7 +211,7 @@ fn a_plan_that_is_not_admitted_has_bytes_and_a_note() {
     let text = decoded(&ran.output);
     assert!(text.ends_with(
         "\n# the plan is not admitted (refused 8 at 0): \
-         kind 0 is too long by 1 when it arrives in slice 0 of the frame; \
+         kind 0 is too long by 1 when it arrives in slice 0 of the frame, and would fit with length 6; \
          the smallest budget that serves project 0 is more than the others leave\n"
     ));
 
@@ -225,13 +225,20 @@ fn a_plan_that_is_not_admitted_has_bytes_and_a_note() {
         assert!(decoded(&pack(&due)).contains(said), "{length}");
     }
 
+    // P9: what the others ask for is all there is.
+    let opening = Plan::of(2, 1, &[(2, 2)], &[(0, 3, 3, 2), (0, 6, 6, 4), (0, 6, 6, 3)]);
+    assert!(decoded(&pack(&opening)).contains(
+        "(refused 8 at 0): kind 0 would be too long at any length; no budget serves project 0"
+    ));
+
     // With room in the rack the budget that would do is told, and where none would, that.
     for (old, new, said) in [
         ("budget 5", "budget 4", "budget 4 is the smallest that serves project 0"),
         (
             "kind project 1 separation 4",
             "kind project 0 separation 8 deadline 8 length 2\nkind project 1 separation 4",
-            "no budget serves project 0: kind 0 is too long by 1 even with all cells of its ceiling",
+            "no budget serves project 0: even with all cells of its ceiling kind 0 is too long by 1 \
+             when it arrives in slice 0 of the frame, and would fit with length 6",
         ),
     ] {
         let text = PLAN_A
@@ -273,8 +280,8 @@ fn a_budget_left_open_is_the_smallest_that_serves() {
         (
             "deadline 4 length 2",
             "deadline 4 length 4",
-            "line 4: no budget serves project 1: kind 1 is too long by 2 \
-             even with all cells of its ceiling (refused 8 at 1)",
+            "line 4: no budget serves project 1: even with all cells of its ceiling kind 1 is too long by 1 \
+             when it arrives in slice 0 of the frame, and would fit with length 3 (refused 8 at 1)",
         ),
         (
             "ceiling 1 budget 3",

@@ -3,7 +3,7 @@
 use mathlib.Core.Path.{_≡_, refl, sym, ap, _∙_}
 use mathlib.Core.Logic.{_≢_, _↔_}
 use mathlib.Core.Bool.{Bool, true, false, false≢true}
-use Prim.Native.Nat.{ℕ, zero, suc}
+use Prim.Native.Nat.{ℕ, zero, suc, _-_}
 use native.Mathlib.Omega.{arith}
 use lib.Dec.{eqb}
 use Rattle.answer.specs.declared.Answer.{Answer}
@@ -12,11 +12,11 @@ use Rattle.answer.specs.declared.Refusal.{Refusal}
 use Rattle.answer.specs.Answer.{notAdmitted, number, place, excess, slice, refuse, _andThen_, eachTo}
 use Rattle.answer.specs.Numbers.{among}
 use Rattle.plan.specs.declared.Plan.{Plan}
-use Rattle.plan.specs.Order.{InOrder, checked}
+use Rattle.plan.specs.Order.{kindOf, InOrder, checked}
 use Rattle.plan.specs.Order.Properties.{in-order}
 use Rattle.verdict.specs.Verdict.{widthOf, excessOf, badSliceOf, fitted, admitted, judged}
-use Rattle.verdict.specs.Admission.{NotAdmitted, BadSlice, Names}
-use Rattle.verdict.specs.Admission.Properties.{order-first, order-next, refused-exactly, refused-slice}
+use Rattle.verdict.specs.Admission.{Allows, NotAdmitted, BadSlice, Names}
+use Rattle.verdict.specs.Admission.Properties.{order-first, order-next, refused-exactly, refused-slice, refused-no-slice}
 use Rattle.demands.specs.Numbers.{recordOrder, check-numbers}
 
 -- ---- "Records: 2, 3, 4, 5/6, 7"
@@ -93,10 +93,19 @@ pub eight-exactly : (p : Plan) (i x : ℕ) →
 eight-exactly p i x = (eight-says p i x, eight-of p i x)
 
 -- and its slice is the bad one of the k that the excess names
-pub eight-slice : (p : Plan) →
+pub eight-slice : (p : Plan) (k : ℕ) →
     let a = judged p .answer in
-    number a ≡ 8 → (k : ℕ) × (Names p (place a) (excess a) k) × (BadSlice p (place a) k (slice a))
-eight-slice p t =
+    number a ≡ 8 → Names p (place a) (excess a) k → BadSlice p (place a) k (slice a)
+eight-slice p k t named =
     let a = judged p .answer in
     let s = told-eight p t in
-    rw (s .2) (refused-slice p (s .0) (place a) (excess a) (s .1))
+    rw (s .2) (refused-slice p (s .0) (place a) (excess a) (s .1) k named)
+
+-- or 0 where it names none
+pub eight-no-slice : (p : Plan) →
+    let a = judged p .answer in
+    number a ≡ 8 → ((k : ℕ) → Allows p (place a) (kindOf p (place a) .length - excess a) k → ⊥) → slice a ≡ 0
+eight-no-slice p t none =
+    let a = judged p .answer in
+    let s = told-eight p t in
+    s .2 ∙ refused-no-slice p (s .0) (place a) (excess a) (s .1) none

@@ -1,10 +1,11 @@
 -- Document 02 (i), as statements: what it means that a budget serves a project, that it is the least, and that none serves.
 -- Assumes nothing.
 use mathlib.Core.Path.{_≡_}
-use Prim.Native.Nat.{ℕ, _+_, _≤_, _<_}
+use Prim.Native.Nat.{ℕ, _+_, _-_, _*_, _≤_, _<_}
 use Rattle.plan.specs.declared.Plan.{Plan}
 use Rattle.plan.specs.Order.{kindOf}
 use Rattle.supply.specs.Supply.{supply}
+use Rattle.workload.specs.Workload.{workload}
 use Rattle.verdict.specs.Admission.{asked, Width}
 use Rattle.smallest_budget.specs.Smallest.{heldWith, mostBudget}
 pub mod Written
@@ -32,11 +33,18 @@ pub record Least (p : Plan) (j b : ℕ) : Type 0 where
   pub serves : Serves p j b
   pub least : (c : ℕ) → 0 < c → Serves p j c → b ≤ c
 
--- "8 .. (place and excess at qF)": kind i is the project's first with no k at qF, and x its excess there
+-- "kC' + W <= S(k,D)", for k in 1..q, where project j has a budget of b: k allows kind i a length of c
+pub record AllowsWith (p : Plan) (j b i c k : ℕ) : Type 0 where
+  pub width : Width p i k
+  pub room : k * c + workload p i ≤ givenWith p j b i k
+
+-- "8 .. (place and excess at qF)": kind i is the project's first with no k at qF, and x its excess there: C - x is allowed, or nothing of
+-- at least 1, and nothing longer is
 pub record NotServed (p : Plan) (j i x : ℕ) : Type 0 where
   pub its-kind : i < p .kinds
   pub its-project : kindOf p i .project ≡ j
   pub first : (h : ℕ) → h < i → kindOf p h .project ≡ j → (k : ℕ) × FitsWith p j (mostBudget p j) h k
   pub no-width : (k : ℕ) → FitsWith p j (mostBudget p j) i k → ⊥
-  pub least : (k : ℕ) → Width p i k → givenWith p j (mostBudget p j) i k + x ≤ asked p i k
-  pub attained : (k : ℕ) × (Width p i k) × (givenWith p j (mostBudget p j) i k + x ≡ asked p i k)
+  pub most : x ≤ kindOf p i .length
+  pub allowed : x < kindOf p i .length → (k : ℕ) × AllowsWith p j (mostBudget p j) i (kindOf p i .length - x) k
+  pub greatest : (c k : ℕ) → c ≤ kindOf p i .length → AllowsWith p j (mostBudget p j) i c k → c + x ≤ kindOf p i .length

@@ -26,7 +26,8 @@ use Rattle.layout.specs.Layout.{cellAt, firstCell, owns, held}
 use Rattle.layout.specs.Layout.Properties.{held-least}
 use Rattle.supply.specs.Supply.{window, supply}
 use Rattle.supply.specs.Workload.{workloadPart}
-use Rattle.supply.specs.Fit.{fitsAt, leastWidth, excessAt, leastExcess}
+use Rattle.supply.specs.Greatest.{greatestTo}
+use Rattle.supply.specs.Fit.{fitsAt, leastWidth, allowedLength, leastExcess}
 use Rattle.workload.specs.Workload.{besides, partOf, workload}
 use Rattle.verdict.specs.Verdict.{widthOf, excessOf, fitted, admitted, judged}
 use Rattle.unit.specs.declared.Unit.{Unit}
@@ -63,7 +64,7 @@ enoughCards = record {
 pub refused-all-the-same : let a = judged enoughCards .answer in (number a ≡ 8) × (place a ≡ 0) × (excess a ≡ 1)
 unfolding sumTo leastTo firstTo countTo allTo eachTo within sized emptyProject emptyKind tidyProjects tidyKinds inRange timed budgets
     sizes unused projectsInRange kindInRange kindsInRange budgetsFit ranges checked cellAt firstCell owns held window supply
-    workloadPart fitsAt leastWidth excessAt leastExcess besides partOf workload widthOf excessOf fitted admitted judged
+    workloadPart fitsAt leastWidth greatestTo allowedLength leastExcess besides partOf workload widthOf excessOf fitted admitted judged
 refused-all-the-same = (refl, refl, refl)
 
 order : InOrder enoughCards

@@ -28,7 +28,7 @@ use Rattle.layout.specs.declared.table.TableWritten.{TableWritten}
 use Rattle.layout.specs.Table.{tableAnswer, Tabled}
 use Rattle.verdict.specs.declared.Verdict.{Verdict}
 use Rattle.verdict.specs.Verdict.{ceilingOn, judged}
-use Rattle.verdict.specs.Admission.{given, Fits, NotAdmitted}
+use Rattle.verdict.specs.Admission.{Fits, Allows, NotAdmitted}
 use Rattle.rack.specs.declared.State.{State}
 use Rattle.rack.specs.declared.Next.{Next}
 use Rattle.rack.specs.State.{noState, unitOf}
@@ -59,6 +59,7 @@ use Rattle.demands.specs.Uses.Figures.{oneSlice, running, longer, both, 
 pub mod Figures
 pub mod Worst
 pub mod BadSlices
+pub mod Advice
 pub mod Smallest
 
 -- ---- demand 1: one outcome, and a refusal that changes nothing
@@ -209,11 +210,9 @@ not-admitted good =
 pub two-at-least : (k : ℕ) → Fits planB 0 k → 2 ≤ k
 two-at-least k fits = omega (arith, least-given planB (verdicts .good-B) 0 (omega arith) .1 k fits, verdicts .width-B)
 
--- 8, place 0, excess 1: at k 1 the seven slices asked are exactly one more than the supply
-pub one-too-many : given longer 0 1 + 1 ≤ 7
-one-too-many =
-    let refused = refused-when longer 0 1 .0 (verdicts .eight) .1 in
-    omega (arith, refused .excess .least 1 (record { some = omega arith; most = omega arith }), verdicts .asked-longer)
+-- 8, place 0, excess 1: no more than six of the seven slices are allowed
+pub six-at-most : (c k : ℕ) → c ≤ 7 → Allows longer 0 c k → c ≤ 6
+six-at-most c k l a = omega (arith, refused-when longer 0 1 .0 (verdicts .eight) .1 .excess .greatest c k l a)
 
 -- and the other way round
 pub told-by-eight : let a = judged longer .answer in (number a ≡ 8) × (place a ≡ 0) × (excess a ≡ 1)
@@ -227,14 +226,27 @@ told-by-eight = refused-when longer 0 1 .1 (in-order longer (verdicts .order-lon
         let room = rw (only-one k (f .width .some) (f .width .most)) at (f .room) in
         omega (arith, room, verdicts .asked-longer, verdicts .given-longer)
 
+    longest : (c k : ℕ) → c ≤ 7 → Allows longer 0 c k → c + 1 ≤ 7
+    longest c k l a =
+        let room = rw (only-one k (a .width .some) (a .width .most)) at (a .room) in
+        omega (arith, room, verdicts .asked-longer, verdicts .given-longer)
+
     first : NotAdmitted longer 0 1
     first = record {
       its-kind = omega arith;
       first = λ j l. absurd (omega arith);
       no-width = none;
       excess = record {
-        least = λ k w. rw (only-one k (w .some) (w .most)) (omega (arith, verdicts .asked-longer, verdicts .given-longer));
-        attained = (1, record { some = omega arith; most = omega arith }, omega (arith, verdicts .asked-longer, verdicts .given-longer));
+        most = omega arith;
+        allowed =
+            λ l. (
+              1,
+              record {
+                width = record { some = omega arith; most = omega arith };
+                room = omega (arith, verdicts .asked-longer, verdicts .given-longer);
+              },
+            );
+        greatest = longest;
       };
     }
 

@@ -5,29 +5,31 @@ use mathlib.Core.Path.{_≡_}
 use mathlib.Core.Logic.{_≢_, _↔_}
 use mathlib.Core.Bool.{true}
 use mathlib.Core.List.{List, _++_}
-use Prim.Native.Nat.{ℕ, suc, _≤_, _<_}
+use Prim.Native.Nat.{ℕ, suc, _-_, _≤_, _<_}
 use native.Mathlib.Omega.{arith}
 use lib.ListN.{getD, take}
 use Rattle.laws.specs.Count.{countTo}
 use Rattle.answer.specs.declared.Answer.the-variants.{Good}
 use Rattle.answer.specs.Answer.{number, place, excess, slice}
 use Rattle.plan.specs.declared.Plan.{Plan}
-use Rattle.plan.specs.Order.{InOrder, checked}
+use Rattle.plan.specs.Order.{kindOf, InOrder, checked}
 use Rattle.codec.specs.Bytes.{AreBytes}
 use Rattle.plan_bytes.specs.Parts.{Shaped, encoded, size}
 use Rattle.plan_bytes.specs.Reading.{readOf}
 use Rattle.plan_bytes.specs.RoundTrip.{read-written, written-read, one-encoding}
 use Rattle.layout.specs.Layout.{held}
 use Rattle.verdict.specs.Verdict.{judged}
-use Rattle.verdict.specs.Admission.{Fits, NotAdmitted, BadSlice, Names}
+use Rattle.verdict.specs.Admission.{Fits, Allows, NotAdmitted, BadSlice, Names}
 use Rattle.verdict.specs.Admission.Properties.{admitted-exactly, given-fits, given-least, given-slice, bad-one}
+use Rattle.verdict.specs.Advice.{withLength}
+use Rattle.verdict.specs.Advice.Properties.{advice}
 use Rattle.rack.specs.declared.State.{State}
 use Rattle.rack.specs.State.{unitOf, kindAt}
 use Rattle.rack.specs.Form.{Ready}
 use Rattle.rack.specs.Rank.{working, activeKinds, outranks, rank}
 use Rattle.rack.specs.Row.{holds, rowByte}
 use Rattle.rack.specs.Row.Properties.{stands-held, stands-first, stands-ascending, cards-used}
-use Rattle.demands.specs.Eight.{eight-exactly, eight-slice}
+use Rattle.demands.specs.Eight.{eight-exactly, eight-slice, eight-no-slice}
 use Rattle.demands.specs.Stands.{stands-says, stands-of, enough-stand}
 
 -- ---- 1. A plan is admitted exactly when the published comparison holds for every unit kind, on the slices the layout really gives
@@ -48,17 +50,34 @@ pub refused-when : (p : Plan) (i x : ℕ) →
     ((number a ≡ 8) × (place a ≡ i) × (excess a ≡ x)) ↔ (InOrder p × NotAdmitted p i x)
 refused-when = eight-exactly
 
+-- the excess is right advice: with the length of the kind that is refused changed to any c of 1..C it has a k exactly when c <= C - x.
+-- Shorter by the excess is enough where that leaves at least 1, by less never is, and where it is the whole C no length of at least 1 fits
+pub advice-right : (p : Plan) (i x c : ℕ) →
+    let a = judged p .answer in
+    let length = kindOf p i .length in
+    (number a ≡ 8) × (place a ≡ i) × (excess a ≡ x) →
+    0 < c →
+    c ≤ length →
+    ((k : ℕ) × Fits (withLength p i c) i k) ↔ (c ≤ length - x)
+advice-right p i x c told = let t = refused-when p i x .0 told in advice p i x c (t .0) (t .1)
+
 -- "every verdict .. should pass that slice on for the k it names": beside each k stands the earliest slice of the frame from which a
 -- unit sees exactly S(k,D), on the cards that the layout really gives
 pub slice-beside : (p : Plan) → judged p .answer ≡ Good → (i : ℕ) → i < p .kinds →
     BadSlice p i (getD (judged p .width) i 0) (getD (judged p .slice) i 0)
 slice-beside = given-slice
 
--- ".. and excess .. (the least k on equal excess)"
-pub slice-of-excess : (p : Plan) →
+-- ".. and excess": "that of the least k that allows C'"
+pub slice-of-excess : (p : Plan) (k : ℕ) →
     let a = judged p .answer in
-    number a ≡ 8 → (k : ℕ) × (Names p (place a) (excess a) k) × (BadSlice p (place a) k (slice a))
+    number a ≡ 8 → Names p (place a) (excess a) k → BadSlice p (place a) k (slice a)
 slice-of-excess = eight-slice
+
+-- ", or 0 without one"
+pub no-slice-of-excess : (p : Plan) →
+    let a = judged p .answer in
+    number a ≡ 8 → ((k : ℕ) → Allows p (place a) (kindOf p (place a) .length - excess a) k → ⊥) → slice a ≡ 0
+no-slice-of-excess = eight-no-slice
 
 -- there is one such slice
 pub one-slice : (p : Plan) → InOrder p → (i k a b : ℕ) → BadSlice p i k a → BadSlice p i k b → a ≡ b

@@ -24,7 +24,8 @@ use Rattle.layout.specs.Cards.{heldFrom}
 use Rattle.layout.specs.Layout.{cellAt, firstCell, owns, slotOf, held}
 use Rattle.supply.specs.Supply.{window, supply}
 use Rattle.supply.specs.Workload.{workloadPart}
-use Rattle.supply.specs.Fit.{fitsAt, leastWidth, excessAt, leastExcess}
+use Rattle.supply.specs.Greatest.{greatestTo}
+use Rattle.supply.specs.Fit.{fitsAt, leastWidth, allowedLength, leastExcess}
 use Rattle.workload.specs.Workload.{besides, partOf, workload}
 use Rattle.verdict.specs.Verdict.{widthOf, excessOf, fitted, admitted}
 use Rattle.unit.specs.Form.{untouched, underway, unitInForm, emptyUnit}
@@ -60,12 +61,12 @@ output = ascii "plan ok\nr 0 6 ok\nr 1 2 ok\nr 2 2 ok\nt 0: 1 2\nt 1: 1 2\nt 2: 
 
 pub example : played input ≡ output
 unfolding sumTo leastTo firstTo countTo allTo written rankIn firstIn sooner eachTo within sized emptyProject emptyKind tidyProjects
-    tidyKinds inRange timed budgets sizes unused projectsInRange kindInRange kindsInRange budgetsFit ranges checked unpack numberTo size
-    partsTo headerFields projectFields kindFields projectFrom kindFrom projectsFrom kindsFrom headed decoded headerSpare projectSpare
-    kindSpare projectsSpare kindsSpare placesSpare spareZero bodyAnswer readAnswer readOf cellAt heldFrom firstCell owns slotOf held window
-    supply workloadPart fitsAt leastWidth excessAt leastExcess besides partOf workload widthOf excessOf fitted admitted untouched underway
-    unitInForm emptyUnit early startable inForm ready gone due working active outranks hasCard cardsHeld rankOf chosen takesCard byteOn
-    viewOf rank served byteBy rowByte startAnswer startOf releaseAnswer released releaseOf unitAfter advanced timeLeft roomFor sliceAnswer
-    sliceOf commandFields fieldsSay commandOf decimalIn decimal planLine outcome releaseLine rowText sliceLine endLine lineOf after turns
-    opening played
+    tidyKinds inRange timed budgets sizes unused projectsInRange kindInRange kindsInRange budgetsFit ranges checked unpack numberTo
+    size partsTo headerFields projectFields kindFields projectFrom kindFrom projectsFrom kindsFrom headed decoded headerSpare
+    projectSpare kindSpare projectsSpare kindsSpare placesSpare spareZero bodyAnswer readAnswer readOf cellAt heldFrom firstCell
+    owns slotOf held window supply workloadPart fitsAt leastWidth greatestTo allowedLength leastExcess besides partOf workload
+    widthOf excessOf fitted admitted untouched underway unitInForm emptyUnit early startable inForm ready gone due working active
+    outranks hasCard cardsHeld rankOf chosen takesCard byteOn viewOf rank served byteBy rowByte startAnswer startOf releaseAnswer
+    released releaseOf unitAfter advanced timeLeft roomFor sliceAnswer sliceOf commandFields fieldsSay commandOf decimalIn decimal
+    planLine outcome releaseLine rowText sliceLine endLine lineOf after turns opening played
 example = refl

@@ -1,7 +1,7 @@
 -- Moving a project's first cell only turns the cards that it holds, and never alters its supply.
 -- Assumes nothing.
-use mathlib.Core.Path.{_≡_, refl, sym, ap, _∙_}
-use mathlib.Core.Bool.{Bool, true, false}
+use mathlib.Core.Path.{_≡_, refl, sym, ap, _∙_, fun-ext}
+use mathlib.Core.Bool.{Bool, true, false, not}
 use Prim.Native.Nat.{ℕ, zero, suc, _+_, _-_, _*_, _%_, _<_, min}
 use native.Mathlib.Nat.{zero-add, mod-zero, mod-add-mod, add-mul-mod-self-right}
 use native.Mathlib.Omega.{arith}
@@ -15,7 +15,8 @@ use Rattle.layout.specs.Cards.{heldFrom}
 use Rattle.layout.specs.Cards.Properties.{run-period}
 use Rattle.supply.specs.Supply.{window, supply}
 use Rattle.supply.specs.Supply.Properties.{window-turn}
-use Rattle.supply.specs.Fit.{fitsAt, leastWidth, excessAt, leastExcess}
+use Rattle.supply.specs.Greatest.{greatestTo}
+use Rattle.supply.specs.Fit.{fitsAt, leastWidth, allowedLength, leastExcess}
 use Rattle.smallest_budget.specs.Turning.{least-turned}
 
 -- ---- cells of one slice, as many cells later
@@ -93,10 +94,10 @@ module _ (first other budget frame C W D : ℕ) where
       first-cong q (fitsAt frame (heldFrom first budget frame) C W D) (fitsAt frame (heldFrom other budget frame) C W D)
       (λ k p l. ap (λ (s : ℕ). leb (k * C + W) s) (supply-anywhere first other budget frame k D))
 
+module _ (first other budget frame C W D : ℕ) where
   pub excess-anywhere : (q : ℕ) →
       leastExcess frame (heldFrom first budget frame) C W D q ≡ leastExcess frame (heldFrom other budget frame) C W D q
-  unfolding leastExcess excessAt
+  unfolding leastExcess allowedLength
   excess-anywhere q =
-      least-cong q (λ j. excessAt frame (heldFrom first budget frame) C W D (j + 1))
-      (λ j. excessAt frame (heldFrom other budget frame) C W D (j + 1))
-      (λ j l. ap (λ (s : ℕ). (j + 1) * C + W - s) (supply-anywhere first other budget frame (j + 1) D))
+      ap (λ (f : ℕ → Bool). C - greatestTo C f)
+      (fun-ext (λ c. ap (λ (w : ℕ). not (eqb w 0)) (width-anywhere first other budget frame c W D q)))

@@ -31,7 +31,7 @@ module _ (p : Plan) (j : ℕ) where
   widthWith b i =
       leastWidth (p .frame) (heldWith b) (kindOf p i .length) (workload p i) (kindOf p i .deadline) (projectOf p j .ceiling)
 
-  -- "its excess is the least, over k, of kCi + W - S(k,Di)", with a budget of b
+  -- its excess: "C minus the greatest C' of at least 0 with kC' + W <= S(k,D) for some k, or the whole C", with a budget of b
   unfoldable pub excessWith : ℕ → ℕ → ℕ
   excessWith b i =
       leastExcess (p .frame) (heldWith b) (kindOf p i .length) (workload p i) (kindOf p i .deadline) (projectOf p j .ceiling)

@@ -1,14 +1,15 @@
--- Document 01, "Supply and verdict": whether a unit fits at k, the least such k, and the excess. Document 001's equation 4. And the bad
--- slice beside them: document 02's (ii).
+-- Document 01, "Supply and verdict": whether a unit fits at k, and the least such k. Document 001's equation 4. The excess is that of
+-- document 02's (iii), and the bad slice beside them its (ii).
 -- Assumes nothing.
-use Prim.Native.Nat.{ℕ, zero, suc, _+_, _-_, _*_, _%_}
-use mathlib.Core.Bool.{Bool, cond, _||_}
+use Prim.Native.Nat.{ℕ, zero, suc, _+_, _-_, _*_, _/_, _%_}
+use mathlib.Core.Bool.{Bool, cond, not, _||_}
 use mathlib.Core.List.{List}
 use lib.Dec.{eqb, leb, ltb}
 use lib.ListN.{getD}
 use Rattle.laws.specs.Least.{leastTo, leastPlace}
 use Rattle.laws.specs.First.{firstTo}
 use Rattle.supply.specs.Supply.{supply, badSlice}
+use Rattle.supply.specs.Greatest.{greatestTo}
 use Rattle.supply.specs.declared.Fit.{Fit}
 use Rattle.supply.specs.declared.Least.{Least}
 pub mod Properties
@@ -22,22 +23,18 @@ module _ (frame : ℕ) (h : ℕ → ℕ) (length workload deadline : ℕ) where
   unfoldable pub leastWidth : ℕ → ℕ
   leastWidth ceiling = firstTo ceiling fitsAt
 
-  -- "kCi + W - S(k,Di)"
-  unfoldable pub excessAt : ℕ → ℕ
-  excessAt k = k * length + workload - supply frame h k deadline
+module _ (frame : ℕ) (h : ℕ → ℕ) (length workload deadline : ℕ) where
+  -- "the greatest C' of at least 0 with kC' + W <= S(k,D) for some k"; 0 also where there is none
+  unfoldable pub allowedLength : ℕ → ℕ
+  allowedLength ceiling = greatestTo length (λ c. not (eqb (leastWidth frame h c workload deadline ceiling) 0))
 
-  -- "the least, over k, of kCi + W - S(k,Di)"
+  -- "excess as C minus the greatest C' .., or the whole C where there is none"
   unfoldable pub leastExcess : ℕ → ℕ
-  leastExcess ceiling = leastTo ceiling (λ j. excessAt (j + 1))
+  leastExcess ceiling = length - allowedLength ceiling
 
-  -- the k that the excess names: "the least k on equal excess"; 0 where there is none
-  unfoldable pub excessWidth : ℕ → ℕ
-  excessWidth zero = 0
-  excessWidth (suc n) = leastPlace (suc n) (λ j. excessAt (j + 1)) + 1
-
-  -- the k that is named: the least that fits, or else that of the excess
+  -- "the least k that allows C'": C itself where it fits; 0 where there is none
   unfoldable pub namedWidth : ℕ → ℕ
-  namedWidth ceiling = cond (eqb (leastWidth ceiling) 0) (excessWidth ceiling) (leastWidth ceiling)
+  namedWidth ceiling = leastWidth frame h (allowedLength ceiling) workload deadline ceiling
 
   -- "every verdict and excess should pass that slice on for the k it names"
   unfoldable pub namedSlice : ℕ → ℕ
@@ -68,13 +65,27 @@ fitOf frame held ceiling length workload deadline =
 abbrev pub leastWith : ℕ → Least → ℕ → ℕ → Least
 leastWith i least value slice = cond (eqb i 0 || ltb value (least .value)) (record { value = value; slice = slice }) least
 
+-- the least of f over n places, and what g has for the first that attains it
+abbrev pub leastOf : ℕ → (ℕ → ℕ) → (ℕ → ℕ) → Least
+leastOf n f g = record { value = leastTo n f; slice = g (leastPlace n f) }
+
 -- the supply over the first n starts, and its bad slice
 abbrev pub suppliedTo : ℕ → (ℕ → ℕ) → ℕ → ℕ → Least
 suppliedTo n h k t = record { value = supply n h k t; slice = badSlice n h k t }
 
--- the excess over the k of 1..n, and its bad slice
-abbrev pub exceededTo : ℕ → (ℕ → ℕ) → ℕ → ℕ → ℕ → ℕ → Least
-exceededTo frame h length workload deadline n = record {
-  value = leastExcess frame h length workload deadline n;
-  slice = badSlice frame h (excessWidth frame h length workload deadline n) deadline;
-}
+-- how much longer a unit is than k allows, with the bad slice of k; where k allows not even 0, one more than the whole, and no slice
+abbrev pub shortBy : ℕ → ℕ → ℕ → ℕ → ℕ → Least
+shortBy k length workload supply slice =
+    cond (ltb supply workload)
+    (record { value = length + 1; slice = 0 })
+    (record { value = length - (supply - workload) / k; slice = slice })
+
+module _ (frame : ℕ) (h : ℕ → ℕ) (length workload deadline : ℕ) where
+  -- the same on the cards held
+  unfoldable pub shortAt : ℕ → Least
+  shortAt k = shortBy k length workload (supply frame h k deadline) (badSlice frame h k deadline)
+
+  -- the least of them over the k of 1..n
+  unfoldable pub shortTo : ℕ → Least
+  shortTo zero = record { value = length + 1; slice = 0 }
+  shortTo (suc n) = leastOf (suc n) (λ j. shortAt (j + 1) .value) (λ j. shortAt (j + 1) .slice)

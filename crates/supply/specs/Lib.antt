@@ -2,5 +2,6 @@
 -- Assumes nothing.
 pub mod Supply
 pub mod Workload
+pub mod Greatest
 pub mod Fit
 pub mod OneOutcome

@@ -6,7 +6,7 @@ ghost use Prim.Native.Nat.{_+_, _*_, _≤_, _<_, min};
 ghost use lib.ListN.{replicate};
 ghost use Rattle.laws.specs.Written.{written};
 ghost use Rattle.supply.specs.Workload.{workloadPart};
-ghost use Rattle.supply.specs.Fit.{heldAt, leastWith, fitOf};
+ghost use Rattle.supply.specs.Fit.{heldAt, leastWith, shortBy, fitOf};
 
 // The least k at which a unit fits, or 0 where there is none, and then the excess. Document 01's
 // k is a width here: the most cards that count at one slice. The slice is the bad one to arrive in,
@@ -87,6 +87,30 @@ fn asked(width: u8, length: u16, workload: u32) -> usize
     product(width as usize, length as usize) + workload as usize
 }
 
+// How much longer a unit is than this width allows, with the width's bad slice: C minus the greatest
+// C' with kC' + W <= S(k,D). A width that allows not even 0 counts as one slice more than the
+// whole, with no slice.
+fn short_by(width: u8, length: u16, workload: u32, supply: usize, slice: u8) -> Least
+    requires { ⌜ 0 < width ⌝ }
+    ensures { λ r. ⌜ (r ≡ shortBy width length workload supply slice) × (r .value ≤ 65536) ⌝ }
+{
+    let length = length as usize;
+    let workload = workload as usize;
+    if supply < workload {
+        let beyond = length + 1;
+        return Least {
+            value: beyond,
+            slice: 0,
+        };
+    }
+    let allowed = (supply - workload) / width as usize;
+    let short = length - lesser(allowed, length);
+    Least {
+        value: short,
+        slice,
+    }
+}
+
 // The cards held at each slice of two frames in a row: a window that starts in the first needs no
 // remainder.
 fn two_frames(held: [u8; 64], frame: usize) -> [u8; 128]
@@ -131,8 +155,13 @@ pub fn least_fit(
     let frames = (deadline as usize) / slices;
     let rest = (deadline as usize) % slices;
     let cards = two_frames(held, slices);
+    let beyond = length as usize + 1;
     let mut found: u8 = 0;
-    let mut excess = Least { value: 0, slice: 0 };
+    let mut excess = length as usize;
+    let mut short = Least {
+        value: beyond,
+        slice: 0,
+    };
     'widths: for below in 0..ceiling {
         let width = below + 1;
         let mut one_frame: u16 = 0;
@@ -149,17 +178,20 @@ pub fn least_fit(
         let asked = asked(width, length, workload);
         if asked <= supply {
             found = width;
-            excess = Least {
+            excess = 0;
+            short = Least {
                 value: 0,
                 slice: least.slice,
             };
             break 'widths;
         }
-        excess = least_with(below as usize, excess, asked - supply, least.slice);
+        let here = short_by(width, length, workload, supply, least.slice);
+        short = least_with(below as usize, short, here.value, here.slice);
+        excess = lesser(short.value, length as usize);
     }
     Fit {
         width: found,
-        excess: excess.value as u64,
-        slice: excess.slice,
+        excess: excess as u64,
+        slice: short.slice,
     }
 }

@@ -17,6 +17,7 @@ use Rattle.plan_bytes.specs.Parts.{encoded}
 use Rattle.plan_bytes.specs.Reading.{readOf}
 use Rattle.verdict.specs.declared.Verdict.{Verdict}
 use Rattle.verdict.specs.Verdict.{judged}
+use Rattle.verdict.specs.Advice.{withLength}
 use Rattle.smallest_budget.specs.declared.Smallest.{Smallest}
 use Rattle.smallest_budget.specs.Smallest.{smallestOf}
 use Rattle.answer.specs.declared.Answer.the-variants.{Good}
@@ -95,8 +96,11 @@ pub record Table : Type 0 where
   -- "P8 B is admitted with k 2, 1, 1."
   pub P8 : figures (judged planB) ≡ admittedWith 2 1 1
   pub P8-slices : badSlices (judged planB) ≡ besideEach 0 0 0
-  -- "P9 .. from 000's opening example: 8, place 0, excess 4."
-  pub P9 : figures (judged opening) ≡ refusedWith 8 0 4
+  -- "Give plan B's kind 0 length 3. We report an excess of 3, yet length 1 fits, so the unit was 2 too long."
+  pub P8-longer : figures (judged (withLength planB 0 3)) ≡ refusedWith 8 0 2
+  pub P8-longer-slice : badSlices (judged (withLength planB 0 3)) ≡ besideExcess 0
+  -- "P9 .. from 000's opening example: 8, place 0", and "P9 becomes 2"
+  pub P9 : figures (judged opening) ≡ refusedWith 8 0 2
   pub P9-slice : badSlices (judged opening) ≡ besideExcess 0
   -- "P10 A with budgets 3 and 6: 7."
   pub P10 : figures (judged (likeA 3 6 (kind 0 8 8 6))) ≡ refusedWith 7 0 0
@@ -115,8 +119,8 @@ pub record Table : Type 0 where
   pub S4 : least (smallestOf (guessed 3) 1) ≡ found 4
   -- S5 A has no project 2: 27.
   pub S5 : least (smallestOf planA 2) ≡ unfound 27 0 0
-  -- S6 000's opening example does not fit even with both cards at every slice: 8, place 0, excess 4.
-  pub S6 : least (smallestOf opening 0) ≡ unfound 8 0 4
+  -- S6 000's opening example does not fit even with both cards at every slice: 8, place 0, excess 2.
+  pub S6 : least (smallestOf opening 0) ≡ unfound 8 0 2
   -- S7 A with kind 0 as (1,8,8,1) and budget 2 for project 0: project 1 needs 7 of 8 cells, so 7.
   pub S7 : least (smallestOf (likeA 2 5 (kind 1 8 8 1)) 1) ≡ unfound 7 0 0
   -- S8 Project 0 then has no kinds: 1.

@@ -115,18 +115,27 @@ fn smallest(case: &[u8], plan: Plan, project: usize) {
     end_line();
 }
 
-// The supply at k cards and a length: with no length of its own to ask for, a unit's workload
-// exceeds the supply by what the excess says.
-fn supply(held: [u8; 64], k: u8, length: u16) {
-    let fit = supply::least_fit(held, 4, k, 0, 1000, length);
-    if fit.excess <= 1000 {
-        space(1000 - fit.excess);
-    }
+// 1 where the supply at k cards and a length meets a workload, and else 0: then a unit of no length
+// of its own fits.
+fn met(held: [u8; 64], k: u8, workload: u32, length: u16) -> u64
+    ensures { λ r. ⌜ r ≤ 1 ⌝ }
+{
+    let fit = supply::least_fit(held, 4, k, 0, workload, length);
+    if fit.width == 0 { 0 } else { 1 }
 }
 
-// The bad slice of one card and a length.
+// The supply at k cards and a length: as many workloads from 1 on are met.
+fn supply(held: [u8; 64], k: u8, length: u16) {
+    let mut sum: u64 = 0;
+    for below in 0..16 {
+        sum += met(held, k, below + 1, length);
+    }
+    space(sum);
+}
+
+// The bad slice of one card and a length, at which a unit that asks for nothing fits.
 fn bad_slice(held: [u8; 64], length: u16) {
-    let fit = supply::least_fit(held, 4, 1, 0, 1000, length);
+    let fit = supply::least_fit(held, 4, 1, 0, 0, length);
     space(fit.slice as u64);
 }
 
@@ -238,6 +247,10 @@ fn main() {
     verdict(
         b"P8",
         one_project(4, 8, kind(0, 4, 4, 1), kind(0, 8, 8, 3), kind(0, 8, 8, 2)),
+    );
+    verdict(
+        b"P8 longer",
+        one_project(4, 8, kind(0, 4, 4, 3), kind(0, 8, 8, 3), kind(0, 8, 8, 2)),
     );
     verdict(
         b"P9",

@@ -1,8 +1,8 @@
--- Document 01, "Supply and verdict", as statements: what admitting a plan, giving a k and refusing with 8 mean. And document 02's (ii):
--- which slice is the bad one to arrive in.
+-- Document 01, "Supply and verdict", as statements: what admitting a plan, giving a k and refusing with 8 mean. The excess is that of
+-- document 02's (iii). And its (ii): which slice is the bad one to arrive in.
 -- Assumes nothing.
 use mathlib.Core.Path.{_≡_}
-use Prim.Native.Nat.{ℕ, _+_, _*_, _≤_, _<_}
+use Prim.Native.Nat.{ℕ, _+_, _-_, _*_, _≤_, _<_}
 use Rattle.plan.specs.declared.Plan.{Plan}
 use Rattle.plan.specs.Order.{kindOf}
 use Rattle.supply.specs.Supply.{window}
@@ -28,10 +28,17 @@ pub record Fits (p : Plan) (i k : ℕ) : Type 0 where
   pub width : Width p i k
   pub room : asked p i k ≤ given p i k
 
--- "the least, over k, of kCi + W - S(k,Di)": none is less, and one is it
+-- "kC' + W <= S(k,D)", for k in 1..q: k allows kind i a length of c
+pub record Allows (p : Plan) (i c k : ℕ) : Type 0 where
+  pub width : Width p i k
+  pub room : k * c + workload p i ≤ given p i k
+
+-- "C minus the greatest C' of at least 0 with kC' + W <= S(k,D) for some k, or the whole C where there is none": C - x is allowed, or
+-- nothing of at least 1, and nothing longer is
 pub record Excess (p : Plan) (i x : ℕ) : Type 0 where
-  pub least : (k : ℕ) → Width p i k → given p i k + x ≤ asked p i k
-  pub attained : (k : ℕ) × (Width p i k) × (given p i k + x ≡ asked p i k)
+  pub most : x ≤ kindOf p i .length
+  pub allowed : x < kindOf p i .length → (k : ℕ) × Allows p i (kindOf p i .length - x) k
+  pub greatest : (c k : ℕ) → c ≤ kindOf p i .length → Allows p i c k → c + x ≤ kindOf p i .length
 
 -- "8: not admitted: first kind with no k, with its excess"
 pub record NotAdmitted (p : Plan) (i x : ℕ) : Type 0 where
@@ -52,8 +59,7 @@ pub record BadSlice (p : Plan) (i k a : ℕ) : Type 0 where
   pub earliest : (b : ℕ) → b < a → given p i k < seen p i k b
   pub least : (b : ℕ) → given p i k ≤ seen p i k b
 
--- "for the k it names (the least k on equal excess)": the excess x of kind i names k
+-- "the least k that allows C'": the excess x of kind i names k
 pub record Names (p : Plan) (i x k : ℕ) : Type 0 where
-  pub width : Width p i k
-  pub its-excess : given p i k + x ≡ asked p i k
-  pub first : (j : ℕ) → 0 < j → j < k → given p i j + x < asked p i j
+  pub allows : Allows p i (kindOf p i .length - x) k
+  pub first : (j : ℕ) → j < k → Allows p i (kindOf p i .length - x) j → ⊥

@@ -2,5 +2,6 @@
 -- Assumes nothing.
 pub mod Verdict
 pub mod Admission
+pub mod Advice
 pub mod Steps
 pub mod OneOutcome

@@ -35,7 +35,7 @@ supplyOn p i = supply (p .frame) (heldOn p i)
 unfoldable pub widthOf : Plan → ℕ → ℕ
 widthOf p i = leastWidth (p .frame) (heldOn p i) (kindOf p i .length) (workload p i) (kindOf p i .deadline) (ceilingOn p i)
 
--- "its excess is the least, over k, of kCi + W - S(k,Di)"
+-- its excess: "C minus the greatest C' of at least 0 with kC' + W <= S(k,D) for some k, or the whole C where there is none"
 unfoldable pub excessOf : Plan → ℕ → ℕ
 excessOf p i = leastExcess (p .frame) (heldOn p i) (kindOf p i .length) (workload p i) (kindOf p i .deadline) (ceilingOn p i)
 

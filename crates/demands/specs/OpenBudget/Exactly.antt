@@ -4,7 +4,7 @@ use mathlib.Core.Path.{_≡_, refl, sym, ap, _∙_}
 use mathlib.Core.Logic.{_≢_}
 use mathlib.Core.Bool.{Bool, true, false, not, _&&_, false≢true}
 use mathlib.Core.List.{List, [], _∷_}
-use Prim.Native.Nat.{ℕ, _*_, _≤_, _<_}
+use Prim.Native.Nat.{ℕ, _-_, _*_, _≤_, _<_}
 use native.Mathlib.Decide.{decLt}
 use native.Mathlib.Omega.{arith}
 use lib.Dec.{ltb}
@@ -19,7 +19,7 @@ use Rattle.answer.specs.Answer.Properties.{refuse-good}
 use Rattle.answer.specs.Numbers.{among, Numbered}
 use Rattle.answer.specs.Numbers.Properties.{andThen-numbered}
 use Rattle.plan.specs.declared.Plan.{Plan}
-use Rattle.plan.specs.Order.{projectOf, budgets, tidyProject, tidyKind, tidyProjects, tidyKinds, Sized, sizes, unused, kindsInRange}
+use Rattle.plan.specs.Order.{projectOf, kindOf, budgets, tidyProject, tidyKind, tidyProjects, tidyKinds, Sized, sizes, unused, kindsInRange}
 use Rattle.plan.specs.Order.Properties.{sizes-says, sizes-of}
 use Rattle.plan.specs.Open.{withBudget, projectThere, projectsInRangeOpen, rangesOpen, checkedOpen, InOrderOpen}
 use Rattle.layout.specs.Layout.{firstCell}
@@ -119,9 +119,17 @@ eight-says p j i x =
         (o, rw (b, a) at (lacking-told p j h o y))
 
 -- two excesses are one
+excess-below : (p : Plan) (j i x y : ℕ) → NotServed p j i x → NotServed p j i y → x < y → ⊥
+excess-below p j i x y a b l =
+    let t = a .allowed (omega (arith, b .most)) in
+    omega (arith, b .most, b .greatest (kindOf p i .length - x) (t .0) (omega arith) (t .1))
+
 excess-one : (p : Plan) (j i x y : ℕ) → NotServed p j i x → NotServed p j i y → x ≡ y
 excess-one p j i x y a b =
-    omega (arith, a .attained .2, b .attained .2, a .least (b .attained .0) (b .attained .1), b .least (a .attained .0) (a .attained .1))
+    elim (decLt x y) [
+      | yes l ↦ absurd (excess-below p j i x y a b l)
+      | no l ↦ elim (decLt y x) [ yes m ↦ absurd (excess-below p j i y x b a m) | no m ↦ omega arith ]
+    ]
 
 pub eight-of : (p : Plan) (j i x : ℕ) → (InOrderOpen p j) × (NotServed p j i x) → Eight (smallestOf p j .answer) i x
 eight-of p j i x t =

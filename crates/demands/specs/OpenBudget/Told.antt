@@ -3,7 +3,7 @@
 use mathlib.Core.Path.{_≡_, refl, sym, ap, _∙_}
 use mathlib.Core.Logic.{_≢_}
 use mathlib.Core.Bool.{Bool, true, false, not, _&&_, true≢false, false≢true}
-use Prim.Native.Nat.{ℕ, _+_, _*_, _≤_, _<_}
+use Prim.Native.Nat.{ℕ, _+_, _-_, _*_, _≤_, _<_}
 use native.Mathlib.Decide.{decLe, decLt}
 use native.Mathlib.Omega.{arith}
 use lib.Dec.{eqb}
@@ -22,18 +22,17 @@ use Rattle.plan.specs.Order.{projectOf, kindOf, budgets}
 use Rattle.plan.specs.Order.{budgetsFit}
 use Rattle.plan.specs.Open.{withBudget, checkedOpen, InOrderOpen}
 use Rattle.plan.specs.Open.Properties.{open-order, open-order-good}
-use Rattle.supply.specs.Fit.{excessWidth}
-use Rattle.supply.specs.Fit.Properties.{width-most, width-fits, width-some, width-none, excess-most, excess-attained}
+use Rattle.supply.specs.Fit.{leastWidth}
+use Rattle.supply.specs.Fit.Properties.{width-most, width-fits, width-some, excess-within, excess-allows, excess-greatest}
 use Rattle.workload.specs.Workload.{workload}
 use Rattle.verdict.specs.Verdict.{ceilingOn}
-use Rattle.verdict.specs.Admission.{asked, Width}
 use Rattle.verdict.specs.Admission.Properties.{each-no}
 use Rattle.smallest_budget.specs.Smallest.{its, heldWith, widthWith, excessWith, sliceWith, lacks, serves, mostBudget, leastBudget}
 use Rattle.smallest_budget.specs.Smallest.{fittedWith, servedWith, servedAtMost, sumFits, smallestAnswer, smallestOf}
 use Rattle.smallest_budget.specs.Smallest.Properties.{served-serves, least-most}
 use Rattle.smallest_budget.specs.Steps.Properties.{most-some}
 use Rattle.demands.specs.Numbers.{openOrder, check-open-numbers}
-use Rattle.demands.specs.OpenBudget.{givenWith, FitsWith, Serves, Least, NotServed}
+use Rattle.demands.specs.OpenBudget.{FitsWith, Serves, Least, AllowsWith, NotServed}
 use Rattle.demands.specs.OpenBudget.Written.{fits-more}
 
 -- ---- one kind of the project, with a budget
@@ -62,36 +61,37 @@ module _ (p : Plan) (j b i : ℕ) where
       width-some (p .frame) (heldWith p j b) (kindOf p i .length) (workload p i) (kindOf p i .deadline) (projectOf p j .ceiling) k
       (f .width .some) (omega (arith, ceiling-own own, f .width .most)) (f .room)
 
-  -- where it has none, its excess
-  excess-least : kindOf p i .project ≡ j → widthWith p j b i ≡ 0 → (k : ℕ) → Width p i k →
-      givenWith p j b i k + excessWith p j b i ≤ asked p i k
-  unfolding widthWith excessWith
-  excess-least own none k w =
-      let C = kindOf p i .length in
-      let W = workload p i in
-      let D = kindOf p i .deadline in
-      let q = projectOf p j .ceiling in
-      let m : k ≤ q = omega (arith, ceiling-own own, w .most) in
-      omega (
-        arith,
-        excess-most (p .frame) (heldWith p j b) C W D q k (w .some) m,
-        width-none (p .frame) (heldWith p j b) C W D q k none (w .some) m,
-      )
+  -- its excess
+  module _ (own : kindOf p i .project ≡ j) where
+    allows-gives : (c : ℕ) → 0 < leastWidth (p .frame) (heldWith p j b) c (workload p i) (kindOf p i .deadline) (projectOf p j .ceiling) →
+        (k : ℕ) × AllowsWith p j b i c k
+    allows-gives c l =
+        let W = workload p i in
+        let D = kindOf p i .deadline in
+        let q = projectOf p j .ceiling in (
+          leastWidth (p .frame) (heldWith p j b) c W D q,
+          record {
+            width = record { some = l; most = omega (arith, ceiling-own own, width-most (p .frame) (heldWith p j b) c W D q) };
+            room = width-fits (p .frame) (heldWith p j b) c W D q l;
+          },
+        )
 
-  excess-there : 0 < projectOf p j .ceiling → kindOf p i .project ≡ j → widthWith p j b i ≡ 0 →
-      (k : ℕ) × (Width p i k) × (givenWith p j b i k + excessWith p j b i ≡ asked p i k)
-  unfolding widthWith excessWith
-  excess-there some own none =
-      let C = kindOf p i .length in
-      let W = workload p i in
-      let D = kindOf p i .deadline in
-      let q = projectOf p j .ceiling in
-      let k = excessWidth (p .frame) (heldWith p j b) C W D q in
-      let t = excess-attained (p .frame) (heldWith p j b) C W D q some in (
-        k,
-        record { some = t .0; most = omega (arith, ceiling-own own, t .1) },
-        omega (arith, t .2, width-none (p .frame) (heldWith p j b) C W D q k none (t .0) (t .1)),
-      )
+    excess-whole : excessWith p j b i ≤ kindOf p i .length
+    unfolding excessWith
+    excess-whole =
+        excess-within (p .frame) (heldWith p j b) (kindOf p i .length) (workload p i) (kindOf p i .deadline) (projectOf p j .ceiling)
+
+    excess-allowed : excessWith p j b i < kindOf p i .length → (k : ℕ) × AllowsWith p j b i (kindOf p i .length - excessWith p j b i) k
+    unfolding excessWith
+    excess-allowed l =
+        allows-gives (kindOf p i .length - excessWith p j b i)
+        (excess-allows (p .frame) (heldWith p j b) (kindOf p i .length) (workload p i) (kindOf p i .deadline) (projectOf p j .ceiling) l)
+
+    excess-longest : (c k : ℕ) → c ≤ kindOf p i .length → AllowsWith p j b i c k → c + excessWith p j b i ≤ kindOf p i .length
+    unfolding excessWith
+    excess-longest c k l a =
+        excess-greatest (p .frame) (heldWith p j b) (kindOf p i .length) (workload p i) (kindOf p i .deadline) (projectOf p j .ceiling) c k
+        l (a .width .some) (omega (arith, ceiling-own own, a .width .most)) (a .room)
 
   pub lacks-not : lacks p j b i ≡ false → kindOf p i .project ≡ j → 0 < widthWith p j b i
   lacks-not e own = let z = eqb-false (widthWith p j b i) 0 (rw (eq-eqb (kindOf p i .project) j own) at e) in omega arith
@@ -193,8 +193,9 @@ module _ (p : Plan) (j : ℕ) where
         its-project = x .its-project;
         first = λ h l own. width-gives p j most h own (lacks-not p j most h (x .before h l) own);
         no-width = λ k f. omega (arith, x .none, fits-gives p j most i (x .its-project) k f);
-        least = excess-least p j most i (x .its-project) (x .none);
-        attained = excess-there p j most i (o .some-ceiling j (o .its-place)) (x .its-project) (x .none);
+        most = excess-whole p j most i (x .its-project);
+        allowed = excess-allowed p j most i (x .its-project);
+        greatest = excess-longest p j most i (x .its-project);
       }
 
   -- ---- the four ways in which it is answered

@@ -1,10 +1,9 @@
 -- The bad slice in use. Plan A's kind 0 as (0,4,3,2) is admitted with k 1: from slice 0 it sees three cards, from slice 1 only two. As
--- (0,4,3,3) it is refused. And a kind whose excess is the same at k 1 and at k 2, where the two have other slices.
+-- (0,4,3,3) it is refused. And kinds of which k 1 and k 2 allow the same, with other slices, and of which nothing is allowed.
 -- Assumes nothing.
 use mathlib.Core.Path.{_≡_, refl, _∙_}
 use mathlib.Core.List.{_∷_}
 use Prim.Native.Nat.{ℕ, _≤_, _<_}
-use native.Mathlib.Decide.{decLt}
 use native.Mathlib.Omega.{arith}
 use lib.ListN.{getD, replicate}
 use Rattle.laws.specs.Sum.{sumTo}
@@ -24,11 +23,12 @@ use Rattle.plan.specs.Order.Properties.{in-order}
 use Rattle.layout.specs.Layout.{cellAt, firstCell, owns, slotOf, held}
 use Rattle.supply.specs.Supply.{window, supply, badSlice}
 use Rattle.supply.specs.Workload.{workloadPart}
-use Rattle.supply.specs.Fit.{fitsAt, leastWidth, excessAt, leastExcess, excessWidth, namedWidth, namedSlice}
+use Rattle.supply.specs.Greatest.{greatestTo}
+use Rattle.supply.specs.Fit.{fitsAt, leastWidth, allowedLength, leastExcess, namedWidth, namedSlice}
 use Rattle.workload.specs.Workload.{besides, partOf, workload}
 use Rattle.verdict.specs.Verdict.{widthOf, excessOf, badSliceOf, fitted, admitted, judged}
-use Rattle.verdict.specs.Admission.{asked, given, seen, BadSlice, Names}
-use Rattle.demands.specs.Verdicts.{slice-beside, slice-of-excess, one-slice}
+use Rattle.verdict.specs.Admission.{asked, given, Allows, seen, BadSlice, Names}
+use Rattle.demands.specs.Verdicts.{slice-beside, slice-of-excess, no-slice-of-excess, one-slice}
 
 -- "Kind 0 of A as (0,4,3,2): admitted; as (0,4,3,3): 8"
 abbrev pub shorter : Plan
@@ -37,7 +37,8 @@ shorter = likeA 3 5 (kind 0 4 3 2)
 abbrev pub tooLong : Plan
 tooLong = likeA 3 5 (kind 0 4 3 3)
 
--- two cards, frame 4; one project q 2, B 6; kinds (0,3,3,1), (0,3,3,3): k 1 asks 1 + 3 against 3 and k 2 asks 2 + 3 against 4
+-- two cards, frame 4; one project q 2, B 6; kinds (0,3,3,1), (0,3,3,3): against 3 and 4 both k 1 and k 2 allow kind 0 a length
+-- of 0
 abbrev pub even : Plan
 even = record {
   cards = 2;
@@ -45,6 +46,17 @@ even = record {
   kinds = 2;
   frame = 4;
   project = project 2 6 ∷ replicate 7 noProject;
+  kind = kind 0 3 3 1 ∷ kind 0 3 3 3 ∷ replicate 14 noKind;
+}
+
+-- two cards, frame 4; one project q 1, B 3; kinds (0,3,3,1), (0,3,3,3): the other kind alone asks 3 against 2
+abbrev pub full : Plan
+full = record {
+  cards = 2;
+  projects = 1;
+  kinds = 2;
+  frame = 4;
+  project = project 1 3 ∷ replicate 7 noProject;
   kind = kind 0 3 3 1 ∷ kind 0 3 3 3 ∷ replicate 14 noKind;
 }
 
@@ -56,14 +68,19 @@ pub record Figures : Type 0 where
   pub supply-two : given shorter 0 1 ≡ 2
   pub eight : let a = judged tooLong .answer in (number a ≡ 8) × (place a ≡ 0) × (excess a ≡ 1) × (slice a ≡ 1)
   pub even-eight : let a = judged even .answer in (number a ≡ 8) × (place a ≡ 0) × (excess a ≡ 1) × (slice a ≡ 0)
+  pub long-asked : asked tooLong 0 1 ≡ 3
+  pub long-given : given tooLong 0 1 ≡ 2
   pub even-asked : asked even 0 1 ≡ 4
   pub even-given : given even 0 1 ≡ 3
+  pub full-eight : let a = judged full .answer in (number a ≡ 8) × (place a ≡ 0) × (excess a ≡ 1)
+  pub full-asked : asked full 0 1 ≡ 4
+  pub full-given : given full 0 1 ≡ 2
 
 pub figures : Figures
-unfolding sumTo leastTo leastPlace firstTo countTo allTo written eachTo within sized emptyProject emptyKind tidyProjects tidyKinds inRange
-    timed budgets sizes unused projectsInRange kindInRange kindsInRange budgetsFit ranges checked cellAt firstCell owns slotOf held
-    window supply badSlice workloadPart fitsAt leastWidth excessAt leastExcess excessWidth namedWidth namedSlice besides partOf workload
-    widthOf excessOf badSliceOf fitted admitted judged
+unfolding sumTo leastTo leastPlace firstTo countTo allTo written eachTo within sized emptyProject emptyKind tidyProjects tidyKinds
+    inRange timed budgets sizes unused projectsInRange kindInRange kindsInRange budgetsFit ranges checked cellAt firstCell owns
+    slotOf held window supply badSlice workloadPart fitsAt leastWidth greatestTo allowedLength leastExcess namedWidth namedSlice
+    besides partOf workload widthOf excessOf badSliceOf fitted admitted judged
 figures = record {
   order = refl;
   good = refl;
@@ -72,8 +89,13 @@ figures = record {
   supply-two = refl;
   eight = (refl, refl, refl, refl);
   even-eight = (refl, refl, refl, refl);
+  long-asked = refl;
+  long-given = refl;
   even-asked = refl;
   even-given = refl;
+  full-eight = (refl, refl, refl);
+  full-asked = refl;
+  full-given = refl;
 }
 
 -- ---- beside a k
@@ -101,22 +123,43 @@ only-one a bad = one-slice shorter (in-order shorter (figures .order)) 0 1 a 1 b
 
 -- ---- beside an excess
 
--- with q 1 the only k is 1; the slice is that of the supply, three cards less one
-pub names-one : seen tooLong 0 1 1 ≡ given tooLong 0 1
-names-one =
+-- two of the three slices are allowed, by k 1: from slice 1 the unit sees no more
+pub two-of-three : seen tooLong 0 1 1 ≡ 2
+two-of-three =
     let told = figures .eight in
-    let t = slice-of-excess tooLong (told .0) in
-    let named = rw (told .1, told .2) at (t .1) in
-    let one : t .0 ≡ 1 = omega (arith, named .width .some, named .width .most) in
-    rw (one, told .1, told .3) at (t .2) .attained
+    let bad = slice-of-excess tooLong 1 (told .0) (rw (told .1, told .2) named) in
+    rw (told .1, told .3) at bad .attained ∙ figures .long-given
+  where
+    named : Names tooLong 0 1 1
+    named = record {
+      allows = record {
+        width = record { some = omega arith; most = omega arith };
+        room = omega (arith, figures .long-asked, figures .long-given);
+      };
+      first = λ j l a. omega (arith, a .width .some);
+    }
 
--- of two k with the same excess the lesser is named
-pub lesser-named : slice-of-excess even (figures .even-eight .0) .0 ≡ 1
+-- of two k that allow the same the lesser is named: from slice 0 one card sees three in three slices, as from every other
+pub lesser-named : seen even 0 1 0 ≡ 3
 lesser-named =
     let told = figures .even-eight in
-    let t = slice-of-excess even (told .0) in
-    let named = rw (told .1, told .2) at (t .1) in
-    elim (decLt 1 (t .0)) [
-      | yes l ↦ absurd (omega (arith, named .first 1 (omega arith) l, figures .even-asked, figures .even-given))
-      | no l ↦ omega (arith, named .width .some)
-    ]
+    let bad = slice-of-excess even 1 (told .0) (rw (told .1, told .2) named) in
+    rw (told .1, told .3) at bad .attained ∙ figures .even-given
+  where
+    named : Names even 0 1 1
+    named = record {
+      allows = record {
+        width = record { some = omega arith; most = omega arith };
+        room = omega (arith, figures .even-asked, figures .even-given);
+      };
+      first = λ j l a. omega (arith, a .width .some);
+    }
+
+-- where the others leave no room at all, none is named
+pub none-named : slice (judged full .answer) ≡ 0
+none-named = let told = figures .full-eight in no-slice-of-excess full (told .0) (rw (told .1, told .2) none)
+  where
+    none : (k : ℕ) → Allows full 0 0 k → ⊥
+    none k a =
+        let one : k ≡ 1 = omega (arith, a .width .some, a .width .most) in
+        omega (arith, rw one at (a .room), figures .full-asked, figures .full-given)

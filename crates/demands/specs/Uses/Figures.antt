@@ -33,7 +33,8 @@ use Rattle.layout.specs.Layout.{cellAt, firstCell, owns, slotOf, held}
 use Rattle.layout.specs.Table.{tableLength, tableOver, tableAnswer, Tabled}
 use Rattle.supply.specs.Supply.{window, supply}
 use Rattle.supply.specs.Workload.{workloadPart}
-use Rattle.supply.specs.Fit.{fitsAt, leastWidth, excessAt, leastExcess}
+use Rattle.supply.specs.Greatest.{greatestTo}
+use Rattle.supply.specs.Fit.{fitsAt, leastWidth, allowedLength, leastExcess}
 use Rattle.workload.specs.Workload.{besides, partOf, workload}
 use Rattle.verdict.specs.Verdict.{widthOf, excessOf, fitted, admitted, judged}
 use Rattle.verdict.specs.Admission.{asked, given}
@@ -145,11 +146,11 @@ pub record Running : Type 0 where
 pub running : Running
 unfolding sumTo leastTo firstTo countTo allTo written rankIn firstIn sooner eachTo within sized emptyProject emptyKind tidyProjects
     tidyKinds inRange timed budgets sizes unused projectsInRange kindInRange kindsInRange budgetsFit ranges checked cellAt heldFrom
-    firstCell owns slotOf held window supply workloadPart fitsAt leastWidth excessAt leastExcess besides partOf workload widthOf
-    excessOf fitted admitted untouched underway unitInForm emptyUnit early startable inForm ready gone due working active activeKinds
-    outranks hasCard cardsHeld rankOf chosen takesCard byteOn viewOf rank served holds byteBy rowByte rowOf rowOver startAnswer startOf
-    releaseAnswer released releaseOf unitAfter advanced timeLeft roomFor sliceAnswer sliceOf bufferAfter runFrom acceptedIn slicesOf
-    sinceCall sinceFrom namesKind bytesIn shownBy shown upTo lastFrom restarted kindsLeft
+    firstCell owns slotOf held window supply workloadPart fitsAt leastWidth greatestTo allowedLength leastExcess besides partOf
+    workload widthOf excessOf fitted admitted untouched underway unitInForm emptyUnit early startable inForm ready gone due working
+    active activeKinds outranks hasCard cardsHeld rankOf chosen takesCard byteOn viewOf rank served holds byteBy rowByte rowOf
+    rowOver startAnswer startOf releaseAnswer released releaseOf unitAfter advanced timeLeft roomFor sliceAnswer sliceOf bufferAfter
+    runFrom acceptedIn slicesOf sinceCall sinceFrom namesKind bytesIn shownBy shown upTo lastFrom restarted kindsLeft
 running = record {
   admitted-A = refl;
   kind-one = refl;
@@ -244,12 +245,12 @@ pub record Ranked : Type 0 where
   pub on-one : rowByte waiting 1 ≡ 2
 
 pub verdicts : Judged
-unfolding sumTo leastTo firstTo countTo allTo written eachTo within sized emptyProject emptyKind tidyProjects tidyKinds inRange timed
-    budgets sizes unused projectsInRange kindInRange kindsInRange budgetsFit ranges checked cellAt heldFrom firstCell owns slotOf held
-    window supply workloadPart fitsAt leastWidth excessAt leastExcess besides partOf workload widthOf excessOf fitted admitted judged
-    pack unpack numberTo bytesOf size headerBytes projectBytes kindBytes partsTo encoded headerFields projectFields kindFields
-    projectFrom kindFrom projectsFrom kindsFrom headed decoded headerSpare projectSpare kindSpare projectsSpare kindsSpare placesSpare
-    spareZero bodyAnswer readAnswer readOf
+unfolding sumTo leastTo firstTo countTo allTo written eachTo within sized emptyProject emptyKind tidyProjects tidyKinds inRange
+    timed budgets sizes unused projectsInRange kindInRange kindsInRange budgetsFit ranges checked cellAt heldFrom firstCell owns
+    slotOf held window supply workloadPart fitsAt leastWidth greatestTo allowedLength leastExcess besides partOf workload widthOf
+    excessOf fitted admitted judged pack unpack numberTo bytesOf size headerBytes projectBytes kindBytes partsTo encoded
+    headerFields projectFields kindFields projectFrom kindFrom projectsFrom kindsFrom headed decoded headerSpare projectSpare
+    kindSpare projectsSpare kindsSpare placesSpare spareZero bodyAnswer readAnswer readOf
 verdicts = record {
   good-A = refl;
   good-B = refl;
@@ -312,12 +313,13 @@ pub record Answered : Type 0 where
   pub nine-bare : among placed 9 ≡ false
 
 pub answers : Answered
-unfolding sumTo leastTo firstTo countTo allTo written eachTo within sized emptyProject emptyKind tidyProjects tidyKinds inRange timed
-    budgets sizes unused projectsInRange kindInRange kindsInRange budgetsFit ranges checked cellAt heldFrom firstCell owns slotOf held
-    window supply workloadPart fitsAt leastWidth excessAt leastExcess besides partOf workload widthOf excessOf fitted admitted judged
-    pack unpack numberTo bytesOf size headerBytes projectBytes kindBytes partsTo encoded headerFields projectFields kindFields
-    projectFrom kindFrom projectsFrom kindsFrom headed decoded headerSpare projectSpare kindSpare projectsSpare kindsSpare placesSpare
-    spareZero bodyAnswer readAnswer readOf writeAnswer tableLength tableOver tableAnswer startAnswer startOf among
+unfolding sumTo leastTo firstTo countTo allTo written eachTo within sized emptyProject emptyKind tidyProjects tidyKinds inRange
+    timed budgets sizes unused projectsInRange kindInRange kindsInRange budgetsFit ranges checked cellAt heldFrom firstCell owns
+    slotOf held window supply workloadPart fitsAt leastWidth greatestTo allowedLength leastExcess besides partOf workload widthOf
+    excessOf fitted admitted judged pack unpack numberTo bytesOf size headerBytes projectBytes kindBytes partsTo encoded
+    headerFields projectFields kindFields projectFrom kindFrom projectsFrom kindsFrom headed decoded headerSpare projectSpare
+    kindSpare projectsSpare kindsSpare placesSpare spareZero bodyAnswer readAnswer readOf writeAnswer tableLength tableOver
+    tableAnswer startAnswer startOf among
 answers = record {
   read-short = refl;
   writes = record { result = refl; buffer = refl };

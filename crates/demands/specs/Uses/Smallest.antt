@@ -30,15 +30,16 @@ use Rattle.layout.specs.Cards.{heldFrom}
 use Rattle.layout.specs.Layout.{cellAt, firstCell, owns, held}
 use Rattle.supply.specs.Supply.{window, supply}
 use Rattle.supply.specs.Workload.{workloadPart}
-use Rattle.supply.specs.Fit.{fitsAt, leastWidth, excessAt, leastExcess}
+use Rattle.supply.specs.Greatest.{greatestTo}
+use Rattle.supply.specs.Fit.{fitsAt, leastWidth, allowedLength, leastExcess}
 use Rattle.workload.specs.Workload.{besides, partOf, workload}
 use Rattle.verdict.specs.Verdict.{judged}
-use Rattle.verdict.specs.Admission.{asked, given, Width, Fits}
+use Rattle.verdict.specs.Admission.{asked, given, Fits}
 use Rattle.smallest_budget.specs.declared.Smallest.{Smallest}
 use Rattle.smallest_budget.specs.Smallest.{heldWith, widthWith, excessWith, serves, leastBudget, servedWith, smallestAnswer, smallestOf}
 use Rattle.demands.specs.Outcomes.{finding, finding-refused}
 use Rattle.demands.specs.Numbers.{check-open-numbers, smallest-numbers}
-use Rattle.demands.specs.OpenBudget.{givenWith, FitsWith, Serves, Least, NotServed}
+use Rattle.demands.specs.OpenBudget.{givenWith, FitsWith, Serves, Least, AllowsWith, NotServed}
 use Rattle.demands.specs.SmallestBudgets.{first-cell-moved, greater-budget, as-laid-out, greater-written, given-when}
 use Rattle.demands.specs.SmallestBudgets.{no-project-when, none-serves-when, slice-at-most, not-served-when, too-large-when}
 use Rattle.demands.specs.SmallestBudgets.{written-in-order, all-fit, none-smaller, admitted-with-others}
@@ -91,17 +92,19 @@ record Figures : Type 0 where
   absent : number (smallestOf planA 2 .answer) ≡ 27
   absent-open : number (checkedOpen planA 2) ≡ 27
   bare-27 : among placed 27 ≡ false
-  eight : let a = smallestOf crowded 1 .answer in (number a ≡ 8) × (place a ≡ 1) × (excess a ≡ 2)
+  eight : let a = smallestOf crowded 1 .answer in (number a ≡ 8) × (place a ≡ 1) × (excess a ≡ 1)
   order-crowded : checkedOpen crowded 1 ≡ Good
+  workload-crowded : workload crowded 1 ≡ 2
   asked-crowded : (k : ℕ) → k < 3 → 0 < k → asked crowded 1 k ≡ 4 * k + 2
   given-crowded : (k : ℕ) → k < 3 → 0 < k → givenWith crowded 1 8 1 k ≡ 4 * k
   seven : number (smallestOf (beside 6) 0 .answer) ≡ 7
 
 figures : Figures
-unfolding sumTo leastTo firstTo countTo allTo written eachTo within sized emptyProject emptyKind tidyProjects tidyKinds inRange timed
-    budgets sizes unused projectsInRange kindInRange kindsInRange budgetsFit ranges checked projectThere inRangeOpen projectsInRangeOpen
-    rangesOpen checkedOpen cellAt heldFrom firstCell owns held window supply workloadPart fitsAt leastWidth excessAt leastExcess
-    besides partOf workload widthWith excessWith serves leastBudget servedWith smallestAnswer smallestOf among
+unfolding sumTo leastTo firstTo countTo allTo written eachTo within sized emptyProject emptyKind tidyProjects tidyKinds inRange
+    timed budgets sizes unused projectsInRange kindInRange kindsInRange budgetsFit ranges checked projectThere inRangeOpen
+    projectsInRangeOpen rangesOpen checkedOpen cellAt heldFrom firstCell owns held window supply workloadPart fitsAt leastWidth
+    greatestTo allowedLength leastExcess besides partOf workload widthWith excessWith serves leastBudget servedWith smallestAnswer
+    smallestOf among
 figures = record {
   from-none = refl;
   asked-none = λ B. refl;
@@ -127,6 +130,7 @@ figures = record {
   bare-27 = refl;
   eight = (refl, refl, refl);
   order-crowded = refl;
+  workload-crowded = refl;
   asked-crowded = asks;
   given-crowded = gives;
   seven = refl;
@@ -248,7 +252,7 @@ no-third =
 pub second-there : number (smallestOf planA 1 .answer) ≢ 27
 second-there z = omega (arith, no-project-when planA 1 .0 z .3)
 
--- where kind 1 is 4 long it has no k even with all eight cells: at each it is 2 too many
+-- where kind 1 is 4 long it has no k even with all eight cells: k 1 allows 2 and k 2 allows 3
 none-crowded : (k : ℕ) → FitsWith crowded 1 8 1 k → ⊥
 none-crowded k f =
     let l : k < 3 = omega (arith, f .width .most) in
@@ -263,37 +267,43 @@ told-none = none-serves-when crowded 1 .1 (open-order crowded 1 (figures .order-
     none : (b : ℕ) → 0 < b → b ≤ 8 → Serves crowded 1 b → ⊥
     none b p l s = let t = s 1 (omega arith) refl in none-crowded (t .0) (greater-budget crowded 1 b 8 1 (t .0) l (t .1))
 
-pub two-too-many : givenWith crowded 1 8 1 2 + 2 ≤ 10
-two-too-many =
-    let t = not-served-when crowded 1 1 2 .0 (figures .eight) .1 in
-    omega
-    (arith, t .least 2 (record { some = omega arith; most = omega arith }), figures .asked-crowded 2 (omega arith) (omega arith))
+-- so it is 1 too long
+pub three-at-most : (c k : ℕ) → c ≤ 4 → AllowsWith crowded 1 8 1 c k → c ≤ 3
+three-at-most c k l a = omega (arith, not-served-when crowded 1 1 1 .0 (figures .eight) .1 .greatest c k l a)
 
-pub told-eight : let a = smallestOf crowded 1 .answer in (number a ≡ 8) × (place a ≡ 1) × (excess a ≡ 2)
-told-eight = not-served-when crowded 1 1 2 .1 (open-order crowded 1 (figures .order-crowded), first)
+pub told-eight : let a = smallestOf crowded 1 .answer in (number a ≡ 8) × (place a ≡ 1) × (excess a ≡ 1)
+told-eight = not-served-when crowded 1 1 1 .1 (open-order crowded 1 (figures .order-crowded), first)
   where
-    first : NotServed crowded 1 1 2
+    longest : (c k : ℕ) → 0 < k → k < 3 → k * c + 2 ≤ 4 * k → c + 1 ≤ 4
+    longest c zero p l e = absurd (omega arith)
+    longest c (suc zero) p l e = omega arith
+    longest c (suc (suc zero)) p l e = omega arith
+    longest c (suc (suc (suc k))) p l e = absurd (omega arith)
+
+    others : (h : ℕ) → h < 1 → kindOf crowded h .project ≡ 1 → (k : ℕ) × FitsWith crowded 1 8 h k
+    others zero l own = absurd (omega (arith, own))
+    others (suc h) l own = absurd (omega arith)
+
+    first : NotServed crowded 1 1 1
     first = record {
       its-kind = omega arith;
       its-project = refl;
       first = others;
       no-width = none-crowded;
-      least = more;
-      attained = (
-        1,
-        record { some = omega arith; most = omega arith },
-        omega (arith, figures .asked-crowded 1 (omega arith) (omega arith), figures .given-crowded 1 (omega arith) (omega arith)),
-      );
+      most = omega arith;
+      allowed =
+          λ l. (
+            2,
+            record {
+              width = record { some = omega arith; most = omega arith };
+              room = omega (arith, figures .workload-crowded, figures .given-crowded 2 (omega arith) (omega arith));
+            },
+          );
+      greatest =
+          λ c k l a.
+          let m : k < 3 = omega (arith, a .width .most) in
+          longest c k (a .width .some) m (omega (arith, a .room, figures .workload-crowded, figures .given-crowded k m (a .width .some)));
     }
-      where
-        others : (h : ℕ) → h < 1 → kindOf crowded h .project ≡ 1 → (k : ℕ) × FitsWith crowded 1 8 h k
-        others zero l own = absurd (omega (arith, own))
-        others (suc h) l own = absurd (omega arith)
-
-        more : (k : ℕ) → Width crowded 1 k → givenWith crowded 1 8 1 k + 2 ≤ asked crowded 1 k
-        more k w =
-            let l : k < 3 = omega (arith, w .most) in
-            omega (arith, figures .asked-crowded k l (w .some), figures .given-crowded k l (w .some))
 
 -- 3 cells beside 6 are one too many
 pub told-seven : number (smallestOf (beside 6) 0 .answer) ≡ 7

@@ -22,7 +22,8 @@ use Rattle.layout.specs.Cards.{heldFrom}
 use Rattle.layout.specs.Layout.{cellAt, firstCell, owns, slotOf, held}
 use Rattle.supply.specs.Supply.{window, supply}
 use Rattle.supply.specs.Workload.{workloadPart}
-use Rattle.supply.specs.Fit.{fitsAt, leastWidth, excessAt, leastExcess}
+use Rattle.supply.specs.Greatest.{greatestTo}
+use Rattle.supply.specs.Fit.{fitsAt, leastWidth, allowedLength, leastExcess}
 use Rattle.workload.specs.Workload.{besides, partOf, workload}
 use Rattle.verdict.specs.Verdict.{widthOf, excessOf, fitted, admitted}
 use Rattle.unit.specs.Form.{untouched, underway, unitInForm, emptyUnit}
@@ -59,10 +60,11 @@ record Figures : Type 0 where
 figures : Figures
 unfolding sumTo leastTo firstTo countTo allTo written rankIn firstIn sooner eachTo within sized emptyProject emptyKind tidyProjects
     tidyKinds inRange timed budgets sizes unused projectsInRange kindInRange kindsInRange budgetsFit ranges checked cellAt heldFrom
-    firstCell owns slotOf held window supply workloadPart fitsAt leastWidth excessAt leastExcess besides partOf workload widthOf
-    excessOf fitted admitted untouched underway unitInForm emptyUnit early startable inForm ready gone due working active outranks
-    hasCard cardsHeld rankOf chosen takesCard byteOn viewOf rank served byteBy rowByte rowOf rowOver startAnswer startOf releaseAnswer
-    released releaseOf unitAfter advanced timeLeft roomFor sliceAnswer sliceOf bufferAfter runFrom acceptedIn slicesOf
+    firstCell owns slotOf held window supply workloadPart fitsAt leastWidth greatestTo allowedLength leastExcess besides partOf
+    workload widthOf excessOf fitted admitted untouched underway unitInForm emptyUnit early startable inForm ready gone due working
+    active outranks hasCard cardsHeld rankOf chosen takesCard byteOn viewOf rank served byteBy rowByte rowOf rowOver startAnswer
+    startOf releaseAnswer released releaseOf unitAfter advanced timeLeft roomFor sliceAnswer sliceOf bufferAfter runFrom acceptedIn
+    slicesOf
 figures = record { accepted = refl; seven-rows = refl; eight-rows = refl }
 
 -- after seven slices at most one is to come

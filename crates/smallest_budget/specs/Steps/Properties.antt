@@ -25,7 +25,7 @@ use Rattle.layout.specs.Cards.Properties.{below-start, below-frames, below-cell
 use Rattle.layout.specs.Layout.{cellAt, firstCell}
 use Rattle.supply.specs.declared.Fit.{Fit}
 use Rattle.supply.specs.Fit.{heldAt, fitOf}
-use Rattle.supply.specs.Fit.Properties.{fit-framed, excess-most, slice-in-frame}
+use Rattle.supply.specs.Fit.Properties.{fit-framed, excess-within, slice-in-frame}
 use Rattle.workload.specs.Workload.{workload}
 use Rattle.workload.specs.Workload.Properties.{workload-most}
 use Rattle.smallest_budget.specs.Rotation.{width-anywhere, excess-anywhere}
@@ -163,9 +163,8 @@ module _ (p : Plan) (j : ℕ) (o : InOrderOpen p j) where
         let a = o .kind-at i l in
         rw e (omega (
           arith,
-          excess-most (p .frame) (heldFrom (firstCell p j) b (p .frame)) (kindOf p i .length) (workload p i) (kindOf p i .deadline)
-              (projectOf p j .ceiling) 1 (omega arith) (o .some-ceiling j (o .its-place)),
-          workload-most p (o .counts .kinds-most) (o .kind-at) i l,
+          excess-within (p .frame) (heldFrom (firstCell p j) b (p .frame)) (kindOf p i .length) (workload p i) (kindOf p i .deadline)
+              (projectOf p j .ceiling),
           a .length-most,
           a .deadline-most,
           a .separation-most,

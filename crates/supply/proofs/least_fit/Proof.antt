@@ -2,43 +2,47 @@
 -- Assumes nothing.
 use native.Mathlib.Nat.{div-le-self}
 use Rattle.supply.specs.Supply.{window}
-use Rattle.supply.specs.Fit.{heldAt, leastWidth, suppliedTo, exceededTo}
-use Rattle.supply.specs.Fit.Properties.{rest-below, window-start, supply-start, width-start, excess-start, window-again, frame-again}
-use Rattle.supply.specs.Fit.Properties.{supply-again, supplied, bad-found, width-again, excess-again, no-frame, long-frame}
+use Rattle.supply.specs.Fit.{heldAt, leastWidth, suppliedTo, shortTo}
+use Rattle.supply.specs.Fit.Properties.{rest-below, window-start, supply-start, width-start, short-start, window-again, frame-again}
+use Rattle.supply.specs.Fit.Properties.{supply-again, supplied, bad-found, width-again, short-again, no-frame, long-frame}
 use Rattle.supply.specs.Fit.Properties.{fit-here, fit-none}
 use mathlib.Core.Path.{_≡_, refl}
-use Prim.Native.Nat.{_≤_, _<_, _-_, _*_}
+use Prim.Native.Nat.{_≤_, _<_, _-_, _*_, _+_, min}
 use native.Mathlib.Omega.{arith}
 use borrow.Author.Needs.{needs}
 use Rattle.supply.proofs.least_fit.Statement.{statement}
 use Rattle.supply.proofs.least_fit.Tie as tie
 
 abbrev Inv-loop2 : tie.InvT-loop2
-Inv-loop2 frame ceiling length workload deadline slices frames rest cards found excess below width one-frame least start sum₀ x₀ sum x =
+Inv-loop2 frame ceiling length workload deadline slices frames rest cards beyond found excess short below width one-frame least start
+    sum₀ x₀ sum x =
     (x ≤ rest) × (sum ≡ window width (heldAt slices cards) start x) × (sum ≤ 255 * x)
 
 abbrev μ-loop2 : tie.MeasureT-loop2
-μ-loop2 frame ceiling length workload deadline slices frames rest cards found excess below width one-frame least start sum₀ x₀ sum x =
+μ-loop2 frame ceiling length workload deadline slices frames rest cards beyond found excess short below width one-frame least start
+    sum₀ x₀ sum x =
     rest - x
 
 abbrev Inv-loop : tie.InvT-loop
-Inv-loop frame ceiling length workload deadline slices frames rest cards found excess below width one-frame₀ least₀ start₀ one-frame least
-    start =
+Inv-loop frame ceiling length workload deadline slices frames rest cards beyond found excess short below width one-frame₀ least₀
+    start₀ one-frame least start =
     (start ≤ slices) × (one-frame ≡ window width (heldAt slices cards) 0 start) ×
     (least ≡ suppliedTo start (heldAt slices cards) width rest) × (one-frame ≤ 255 * start) × (least .value ≤ 16320)
 
 abbrev μ-loop : tie.MeasureT-loop
-μ-loop frame ceiling length workload deadline slices frames rest cards found excess below width one-frame₀ least₀ start₀ one-frame least
-    start =
+μ-loop frame ceiling length workload deadline slices frames rest cards beyond found excess short below width one-frame₀ least₀
+    start₀ one-frame least start =
     slices - start
 
 abbrev Inv-widths : tie.InvT-widths
-Inv-widths frame ceiling length workload deadline slices frames rest cards found₀ excess₀ below₀ found excess below =
+Inv-widths frame ceiling length workload deadline slices frames rest cards beyond found₀ excess₀ short₀ below₀ found excess short below =
     (rest < slices) × (below ≤ ceiling) × (found ≡ 0) × (0 ≡ leastWidth slices (heldAt slices cards) length workload deadline below) ×
-    (excess ≡ exceededTo slices (heldAt slices cards) length workload deadline below) × (excess .value ≤ 8589934592)
+    (short ≡ shortTo slices (heldAt slices cards) length workload deadline below) × (excess ≡ min (short .value) length) ×
+    (short .value ≤ 65536)
 
 abbrev μ-widths : tie.MeasureT-widths
-μ-widths frame ceiling length workload deadline slices frames rest cards found₀ excess₀ below₀ found excess below = ceiling - below
+μ-widths frame ceiling length workload deadline slices frames rest cards beyond found₀ excess₀ short₀ below₀ found excess short below =
+    ceiling - below
 
 returns : tie.Need-returns Inv-loop2 μ-loop2 Inv-loop μ-loop Inv-widths μ-widths
 returns c = search no-frame
@@ -56,8 +60,11 @@ two-frames-requires :
     tie.Need-two-frames-requires Inv-loop2 μ-loop2 Inv-loop μ-loop Inv-widths μ-widths
 two-frames-requires c κs = search needs
 
+add-beyond : tie.Need-add-beyond Inv-loop2 μ-loop2 Inv-loop μ-loop Inv-widths μ-widths
+add-beyond c = search needs
+
 widths-holds : tie.Need-widths-holds Inv-loop2 μ-loop2 Inv-loop μ-loop Inv-widths μ-widths
-widths-holds c = (search rest-below, omega arith, refl, width-start _ _ _ _ _, excess-start _ _ _ _ _ (omega arith), omega arith)
+widths-holds c = (search rest-below, omega arith, refl, width-start _ _ _ _ _, short-start _ _ _ _ _, omega arith, omega arith)
 
 add-width : tie.Need-add-width Inv-loop2 μ-loop2 Inv-loop μ-loop Inv-widths μ-widths
 add-width c = search needs
@@ -148,16 +155,19 @@ add-supply c = search needs
 asked-requires : tie.Need-asked-requires Inv-loop2 μ-loop2 Inv-loop μ-loop Inv-widths μ-widths
 asked-requires c κs = search needs
 
+short-by-requires : tie.Need-short-by-requires Inv-loop2 μ-loop2 Inv-loop μ-loop Inv-widths μ-widths
+short-by-requires c κs = search needs
+
 cast-least-with-3 :
     tie.Need-cast-least-with-3 Inv-loop2 μ-loop2 Inv-loop μ-loop Inv-widths μ-widths
 cast-least-with-3 c = search needs
 
-sub-least-with : tie.Need-sub-least-with Inv-loop2 μ-loop2 Inv-loop μ-loop Inv-widths μ-widths
-sub-least-with c = search needs
-
 least-with-requires-2 :
     tie.Need-least-with-requires-2 Inv-loop2 μ-loop2 Inv-loop μ-loop Inv-widths μ-widths
 least-with-requires-2 c κs = search needs
+
+lesser-requires : tie.Need-lesser-requires Inv-loop2 μ-loop2 Inv-loop μ-loop Inv-widths μ-widths
+lesser-requires c κs = search needs
 
 add-below : tie.Need-add-below Inv-loop2 μ-loop2 Inv-loop μ-loop Inv-widths μ-widths
 add-below c = search needs
@@ -167,21 +177,23 @@ widths-less c = search needs
 
 widths-again : tie.Need-widths-again Inv-loop2 μ-loop2 Inv-loop μ-loop Inv-widths μ-widths
 widths-again c =
-    let some = c .before .before .before .before .before .before .before .before .before .before .before .if1 .left in
-    let most = c .before .before .before .before .before .before .before .before .before .before .if2 .left in
-    let two = c .before .before .before .before .before .before .before .before .before .two-frames .ensures in
-    let so-far = c .before .before .before .before .before .before .before .before .widths .inv in
-    let inv = c .before .before .before .before .before .before .loop .inv in
-    let end = c .before .before .before .before .before .loop-test .left in
-    let frames = c .before .before .before .before .product .ensures .0 in
-    let asked = c .before .before .asked .ensures .0 in
+    let some = c .before .before .before .before .before .before .before .before .before .before .before .before .before .if1 .left in
+    let most = c .before .before .before .before .before .before .before .before .before .before .before .before .if2 .left in
+    let two = c .before .before .before .before .before .before .before .before .before .before .before .two-frames .ensures in
+    let so-far = c .before .before .before .before .before .before .before .before .before .before .widths .inv in
+    let inv = c .before .before .before .before .before .before .before .before .loop .inv in
+    let end = c .before .before .before .before .before .before .before .loop-test .left in
+    let frames = c .before .before .before .before .before .before .product .ensures .0 in
+    let asked = c .before .before .before .before .asked .ensures .0 in
+    let here = c .before .before .short-by .ensures .0 in
     let s = supplied _ _ _ some most two _ _ _ _ _ _ frames (inv .1) (inv .2) (inv .0) end in
     let t = bad-found _ _ _ some most two _ _ _ _ (inv .2) (inv .0) end in (
       search,
       omega arith,
       search,
-      width-again _ _ _ _ _ _ _ _ (so-far .3) s asked (c .before .if3 .left),
-      excess-again _ _ _ _ _ _ _ _ _ _ _ (so-far .4) s asked t (c .least-with2 .ensures .0),
+      width-again _ _ _ _ _ _ _ _ (so-far .3) s asked (c .before .before .before .if3 .left),
+      short-again _ _ _ _ _ _ _ _ _ _ _ (so-far .4) s t here (c .before .least-with2 .ensures .0),
+      omega arith,
       omega arith,
     )
 
@@ -206,6 +218,7 @@ least-fit-spec =
     div-frames
     rem-rest
     two-frames-requires
+    add-beyond
     widths-holds
     add-width
     loop-holds
@@ -230,9 +243,10 @@ least-fit-spec =
     product-requires
     add-supply
     asked-requires
+    short-by-requires
     cast-least-with-3
-    sub-least-with
     least-with-requires-2
+    lesser-requires
     add-below
     widths-less
     widths-again

@@ -16,7 +16,8 @@ use Rattle.layout.specs.Layout.{cellAt, firstCell, owns, slotOf, held}
 use Rattle.layout.specs.Table.{tableLength, tableOver, tableAnswer}
 use Rattle.supply.specs.Supply.{window, supply, badSlice}
 use Rattle.supply.specs.Workload.{workloadPart}
-use Rattle.supply.specs.Fit.{fitsAt, leastWidth, excessAt, leastExcess, excessWidth, namedWidth, namedSlice}
+use Rattle.supply.specs.Greatest.{greatestTo}
+use Rattle.supply.specs.Fit.{fitsAt, leastWidth, allowedLength, leastExcess, namedWidth, namedSlice}
 use Rattle.codec.specs.Pack.{pack, unpack}
 use Rattle.codec.specs.Bytes.{numberTo, bytesOf}
 use Rattle.codec.specs.Places.{partsTo}
@@ -32,12 +33,12 @@ use Rattle.table.specs.Table.{Table}
 pub table : Table
 unfolding sumTo leastTo leastPlace firstTo countTo allTo written eachTo within sized emptyProject emptyKind tidyProjects tidyKinds
     inRange timed budgets sizes unused projectsInRange kindInRange kindsInRange budgetsFit ranges checked cellAt heldFrom firstCell
-    owns slotOf held tableLength tableOver tableAnswer window supply badSlice workloadPart fitsAt leastWidth excessAt leastExcess
-    excessWidth namedWidth namedSlice besides partOf workload widthOf excessOf badSliceOf fitted admitted judged pack unpack
-    numberTo bytesOf size headerBytes projectBytes kindBytes partsTo encoded headerFields projectFields kindFields projectFrom
-    kindFrom projectsFrom kindsFrom headed decoded headerSpare projectSpare kindSpare projectsSpare kindsSpare placesSpare spareZero
-    bodyAnswer readAnswer readOf projectThere inRangeOpen projectsInRangeOpen rangesOpen checkedOpen widthWith excessWith sliceWith
-    serves leastBudget servedWith smallestAnswer smallestOf
+    owns slotOf held tableLength tableOver tableAnswer window supply badSlice workloadPart fitsAt leastWidth greatestTo
+    allowedLength leastExcess namedWidth namedSlice besides partOf workload widthOf excessOf badSliceOf fitted admitted judged pack
+    unpack numberTo bytesOf size headerBytes projectBytes kindBytes partsTo encoded headerFields projectFields kindFields
+    projectFrom kindFrom projectsFrom kindsFrom headed decoded headerSpare projectSpare kindSpare projectsSpare kindsSpare
+    placesSpare spareZero bodyAnswer readAnswer readOf projectThere inRangeOpen projectsInRangeOpen rangesOpen checkedOpen widthWith
+    excessWith sliceWith serves leastBudget servedWith smallestAnswer smallestOf
 table = record {
   P1-read = refl;
   P1-written = refl;
@@ -58,6 +59,8 @@ table = record {
   P7-longer-slice = refl;
   P8 = refl;
   P8-slices = refl;
+  P8-longer = refl;
+  P8-longer-slice = refl;
   P9 = refl;
   P9-slice = refl;
   P10 = refl;

@@ -3,7 +3,7 @@
 -- Assumes nothing.
 use mathlib.Core.Path.{_≡_, refl, sym, ap, _∙_}
 use mathlib.Core.Logic.{_↔_}
-use Prim.Native.Nat.{ℕ, zero, suc, _≤_, _<_}
+use Prim.Native.Nat.{ℕ, zero, suc, _-_, _≤_, _<_}
 use native.Mathlib.Nat.{add-mod-right}
 use native.Mathlib.Decide.{decLt}
 use native.Mathlib.Omega.{arith}
@@ -22,13 +22,13 @@ use Rattle.plan.specs.Order.{kindOf, checked, InOrder}
 use Rattle.plan.specs.Order.Properties.{in-order, in-order-good}
 use Rattle.layout.specs.Layout.{held}
 use Rattle.supply.specs.Supply.{Periodic, badSlice}
-use Rattle.supply.specs.Supply.Properties.{supply-everywhere, bad-below, bad-attains, bad-earliest, bad-only}
-use Rattle.supply.specs.Fit.{excessWidth}
-use Rattle.supply.specs.Fit.Properties.{width-most, width-fits, width-least, width-some, width-none, excess-most, excess-attained}
-use Rattle.supply.specs.Fit.Properties.{excess-first, slice-given, slice-exceeded}
+use Rattle.supply.specs.Supply.Properties.{supply-everywhere, bad-below, bad-attains, bad-earliest, bad-only, bad-no-width}
+use Rattle.supply.specs.Fit.{leastWidth, namedSlice}
+use Rattle.supply.specs.Fit.Properties.{width-most, width-fits, width-least, width-some, excess-within, excess-allows, excess-greatest}
+use Rattle.supply.specs.Fit.Properties.{named-is, slice-given}
 use Rattle.workload.specs.Workload.{workload}
 use Rattle.verdict.specs.Verdict.{projectOn, ceilingOn, heldOn, widthOf, excessOf, badSliceOf, fitted, admitted, verdictOf, judged}
-use Rattle.verdict.specs.Admission.{asked, given, Fits, Excess, NotAdmitted, BadSlice, Names}
+use Rattle.verdict.specs.Admission.{Allows, Fits, Excess, NotAdmitted, BadSlice, Names}
 
 -- ---- the k of one kind
 
@@ -55,45 +55,32 @@ module _ (p : Plan) (i : ℕ) where
         | no q ↦ omega arith
       ]
 
-  -- the k that its excess names
-  abbrev excessWidthOf : ℕ
-  excessWidthOf = excessWidth (p .frame) (heldOn p i) (kindOf p i .length) (workload p i) (kindOf p i .deadline) (ceilingOn p i)
+  -- the least k that allows a length; 0 where there is none
+  abbrev widthFor : ℕ → ℕ
+  widthFor c = leastWidth (p .frame) (heldOn p i) c (workload p i) (kindOf p i .deadline) (ceilingOn p i)
 
-  module _ (some : 0 < ceilingOn p i) (none : widthOf p i ≡ 0) where
-    -- no k has room, so that each has its excess
-    kind-none : (k : ℕ) → 0 < k → k ≤ ceilingOn p i → given p i k < asked p i k
-    unfolding widthOf
-    kind-none k a b =
-        width-none (p .frame) (heldOn p i) (kindOf p i .length) (workload p i) (kindOf p i .deadline) (ceilingOn p i) k none a b
+  width-allows : (c : ℕ) → 0 < widthFor c → Allows p i c (widthFor c)
+  width-allows c l =
+      record { width = record { some = l; most = width-most _ _ _ _ _ (ceilingOn p i) }; room = width-fits _ _ _ _ _ (ceilingOn p i) l }
 
-    kind-names : Names p i (excessOf p i) excessWidthOf
-    unfolding excessOf
-    kind-names =
-        let t = excess-attained (p .frame) (heldOn p i) (kindOf p i .length) (workload p i) (kindOf p i .deadline) (ceilingOn p i) some in
-        record {
-          width = record { some = t .0; most = t .1 };
-          its-excess = omega (arith, t .2, kind-none excessWidthOf (t .0) (t .1));
-          first =
-              λ j a b. omega (
-                arith,
-                excess-first (p .frame) (heldOn p i) (kindOf p i .length) (workload p i) (kindOf p i .deadline) (ceilingOn p i) j a b,
-                kind-none j a (omega (arith, t .1)),
-              );
-        }
+  allows-width : (c k : ℕ) → Allows p i c k → 0 < widthFor c
+  allows-width c k a = width-some _ _ _ _ _ (ceilingOn p i) k (a .width .some) (a .width .most) (a .room)
 
-    kind-excess : Excess p i (excessOf p i)
-    unfolding excessOf
-    kind-excess =
-        record {
-          least =
-              λ k w. omega (
-                arith,
-                excess-most (p .frame) (heldOn p i) (kindOf p i .length) (workload p i) (kindOf p i .deadline)
-                    (ceilingOn p i) k (w .some) (w .most),
-                kind-none k (w .some) (w .most),
-              );
-          attained = (excessWidthOf, kind-names .width, kind-names .its-excess);
-        }
+  kind-excess : Excess p i (excessOf p i)
+  unfolding excessOf
+  kind-excess =
+      record {
+        most = excess-within (p .frame) (heldOn p i) (kindOf p i .length) (workload p i) (kindOf p i .deadline) (ceilingOn p i);
+        allowed =
+            λ l. (
+              widthFor (kindOf p i .length - excessOf p i),
+              width-allows (kindOf p i .length - excessOf p i)
+                  (excess-allows (p .frame) (heldOn p i) (kindOf p i .length) (workload p i) (kindOf p i .deadline) (ceilingOn p i) l),
+            );
+        greatest =
+            λ c k l a. excess-greatest (p .frame) (heldOn p i) (kindOf p i .length) (workload p i) (kindOf p i .deadline) (ceilingOn p i)
+            c k l (a .width .some) (a .width .most) (a .room);
+      }
 
   -- ---- the bad slice
 
@@ -119,11 +106,47 @@ module _ (p : Plan) (i : ℕ) where
     bad-given l =
         rw (slice-given (p .frame) (heldOn p i) (kindOf p i .length) (workload p i) (kindOf p i .deadline) (ceilingOn p i) l) (bad-on _)
 
-    -- and beside the excess
-    bad-exceeded : widthOf p i ≡ 0 → BadSlice p i excessWidthOf (badSliceOf p i)
-    unfolding widthOf badSliceOf
-    bad-exceeded e =
-        rw (slice-exceeded (p .frame) (heldOn p i) (kindOf p i .length) (workload p i) (kindOf p i .deadline) (ceilingOn p i) e) (bad-on _)
+    -- it is that of the least k that allows what the excess leaves
+    slice-is : badSliceOf p i ≡ badSlice (p .frame) (heldOn p i) (widthFor (kindOf p i .length - excessOf p i)) (kindOf p i .deadline)
+    unfolding badSliceOf excessOf namedSlice
+    slice-is =
+        ap (λ (k : ℕ). badSlice (p .frame) (heldOn p i) k (kindOf p i .deadline))
+        (named-is (p .frame) (heldOn p i) (kindOf p i .length) (workload p i) (kindOf p i .deadline) (ceilingOn p i))
+
+    -- beside the excess
+    bad-named : (k : ℕ) → Names p i (excessOf p i) k → BadSlice p i k (badSliceOf p i)
+    bad-named k n = rw (slice-is, same) (bad-on k)
+      where
+        c : ℕ
+        c = kindOf p i .length - excessOf p i
+
+        same : widthFor c ≡ k
+        same =
+            let some = allows-width c k (n .allows) in
+            elim (decLt (widthFor c) k) [
+              | yes l ↦ absurd (n .first (widthFor c) l (width-allows c some))
+              | no l ↦ elim (decLt k (widthFor c)) [
+                | yes m ↦
+                    absurd (omega (
+                      arith,
+                      n .allows .room,
+                      width-least (p .frame) (heldOn p i) c (workload p i) (kindOf p i .deadline) (ceilingOn p i) k
+                          (n .allows .width .some) m,
+                    ))
+                | no m ↦ omega arith
+              ]
+            ]
+
+    -- "or 0 without one"
+    bad-unnamed : ((k : ℕ) → Allows p i (kindOf p i .length - excessOf p i) k → ⊥) → badSliceOf p i ≡ 0
+    bad-unnamed none =
+        rw (slice-is, (let e : widthFor c ≡ 0 = no-width in e)) (bad-no-width (p .frame) (heldOn p i) slices (kindOf p i .deadline))
+      where
+        c : ℕ
+        c = kindOf p i .length - excessOf p i
+
+        no-width : widthFor c ≡ 0
+        no-width = elim (decLt 0 (widthFor c)) [ yes l ↦ absurd (none (widthFor c) (width-allows c l)) | no l ↦ omega arith ]
 
     -- two bad slices of one k are one
     pub bad-one : (k a b : ℕ) → BadSlice p i k a → BadSlice p i k b → a ≡ b
@@ -263,9 +286,17 @@ no-slice-refused p r e = rw e
 -- ---- 8
 
 -- two excesses are one
+excess-below : (p : Plan) (i x y : ℕ) → Excess p i x → Excess p i y → x < y → ⊥
+excess-below p i x y a b l =
+    let t = a .allowed (omega (arith, b .most)) in
+    omega (arith, b .most, b .greatest (kindOf p i .length - x) (t .0) (omega arith) (t .1))
+
 excess-one : (p : Plan) (i x y : ℕ) → Excess p i x → Excess p i y → x ≡ y
 excess-one p i x y a b =
-    omega (arith, a .attained .2, b .attained .2, a .least (b .attained .0) (b .attained .1), b .least (a .attained .0) (a .attained .1))
+    elim (decLt x y) [
+      | yes l ↦ absurd (excess-below p i x y a b l)
+      | no l ↦ elim (decLt y x) [ yes m ↦ absurd (excess-below p i y x b a m) | no m ↦ omega arith ]
+    ]
 
 -- 8 exactly for the first kind with no k, with its excess and the slice of it
 pub refused-exactly : (p : Plan) → InOrder p → (i x a : ℕ) →
@@ -273,9 +304,6 @@ pub refused-exactly : (p : Plan) → InOrder p → (i x a : ℕ) →
 unfolding admitted
 refused-exactly p o i x a = (told, tell)
   where
-    ceiling : (j : ℕ) → j < p .kinds → 0 < ceilingOn p j
-    ceiling j l = o .project-at (projectOn p j) (o .kind-at j l .its-project) .some-ceiling
-
     kind : (n : ℕ) → widthOf p n ≡ 0 → n < p .kinds → ((j : ℕ) → j < n → fitted p j ≡ Good) → NotAdmitted p n (excessOf p n)
     kind n e l g =
         record {
@@ -283,7 +311,7 @@ refused-exactly p o i x a = (told, tell)
           first = λ j m. (widthOf p j, kind-fits p j (fitted-good p j (g j m)));
           no-width = λ k f. omega
               (arith, kind-some p n k f);
-          excess = kind-excess p n (ceiling n l) e;
+          excess = kind-excess p n;
         }
 
     told : judged p .answer ≡ notAdmitted i x a → (NotAdmitted p i x) × (a ≡ badSliceOf p i)
@@ -300,7 +328,7 @@ refused-exactly p o i x a = (told, tell)
         let n = t .0 in
         let none : widthOf p i ≡ 0 = elim (decLt 0 (widthOf p i))
         [ yes q ↦ absurd (n .no-width (widthOf p i) (kind-fits p i q)) | no q ↦ omega arith ] in
-        let same = excess-one p i (excessOf p i) x (kind-excess p i (ceiling i (n .its-kind)) none) (n .excess) in
+        let same = excess-one p i (excessOf p i) x (kind-excess p i) (n .excess) in
         let before = each-of i (fitted p) (λ j l. fitted-of p j (kind-some p j (n .first j l .0) (n .first j l .1))) in
         order-next p o
         ∙ sym
@@ -309,10 +337,14 @@ refused-exactly p o i x a = (told, tell)
         ∙ rw (same, t .1)
 
 -- the slice beside an excess is the bad one of the k that it names
-pub refused-slice : (p : Plan) → InOrder p → (i x : ℕ) → NotAdmitted p i x → (k : ℕ) × (Names p i x k) × (BadSlice p i k (badSliceOf p i))
-refused-slice p o i x n =
-    let none : widthOf p i ≡ 0 = elim (decLt 0 (widthOf p i))
-    [ yes q ↦ absurd (n .no-width (widthOf p i) (kind-fits p i q)) | no q ↦ omega arith ] in
-    let some = o .project-at (projectOn p i) (o .kind-at i (n .its-kind) .its-project) .some-ceiling in
-    let same = excess-one p i (excessOf p i) x (kind-excess p i some none) (n .excess) in
-    (excessWidthOf p i, rw same at (kind-names p i some none), bad-exceeded p i (o .counts .some-slice) none)
+pub refused-slice : (p : Plan) → InOrder p → (i x : ℕ) → NotAdmitted p i x → (k : ℕ) → Names p i x k → BadSlice p i k (badSliceOf p i)
+refused-slice p o i x n k named =
+    let same = excess-one p i x (excessOf p i) (n .excess) (kind-excess p i) in
+    bad-named p i (o .counts .some-slice) k (rw same at named)
+
+-- and 0 where it names none
+pub refused-no-slice : (p : Plan) → InOrder p → (i x : ℕ) → NotAdmitted p i x →
+    ((k : ℕ) → Allows p i (kindOf p i .length - x) k → ⊥) → badSliceOf p i ≡ 0
+refused-no-slice p o i x n none =
+    let same = excess-one p i (excessOf p i) x (kind-excess p i) (n .excess) in
+    bad-unnamed p i (o .counts .some-slice) (rw same none)

@@ -22,7 +22,7 @@ use Rattle.layout.specs.Layout.{firstCell}
 use Rattle.layout.specs.Layout.Properties.{first-next, first-most, held-from, held-mod}
 use Rattle.supply.specs.declared.Fit.{Fit}
 use Rattle.supply.specs.Fit.{heldAt, fitOf}
-use Rattle.supply.specs.Fit.Properties.{fit-framed, excess-most, slice-in-frame}
+use Rattle.supply.specs.Fit.Properties.{fit-framed, excess-within, slice-in-frame}
 use Rattle.verdict.specs.declared.Verdict.{Verdict}
 use Rattle.workload.specs.Workload.{workload}
 use Rattle.workload.specs.Workload.Properties.{workload-most}
@@ -115,12 +115,9 @@ module _ (p : Plan) (o : InOrder p) (i : ℕ) (l : i < p .kinds) where
   unfolding excessOf
   excess-room r e =
       let a = o .kind-at i l in
-      let b = o .project-at (projectOn p i) (a .its-project) in
       rw e (omega (
         arith,
-        excess-most (p .frame) (heldOn p i) (kindOf p i .length) (workload p i) (kindOf p i .deadline) (ceilingOn p i) 1
-            (omega arith) (b .some-ceiling),
-        workload-most p (o .counts .kinds-most) (o .kind-at) i l,
+        excess-within (p .frame) (heldOn p i) (kindOf p i .length) (workload p i) (kindOf p i .deadline) (ceilingOn p i),
         a .length-most,
         a .deadline-most,
         a .separation-most,

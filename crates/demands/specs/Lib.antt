@@ -1,5 +1,5 @@
 -- The three demands: `Outcomes` (1), `Verdicts` (2) and `Deadlines` (3) state them, the last over `Run`, `Since`, `Named` and
--- `Shown`; `Sufficient` has a refused plan that runs well, and `Uses` puts every statement to work. The other modules tie the
+-- `Shown`; `Showing` has what showing and advancing owe a host; `Sufficient` has a refused plan that runs well, and `Uses` puts every statement to work. The other modules tie the
 -- theory of one project (`analysis`) to the rack.
 -- Assumes nothing.
 -- ---- the statements
@@ -11,6 +11,7 @@ pub mod Outcomes
 pub mod Numbers
 pub mod Verdicts
 pub mod Deadlines
+pub mod Showing
 pub mod Sufficient
 -- ---- the statements at work
 pub mod Uses

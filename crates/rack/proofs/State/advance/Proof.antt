@@ -1,0 +1,43 @@
+-- `rack::State::advance` meets its contract.
+-- Assumes nothing.
+use Rattle.rack.specs.State.Properties.{next-kept, next-moved}
+use Rattle.rack.specs.Advance.{advanceOf}
+use Rattle.rack.specs.Advance.Properties.{advance-opened, advance-ready}
+use borrow.Author.Needs.{needs}
+use Rattle.rack.proofs.State.advance.Statement.{statement}
+use Rattle.rack.proofs.State.advance.Tie as tie
+
+may-advance-requires : tie.Need-may-advance-requires
+may-advance-requires c κs = search needs
+
+enum-told : tie.Need-enum-told
+enum-told c = search needs
+
+enum-told-2 : tie.Need-enum-told-2
+enum-told-2 c = search needs
+
+returns : tie.Need-returns
+unfolding advanceOf
+returns c = search next-kept
+
+seats-requires : tie.Need-seats-requires
+seats-requires c κs = search advance-ready
+
+advanced-requires : tie.Need-advanced-requires
+advanced-requires c κs = (search advance-opened, search)
+
+returns-2 : tie.Need-returns-2
+unfolding advanceOf
+returns-2 c = search next-moved
+
+pub advance-spec : {M : Type 1} → statement M
+advance-spec =
+    tie.close
+    (tie.spec
+    may-advance-requires
+    enum-told
+    enum-told-2
+    returns
+    seats-requires
+    advanced-requires
+    returns-2)

@@ -41,8 +41,7 @@ module _ (s : State) (bytes after : List ℕ) (answer : Answer) (shows : Shows s
   -- "Showing twice gives the same row": a second showing in the same lent row answers the same and leaves it as it is
   pub shown-twice : (again : Answer) (last : List ℕ) → Shows s after again last → (again ≡ answer) × (last ≡ after)
   shown-twice again last second =
-      let length-is : length after ≡ length bytes = ap length (shows .buffer) ∙ shown-length s bytes in
-      (
+      let length-is : length after ≡ length bytes = ap length (shows .buffer) ∙ shown-length s bytes in (
         second .result ∙ ap (showAnswer s) length-is ∙ sym (shows .result),
         second .buffer ∙ ap (bufferShown s) (shows .buffer) ∙ shown-again s bytes ∙ sym (shows .buffer),
       )
@@ -68,8 +67,7 @@ pub pair-is-slice : (s : State) (bytes after : List ℕ) (answer : Answer) (next
     (Sliced s bytes next after) × (next .answer ≡ answer)
 unfolding advanceOf
 pair-is-slice s bytes after answer next shows moves other =
-    let not-nine : number (showAnswer s (length bytes)) ≢ 9 = λ e. other (ap number (shows .result) ∙ e) in
-    (
+    let not-nine : number (showAnswer s (length bytes)) ≢ 9 = λ e. other (ap number (shows .result) ∙ e) in (
       record {
         result = moves ∙ advance-is-slice s (length bytes) not-nine;
         buffer = shows .buffer ∙ shown-is-sliced s bytes;
@@ -116,8 +114,7 @@ showings-move-nothing [] s = (refl, refl, refl)
 showings-move-nothing (show bytes ∷ calls) s = showings-move-nothing calls s
 showings-move-nothing (advance ∷ calls) s =
     let next = nextAfter s advance in
-    let same = showings-move-nothing calls (next .state) in
-    (
+    let same = showings-move-nothing calls (next .state) in (
       same .0,
       ap (λ (l : List Next). next ∷ l) (same .1),
       ap (λ (l : List Accepted). acceptedIn s advance ++ l) (same .2),

@@ -427,7 +427,9 @@ none-by-rows =
 
 -- what is shown of the first slice is the row that is counted, and a second showing leaves it so
 pub first-shown : 1 ∷ 2 ∷ [] ≡ rowOf (after planA releases)
-first-shown = row-shown (after planA releases) (7 ∷ 7 ∷ 7 ∷ []) (1 ∷ 2 ∷ 7 ∷ []) Good (running .shows) refl
+first-shown =
+    ap (λ (cards : ℕ). take cards (1 ∷ 2 ∷ 7 ∷ [])) (sym (running .first-cards))
+    ∙ row-shown (after planA releases) (7 ∷ 7 ∷ 7 ∷ []) (1 ∷ 2 ∷ 7 ∷ []) Good (running .shows) refl
 
 pub twice : (again : Answer) (last : List ℕ) → Shows (after planA releases) (1 ∷ 2 ∷ 7 ∷ []) again last → last ≡ 1 ∷ 2 ∷ 7 ∷ []
 twice again last second =
@@ -435,8 +437,9 @@ twice again last second =
 
 -- and so it is in any other lent row
 pub whatever-stood : (bytes left : List ℕ) (a : Answer) → Shows (after planA releases) bytes a left → number a ≡ 0 → 1 ∷ 2 ∷ [] ≡ take 2 left
-whatever-stood bytes left a c =
-    shown-alike (after planA releases) (7 ∷ 7 ∷ 7 ∷ []) bytes (1 ∷ 2 ∷ 7 ∷ []) left Good a (running .shows) c refl
+whatever-stood bytes left a c good =
+    rw (running .first-cards) at
+    (shown-alike (after planA releases) (7 ∷ 7 ∷ 7 ∷ []) bytes (1 ∷ 2 ∷ 7 ∷ []) left Good a (running .shows) c refl good)
 
 -- the showing and the advance are the one call
 pub one-call : Sliced (after planA releases) (7 ∷ 7 ∷ 7 ∷ []) (advanceOf (after planA releases)) (1 ∷ 2 ∷ 7 ∷ [])
@@ -456,10 +459,14 @@ short-at-the-end = short-advances ended [] [] _ (running .ended-short) refl .1 r
 
 -- kind 1 is released after a showing: the row shown then has it
 pub shown-anew : 1 ∷ 2 ∷ [] ≡ rowOf begun
-shown-anew = shown-after-release (after planA earlier) 1 2 (7 ∷ 7 ∷ []) (1 ∷ 2 ∷ []) Good (running .shown-then) refl
+shown-anew =
+    ap (λ (cards : ℕ). take cards (1 ∷ 2 ∷ [])) (sym (running .cards-then))
+    ∙ shown-after-release (after planA earlier) 1 2 (7 ∷ 7 ∷ []) (1 ∷ 2 ∷ []) Good (running .shown-then) refl
 
 pub shown-before : 1 ∷ 0 ∷ [] ≡ rowOf (after planA earlier)
-shown-before = row-shown (after planA earlier) (7 ∷ 7 ∷ []) (1 ∷ 0 ∷ []) Good (running .shown-first) refl
+shown-before =
+    ap (λ (cards : ℕ). take cards (1 ∷ 0 ∷ [])) (sym (running .cards-first))
+    ∙ row-shown (after planA earlier) (7 ∷ 7 ∷ []) (1 ∷ 0 ∷ []) Good (running .shown-first) refl
 
 -- the example's showings change nothing: nine calls answer the same without them, and four slices run
 pub nine-calls : length (handedBack (startOf planA .state) example) ≡ 9

@@ -145,6 +145,7 @@ pub record Running : Type 0 where
   pub release-early : number (releaseOf (after planA fourSlices) 2 1 .answer) ≡ 14
   pub shows : Shows (after planA releases) (7 ∷ 7 ∷ 7 ∷ []) Good (1 ∷ 2 ∷ 7 ∷ [])
   pub first-clock : after planA releases .clock ≡ 0
+  pub first-cards : after planA releases .plan .cards ≡ 2
   pub advance-clock : advanceOf (after planA releases) .state .clock ≡ 1
   pub advance-ended : number (advanceOf ended .answer) ≡ 11
   pub release-told : number (releaseAnswer (after planA fourSlices) 2 1) ≡ 14
@@ -154,6 +155,8 @@ pub record Running : Type 0 where
   -- what was shown before kind 1's release, and after it
   pub shown-first : Shows (after planA earlier) (7 ∷ 7 ∷ []) Good (1 ∷ 0 ∷ [])
   pub shown-then : Shows begun (7 ∷ 7 ∷ []) Good (1 ∷ 2 ∷ [])
+  pub cards-first : after planA earlier .plan .cards ≡ 2
+  pub cards-then : begun .plan .cards ≡ 2
   -- without its showings, the calls of the example are nine, of which the last is refused
   pub unshown-nine : length (handedBack (startOf planA .state) (unshown example)) ≡ 9
   -- on the refused plan
@@ -193,6 +196,7 @@ running = record {
   release-early = refl;
   shows = record { result = refl; buffer = refl };
   first-clock = refl;
+  first-cards = refl;
   advance-clock = refl;
   advance-ended = refl;
   release-told = refl;
@@ -201,6 +205,8 @@ running = record {
   ended-short = record { result = refl; buffer = refl };
   shown-first = record { result = refl; buffer = refl };
   shown-then = record { result = refl; buffer = refl };
+  cards-first = refl;
+  cards-then = refl;
   unshown-nine = refl;
   enough-good = refl;
   enough-rows = refl;

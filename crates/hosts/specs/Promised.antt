@@ -291,11 +291,11 @@ module _ (plan state first : List ℕ) (word : ℕ) (fresh : Starts plan state w
     -- ---- a showing after these calls, and an advance
 
     -- an accepted showing leaves in the first m bytes the row of the bytes' state
-    pub rows-shown : (row cards : List ℕ) (told-number : ℕ) →
+    pub row-shown : (row cards : List ℕ) (told-number : ℕ) →
         ShowsRow end row told-number cards →
         numberIn told-number ≡ 0 →
         take (p .cards) cards ≡ rowOf (stateFrom end)
-    rows-shown row cards told-number call z =
+    row-shown row cards told-number call z =
         let s = after p calls in
         let v = next-is-run (show row) (record { word = told-number; row = cards }) end (call, refl) in
         let good = shown-good s row told-number (ap (λ (x : Seen). x .word) (v .0)) z in
@@ -313,18 +313,18 @@ module _ (plan state first : List ℕ) (word : ℕ) (fresh : Starts plan state w
         (ap (λ (x : Seen). x .word) (v .0), v .1)
 
     -- it is the row that counts when these bytes are advanced
-    pub rows-counted : (row cards next : List ℕ) (shown-number : ℕ) (seen : Seen) →
+    pub row-counted : (row cards next : List ℕ) (shown-number : ℕ) (seen : Seen) →
         ShowsRow end row shown-number cards →
         numberIn shown-number ≡ 0 →
         Called end advance seen next →
         numberIn (seen .word) ≡ 0 →
         take (p .cards) cards ≡ take (p .cards) (seen .row)
     unfolding advanceOf
-    rows-counted row cards next shown-number seen shows y call z =
+    row-counted row cards next shown-number seen shows y call z =
         let s = after p calls in
         let v = next-is-run advance seen next call in
         let good = advanced-good s (seen .word) (ap (λ (x : Seen). x .word) (v .0)) z in
-        rows-shown row cards shown-number shows y ∙ ap rowOf state-found
+        row-shown row cards shown-number shows y ∙ ap rowOf state-found
         ∙ sym (lent-shows s good)
         ∙ ap (λ (q : Plan). take (q .cards) (bufferShown s lent)) (at-plan calls)
         ∙ sym (ap (λ (x : Seen). take (p .cards) (x .row)) (v .0))
@@ -342,7 +342,7 @@ module _ (plan state first : List ℕ) (word : ℕ) (fresh : Starts plan state w
         let a = advances-run next told-number call in
         let n : stateFrom next ≡ advanceOf s .state =
         ap stateFrom (a .1) ∙ state-round-trip (advanceOf s .state) (next-typed s (at-typed calls) rest advance) rest in
-        let b : take (p .cards) cards ≡ rowOf s = rows-shown row cards shown-number shows y ∙ ap rowOf state-found in
+        let b : take (p .cards) cards ≡ rowOf s = row-shown row cards shown-number shows y ∙ ap rowOf state-found in
         rw (n, state-found, b) (rack.rows-serve p admitted calls i (advanced-good s told-number (a .0) z) l)
 
     -- ---- 4. Refusals on the way

@@ -10,7 +10,7 @@ pub const STATE_IMAGE: usize = 256;
 /// Bytes of k.
 pub const K_BYTES: usize = 16;
 
-/// The eight functions on bytes. The word: number in bits 0-7, place 8-15, count 16-31, excess 32-63.
+/// The nine functions on bytes. The word: number in bits 0-7, place 8-15, count 16-31, excess 32-63.
 pub trait Side {
     /// Is the plan in order?
     fn check(&self, plan: &[u8]) -> u64;
@@ -26,8 +26,10 @@ pub trait Side {
     fn fresh(&self, plan: &[u8], state: &mut [u8]) -> u64;
     /// Releases a unit.
     fn release(&self, state: &mut [u8], kind: u64, e: u64) -> u64;
-    /// Runs a slice and writes its row.
-    fn slice(&self, state: &mut [u8], row: &mut [u8]) -> u64;
+    /// Shows the row of the next slice.
+    fn show(&self, state: &[u8], row: &mut [u8]) -> u64;
+    /// Runs a slice.
+    fn advance(&self, state: &mut [u8]) -> u64;
 }
 
 /// The word that carries an answer and a count.
@@ -179,7 +181,7 @@ pub fn state_image(state: &State) -> [u8; STATE_IMAGE] {
     bytes
 }
 
-/// Which of the eight functions.
+/// Which of the nine functions.
 #[derive(Clone, Copy, Debug, PartialEq, Eq, PartialOrd, Ord)]
 #[allow(missing_docs)]
 pub enum Op {
@@ -190,11 +192,12 @@ pub enum Op {
     Verdict,
     Fresh,
     Release,
-    Slice,
+    Show,
+    Advance,
 }
 
 /// Each function with its name.
-pub const OPS: [(Op, &str); 8] = [
+pub const OPS: [(Op, &str); 9] = [
     (Op::Check, "check"),
     (Op::Read, "read"),
     (Op::Write, "write"),
@@ -202,7 +205,8 @@ pub const OPS: [(Op, &str); 8] = [
     (Op::Verdict, "verdict"),
     (Op::Fresh, "fresh"),
     (Op::Release, "release"),
-    (Op::Slice, "slice"),
+    (Op::Show, "show"),
+    (Op::Advance, "advance"),
 ];
 
 impl Op {
@@ -219,7 +223,7 @@ pub struct Case {
     pub op: Op,
     /// The first buffer: a plan image, plan bytes or a state image.
     pub given: Vec<u8>,
-    /// The second buffer, as it is lent; empty for `check` and `release`.
+    /// The second buffer, as it is lent; empty for `check`, `release` and `advance`.
     pub lent: Vec<u8>,
     /// `release`: the kind.
     pub kind: u64,
@@ -299,7 +303,8 @@ impl Case {
             Op::Verdict => side.verdict(first, second),
             Op::Fresh => side.fresh(first, second),
             Op::Release => side.release(first, self.kind, self.e),
-            Op::Slice => side.slice(first, second),
+            Op::Show => side.show(first, second),
+            Op::Advance => side.advance(first),
         };
         Outcome {
             word,
@@ -374,7 +379,7 @@ pub fn outcome_in_words(own: &Outcome, other: &Outcome) -> String {
 pub fn image_in_words(case: &Case) -> Option<String> {
     let (image, running) = match case.op {
         Op::Read => return None,
-        Op::Release | Op::Slice => (case.given.get(..STATE_IMAGE)?, true),
+        Op::Release | Op::Show | Op::Advance => (case.given.get(..STATE_IMAGE)?, true),
         _ => (case.given.get(..PLAN_IMAGE)?, false),
     };
     let plan = plan_of(image);

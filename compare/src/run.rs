@@ -19,7 +19,7 @@ pub struct Tally {
     /// Calls on them.
     pub calls: u64,
     /// Calls by function and number given back.
-    pub numbers: [[u64; 16]; 8],
+    pub numbers: [[u64; 16]; OPS.len()],
     /// Streams.
     pub streams: u64,
     /// Lines that they printed.

@@ -53,6 +53,10 @@ advance-opened s r good is = advance-says s (sym is ∙ good)
 pub advance-ready : (s : State) (r : Answer) → r ≡ Good → r ≡ advanceAnswer s → Ready s
 advance-ready s r good is = advance-opened s r good is .ready
 
+-- the clock can rise: s is the state as it was, and the clock still its own
+pub advance-early : (s : State) (r : Answer) (clock : ℕ) → r ≡ Good → r ≡ advanceAnswer s → clock ≡ s .clock → clock + 1 < 4294967296
+advance-early s r clock good is e = omega (arith, advance-opened s r good is .time)
+
 -- an accepted one hands back the state that follows, and a refusal changes nothing
 pub advance-moves : (s : State) → advanceOf s .answer ≡ Good → advanceOf s .state ≡ advanced s
 unfolding advanceOf

@@ -174,8 +174,7 @@ pub extern "C" fn parchbeetle_show(state: &[u8], row: &mut [u8]) -> u64
     let Answer::Good = seen else {
         return seen.told(0);
     };
-    let given = found.state;
-    let shown = given.show(row);
+    let shown = found.state.show(row);
     shown.told(0)
 }
 
@@ -189,8 +188,7 @@ pub extern "C" fn parchbeetle_advance(state: &mut [u8]) -> u64
     let Answer::Good = seen else {
         return seen.told(0);
     };
-    let given = found.state;
-    let after = given.advance();
+    let after = found.state.advance();
     let answer = after.answer;
     let Answer::Good = answer else {
         return answer.told(0);

@@ -73,7 +73,9 @@ static uint64_t called(unsigned function, uint8_t *a, size_t a_len, uint8_t *b, 
     case 7:
         return parchbeetle_release(a, a_len, x, y);
     case 8:
-        return parchbeetle_slice(a, a_len, b, b_len);
+        return parchbeetle_show(a, a_len, b, b_len);
+    case 9:
+        return parchbeetle_advance(a, a_len);
     default:
         fprintf(stderr, "bridge: no function %u\n", function);
         exit(2);

@@ -30,9 +30,9 @@ extern "C" {
  * change them; an image belongs to the version that made it. Plan bytes are read by
  * every later version.
  */
-#define PARCHBEETLE_VERSION "0.4.0"
+#define PARCHBEETLE_VERSION "0.5.0"
 #define PARCHBEETLE_VERSION_MAJOR 0
-#define PARCHBEETLE_VERSION_MINOR 4
+#define PARCHBEETLE_VERSION_MINOR 5
 #define PARCHBEETLE_VERSION_PATCH 0
 
 /* ---- Images */
@@ -218,11 +218,19 @@ uint64_t parchbeetle_fresh(const uint8_t *plan, size_t plan_len, uint8_t *state,
 uint64_t parchbeetle_release(uint8_t *state, size_t state_len, uint64_t kind, uint64_t e);
 
 /*
- * Runs one slice. The state is changed in place; the first m bytes at `row` say
- * which kind each card served: kind number plus 1, or 0.
+ * Shows the next slice and keeps the state: the first m bytes at `row` say which kind
+ * each card is to serve: kind number plus 1, or 0. It may be shown as often as wanted;
+ * a release changes the state, so that what was shown before it may no longer hold.
  * Refusals: 9 (state_len below 256), the plan's 2 to 7, 10, 9 (row_len below m), 11.
  */
-uint64_t parchbeetle_slice(uint8_t *state, size_t state_len, uint8_t *row, size_t row_len);
+uint64_t parchbeetle_show(const uint8_t *state, size_t state_len, uint8_t *row, size_t row_len);
+
+/*
+ * Runs the slice that parchbeetle_show shows on this very state, shown or not. The
+ * state is changed in place.
+ * Refusals: 9 (state_len below 256), the plan's 2 to 7, 10, 11.
+ */
+uint64_t parchbeetle_advance(uint8_t *state, size_t state_len);
 
 /* ---- What the lists above make */
 

@@ -125,17 +125,24 @@ static void functions(void) {
     answers("release, no kind", parchbeetle_release(state, STATE, (uint64_t)1 << 32, 1), 12, 0, 0, 0);
     answers("release, too long", parchbeetle_release(state, STATE, 1, ((uint64_t)1 << 32) + 1), 13, 0, 0, 0);
     answers("release, short", parchbeetle_release(state, STATE - 1, 1, 1), 9, 0, 0, 0);
-    answers("slice, no room", parchbeetle_slice(state, STATE, row, 1), 9, 0, 0, 0);
+    answers("show, no room", parchbeetle_show(state, STATE, row, 1), 9, 0, 0, 0);
+    answers("show, short", parchbeetle_show(state, STATE - 1, row, 2), 9, 0, 0, 0);
+    answers("advance, short", parchbeetle_advance(state, STATE - 1), 9, 0, 0, 0);
     expect("a refusal keeps the state", memcmp(state, kept, STATE) == 0);
 
-    answers("slice", parchbeetle_slice(state, STATE, row, 2), 0, 0, 0, 0);
+    answers("show", parchbeetle_show(state, STATE, row, 2), 0, 0, 0, 0);
     expect("row", row[0] == 1 && row[1] == 0);
+    expect("showing keeps the state", memcmp(state, kept, STATE) == 0);
+    answers("advance", parchbeetle_advance(state, STATE), 0, 0, 0, 0);
     expect("clock", parchbeetle_state_clock(state) == 1);
     expect("left", parchbeetle_unit_left(state, 0) == 5);
     parchbeetle_set_state_clock(state, 1000000000);
-    answers("slice, at the end", parchbeetle_slice(state, STATE, row, 2), 11, 0, 0, 0);
+    answers("show, at the end", parchbeetle_show(state, STATE, row, 2), 11, 0, 0, 0);
+    answers("show, at the end, no room", parchbeetle_show(state, STATE, row, 1), 9, 0, 0, 0);
+    answers("advance, at the end", parchbeetle_advance(state, STATE), 11, 0, 0, 0);
     parchbeetle_set_kind_project(state, 2, 2);
-    answers("slice, kind 2", parchbeetle_slice(state, STATE, row, 2), 5, 2, 0, 0);
+    answers("show, kind 2", parchbeetle_show(state, STATE, row, 2), 5, 2, 0, 0);
+    answers("advance, kind 2", parchbeetle_advance(state, STATE), 5, 2, 0, 0);
     answers("release, kind 2", parchbeetle_release(state, STATE, 0, 1), 5, 2, 0, 0);
 }
 

@@ -1,8 +1,10 @@
-/* A card host: makes a plan, asks for the budget that it needs, starts on it, releases two units, and runs slices until none is left
- * of them. */
+/* A card host: makes a plan, asks for the budget that it needs, starts on it, releases two units, and shows and runs slices until none
+ * is left of them. */
 #include <stdio.h>
 
 #include "parchbeetle.h"
+
+enum { CARDS = 2 };
 
 static int good(const char *what, uint64_t answer) {
     unsigned number = PARCHBEETLE_NUMBER(answer);
@@ -18,9 +20,20 @@ static int good(const char *what, uint64_t answer) {
     return number == 0;
 }
 
+/* What the cards are about to serve: time to load it. */
+static void show(const uint8_t *state) {
+    uint8_t row[CARDS];
+    printf("slice %u:", parchbeetle_state_clock(state));
+    parchbeetle_show(state, PARCHBEETLE_STATE_IMAGE, row, sizeof row);
+    for (unsigned card = 0; card < CARDS; card++) {
+        row[card] == 0 ? printf(" idle") : printf(" kind %u", row[card] - 1u);
+    }
+    printf("\n");
+}
+
 int main(void) {
-    uint8_t plan[PARCHBEETLE_PLAN_IMAGE] = {0}, state[PARCHBEETLE_STATE_IMAGE], row[2];
-    parchbeetle_set_plan_cards(plan, sizeof row);
+    uint8_t plan[PARCHBEETLE_PLAN_IMAGE] = {0}, state[PARCHBEETLE_STATE_IMAGE];
+    parchbeetle_set_plan_cards(plan, CARDS);
     parchbeetle_set_plan_frame(plan, 4);
     parchbeetle_set_plan_projects(plan, 1);
     parchbeetle_set_project_ceiling(plan, 0, 2);
@@ -39,15 +52,13 @@ int main(void) {
         parchbeetle_set_project_budget(plan, 0, PARCHBEETLE_COUNT(smallest));
     }
     good("release of kind 0", parchbeetle_release(state, sizeof state, 0, 4));
+    show(state);
+    /* What was shown no longer holds, so it is shown again. */
     good("release of kind 1", parchbeetle_release(state, sizeof state, 1, 2));
     good("again", parchbeetle_release(state, sizeof state, 1, 2));
     while (parchbeetle_unit_left(state, 0) + parchbeetle_unit_left(state, 1) > 0) {
-        printf("slice %u:", parchbeetle_state_clock(state));
-        parchbeetle_slice(state, sizeof state, row, sizeof row);
-        for (unsigned card = 0; card < sizeof row; card++) {
-            row[card] == 0 ? printf(" idle") : printf(" kind %u", row[card] - 1u);
-        }
-        printf("\n");
+        show(state);
+        parchbeetle_advance(state, sizeof state);
     }
     return 0;
 }

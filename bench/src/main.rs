@@ -17,7 +17,7 @@ fn main() {
     println!("proved: the static library, images in and out. second: the second program, on the same images.");
     println!("tuned: the same rules in Rust, records in place. Nanoseconds are medians of {TURNS} turns of 1 ms,");
     println!("of {FEW_TURNS} turns where one call takes longer; the sides take turns. A state is copied in before each");
-    println!("single slice; no other buffer is cleared or filled. All sides gave the same before they were timed.");
+    println!("single slice or half of one; no other buffer is cleared or filled. All sides gave the same before they were timed.");
     if !bindings::LINKED {
         println!("\nTHE PROVED COLUMN SAYS NOTHING: the library cannot be linked here, an emulator makes its calls.");
     }
@@ -76,7 +76,8 @@ fn main() {
     }
     table.print();
 
-    let mut slices = Table::new("one slice, all kinds active (m 8, p 1, q 8, B 8F)");
+    let mut slices =
+        Table::new("one slice, shown and advanced, all kinds active (m 8, p 1, q 8, B 8F)");
     for n in [1, 8, 16] {
         slices.add(slice(
             format!("n {n}, F 64"),
@@ -84,6 +85,15 @@ fn main() {
         ));
     }
     slices.print();
+
+    let mut table = Table::new("its halves (as above)");
+    for half in [Half::Show, Half::Advance] {
+        for n in [1, 8, 16] {
+            let name = format!("{}, n {n}, F 64", half.name());
+            table.add(half_slice(name, half, &inputs::all_active(n, 64, 4095)));
+        }
+    }
+    table.print();
 
     let mut table = Table::new("one slice by n, F and D (as above)");
     let sliced = |n, frame, d| {
@@ -191,18 +201,71 @@ fn smallest(name: &str, plan: &Plan, project: u64) -> Row {
     )
 }
 
-fn slice(name: String, state: &State) -> Row {
-    let image = state_image(state);
-    let word = agree(&Case::new(Op::Slice, image.to_vec(), vec![0; 8]));
+/// A showing or an advance.
+#[derive(Clone, Copy)]
+enum Half {
+    Show,
+    Advance,
+}
+
+impl Half {
+    fn name(self) -> &'static str {
+        match self {
+            Half::Show => "show",
+            Half::Advance => "advance",
+        }
+    }
+}
+
+/// The sides agree on a slice: shown and advanced.
+fn agree_on_slice(name: &str, state: &State) {
+    let image = state_image(state).to_vec();
+    agree(&Case::new(Op::Show, image.clone(), vec![0; 8]));
+    agree(&Case::new(Op::Advance, image, Vec::new()));
     let mut own = *state;
     let (mut row, mut expected) = ([0; 8], [0; 8]);
     let next = second::slice(state, &mut expected).1;
-    let same = tuned::slice(&mut own, &mut row) == word && (own, row) == (next, expected);
-    stop_unless(same, "tuned differs", &name);
+    let good = tuned::show(state, &mut row) == 0 && tuned::advance(&mut own) == 0;
+    let same = good && (own, row) == (next, expected);
+    stop_unless(same, "tuned differs", name);
+}
 
+fn half_slice(name: String, half: Half, state: &State) -> Row {
+    agree_on_slice(&name, state);
+    let image = state_image(state);
     let through = |side: &dyn Side, running: &mut [u8; 256], row: &mut [u8; 8]| {
         running.copy_from_slice(black_box(&image));
-        kept(side.slice(black_box(running), black_box(row)));
+        kept(match half {
+            Half::Show => side.show(black_box(running), black_box(row)),
+            Half::Advance => side.advance(black_box(running)),
+        });
+    };
+    let (mut one, mut other, mut own) = (image, image, *state);
+    let (mut one_row, mut other_row, mut row) = ([0; 8], [0; 8], [0; 8]);
+    medians(
+        name,
+        [
+            &mut || through(&Proved, &mut one, &mut one_row),
+            &mut || through(&Second, &mut other, &mut other_row),
+            &mut || {
+                own = *black_box(state);
+                kept(match half {
+                    Half::Show => tuned::show(black_box(&own), black_box(&mut row)),
+                    Half::Advance => tuned::advance(black_box(&mut own)),
+                });
+            },
+        ],
+    )
+}
+
+fn slice(name: String, state: &State) -> Row {
+    agree_on_slice(&name, state);
+    let image = state_image(state);
+    let (mut own, mut row) = (*state, [0; 8]);
+    let through = |side: &dyn Side, running: &mut [u8; 256], row: &mut [u8; 8]| {
+        running.copy_from_slice(black_box(&image));
+        kept(side.show(black_box(running), black_box(row)));
+        kept(side.advance(black_box(running)));
     };
     let (mut one, mut other) = (image, image);
     let (mut one_row, mut other_row) = (row, row);
@@ -213,7 +276,8 @@ fn slice(name: String, state: &State) -> Row {
             &mut || through(&Second, &mut other, &mut other_row),
             &mut || {
                 own = *black_box(state);
-                kept(tuned::slice(black_box(&mut own), black_box(&mut row)));
+                kept(tuned::show(black_box(&own), black_box(&mut row)));
+                kept(tuned::advance(black_box(&mut own)));
             },
         ],
     )
@@ -227,13 +291,15 @@ fn long_stream(stream: &Stream) -> Row {
             stream,
             &mut state,
             |state, kind, e| side.release(state, kind, e),
-            |state, row| side.slice(state, row),
+            |state, row| side.show(state, row) | side.advance(state),
         );
         (state, played)
     };
     let tuned = || {
         let mut state = stream.start;
-        let played = played(stream, &mut state, tuned::release, tuned::slice);
+        let slice =
+            |state: &mut State, row: &mut [u8]| tuned::show(state, row) | tuned::advance(state);
+        let played = played(stream, &mut state, tuned::release, slice);
         (state_image(&state), played)
     };
     let proved = through(&Proved);

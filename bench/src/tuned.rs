@@ -364,19 +364,45 @@ pub fn release(state: &mut State, kind: u64, e: u64) -> u64 {
     0
 }
 
-/// Runs a slice, in place.
-pub fn slice(state: &mut State, row: &mut [u8]) -> u64 {
+/// Shows the row of the next slice.
+pub fn show(state: &State, row: &mut [u8]) -> u64 {
     let word = state_check(state);
     if word != 0 {
         return word;
     }
-    let plan = &state.plan;
-    let Some(row) = row.get_mut(..usize::from(plan.m)) else {
+    let Some(row) = row.get_mut(..usize::from(state.plan.m)) else {
         return 9;
     };
     if state.clock == LAST_CLOCK {
         return 11;
     }
+    row.fill(0);
+    seated(state, |card, i| row[card] = i as u8 + 1);
+    0
+}
+
+/// Runs a slice, in place.
+pub fn advance(state: &mut State) -> u64 {
+    let word = state_check(state);
+    if word != 0 {
+        return word;
+    }
+    if state.clock == LAST_CLOCK {
+        return 11;
+    }
+    let mut kinds = 0u32;
+    seated(state, |_, i| kinds |= 1 << i);
+    while kinds != 0 {
+        state.kinds[kinds.trailing_zeros() as usize & 15].left -= 1;
+        kinds &= kinds - 1;
+    }
+    state.clock += 1;
+    0
+}
+
+/// Gives each card that is taken in the next slice, and the kind that takes it.
+fn seated(state: &State, mut seat: impl FnMut(usize, usize)) {
+    let plan = &state.plan;
     // For each project the kinds with slices left, a bit each; and when each is due.
     let mut working = [0u32; 8];
     let mut due = [0u32; 16];
@@ -385,7 +411,6 @@ pub fn slice(state: &mut State, row: &mut [u8]) -> u64 {
         working[usize::from(kind.project) & 7] |= u32::from(unit.left > 0) << i;
         due[i] = unit.at + u32::from(kind.deadline);
     }
-    row.fill(0);
     let frame = u32::from(plan.frame);
     let now = state.clock % frame;
     let mut first = 0;
@@ -398,12 +423,9 @@ pub fn slice(state: &mut State, row: &mut [u8]) -> u64 {
                 break;
             };
             waiting &= !(1 << best);
-            row[card as usize] = best as u8 + 1;
-            state.kinds[best].left -= 1;
+            seat(card as usize, best);
         }
     }
-    state.clock += 1;
-    0
 }
 
 /// The kind that is due first among those that wait, the lower number on a tie.

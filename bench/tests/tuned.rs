@@ -84,13 +84,15 @@ fn states() {
 
         let lent = g.row_buffer(&state);
         let (mut row, mut other) = (lent.clone(), lent);
-        let (answer, expected) = second::slice(&state, &mut other);
-        let mut next = state;
+        let answer = second::show(&state, &mut other);
         assert_eq!(
-            tuned::slice(&mut next, &mut row),
-            word(answer, 0),
+            (tuned::show(&state, &mut row), row),
+            (word(answer, 0), other),
             "{state:?}"
         );
-        assert_eq!((next, row), (expected, other));
+        let (answer, expected) = second::advance(&state);
+        let mut next = state;
+        assert_eq!(tuned::advance(&mut next), word(answer, 0), "{state:?}");
+        assert_eq!(next, expected);
     }
 }

@@ -96,9 +96,9 @@ fn reading(function: u8, given: &[u8], lent: &mut [u8], number: u64) -> u64 {
     answer
 }
 
-/// A call whose first buffer is changed in place.
-fn changing(function: u8, state: &mut [u8], lent: &mut [u8], numbers: [u64; 2]) -> u64 {
-    let (answer, after) = call(function, state, lent, numbers);
+/// A call whose only buffer is changed in place.
+fn changing(function: u8, state: &mut [u8], numbers: [u64; 2]) -> u64 {
+    let (answer, after) = call(function, state, &mut [], numbers);
     state.copy_from_slice(&after);
     answer
 }
@@ -132,9 +132,13 @@ pub fn fresh(plan: &[u8], state: &mut [u8]) -> u64 {
 }
 
 pub fn release(state: &mut [u8], kind: u64, e: u64) -> u64 {
-    changing(7, state, &mut [], [kind, e])
+    changing(7, state, [kind, e])
 }
 
-pub fn slice(state: &mut [u8], row: &mut [u8]) -> u64 {
-    changing(8, state, row, [0; 2])
+pub fn show(state: &[u8], row: &mut [u8]) -> u64 {
+    reading(8, state, row, 0)
+}
+
+pub fn advance(state: &mut [u8]) -> u64 {
+    changing(9, state, [0; 2])
 }

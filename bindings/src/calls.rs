@@ -47,7 +47,12 @@ pub fn release(state: &mut [u8], kind: u64, e: u64) -> Answer {
     Answer::of_word(library::release(state, kind, e))
 }
 
-/// Runs a slice in a state image and writes its row.
-pub fn slice(state: &mut [u8], row: &mut [u8]) -> Answer {
-    Answer::of_word(library::slice(state, row))
+/// Shows the row of the next slice of a state image.
+pub fn show(state: &[u8], row: &mut [u8]) -> Answer {
+    Answer::of_word(library::show(state, row))
+}
+
+/// Runs a slice in a state image.
+pub fn advance(state: &mut [u8]) -> Answer {
+    Answer::of_word(library::advance(state))
 }

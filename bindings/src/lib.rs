@@ -16,7 +16,9 @@ mod linked;
 mod record;
 
 pub use answer::{in_words, Answer, NUMBERS};
-pub use calls::{check, fresh, read, release, slice, slot_table, smallest_budget, verdict, write};
+pub use calls::{
+    advance, check, fresh, read, release, show, slot_table, smallest_budget, verdict, write,
+};
 pub use record::{Kind, Plan, Project, State, Unit, Verdict};
 
 /// Whether the library is linked, so that a call takes no more than its own time.

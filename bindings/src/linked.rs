@@ -19,7 +19,8 @@ extern "C" {
     fn parchbeetle_fresh(plan: *const u8, plan_len: usize, state: *mut u8, state_len: usize)
         -> u64;
     fn parchbeetle_release(state: *mut u8, state_len: usize, kind: u64, e: u64) -> u64;
-    fn parchbeetle_slice(state: *mut u8, state_len: usize, row: *mut u8, row_len: usize) -> u64;
+    fn parchbeetle_show(state: *const u8, state_len: usize, row: *mut u8, row_len: usize) -> u64;
+    fn parchbeetle_advance(state: *mut u8, state_len: usize) -> u64;
 }
 
 pub fn check(plan: &[u8]) -> u64 {
@@ -54,6 +55,10 @@ pub fn release(state: &mut [u8], kind: u64, e: u64) -> u64 {
     unsafe { parchbeetle_release(state.as_mut_ptr(), state.len(), kind, e) }
 }
 
-pub fn slice(state: &mut [u8], row: &mut [u8]) -> u64 {
-    unsafe { parchbeetle_slice(state.as_mut_ptr(), state.len(), row.as_mut_ptr(), row.len()) }
+pub fn show(state: &[u8], row: &mut [u8]) -> u64 {
+    unsafe { parchbeetle_show(state.as_ptr(), state.len(), row.as_mut_ptr(), row.len()) }
+}
+
+pub fn advance(state: &mut [u8]) -> u64 {
+    unsafe { parchbeetle_advance(state.as_mut_ptr(), state.len()) }
 }

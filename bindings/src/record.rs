@@ -258,10 +258,15 @@ impl State {
         given(answer, ())
     }
 
-    /// Runs a slice and writes its row.
-    pub fn slice(&mut self, row: &mut [u8]) -> Given<()> {
+    /// Shows the row of the next slice.
+    pub fn show(&self, row: &mut [u8]) -> Given<()> {
+        given(calls::show(&self.image(), row), ())
+    }
+
+    /// Runs a slice.
+    pub fn advance(&mut self) -> Given<()> {
         let mut image = self.image();
-        let answer = calls::slice(&mut image, row);
+        let answer = calls::advance(&mut image);
         *self = State::of_image(&image);
         given(answer, ())
     }

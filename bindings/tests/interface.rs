@@ -585,15 +585,16 @@ fn one_thing_changed_on_one_side_is_found() {
         (header, "uint64_t project)", "uint8_t project)"),
         (exported, "plan: &[u8], project: u64", "plan: &[u8], place: u64"),
         (header, "uint8_t *k,", "const uint8_t *k,"),
+        (header, "show(const uint8_t *state", "show(uint8_t *state"),
         (bindings, "k: *mut u8", "k: *const u8"),
         (exported, "plan: &[u8], k: &mut [u8]", "plan: &[u8], k: &[u8]"),
         (exported, "plan: &[u8], k: &mut [u8]", "plan: &[u8], k: u64"),
         // One function more, and one that is not exported.
         (exported, "fn parchbeetle_check(plan", "fn parchbeetle_more() -> u64\n#[no_mangle]\npub extern \"C\" fn parchbeetle_check(plan"),
-        (exported, "#[no_mangle]\npub extern \"C\" fn parchbeetle_slice", "pub fn parchbeetle_slice"),
+        (exported, "#[no_mangle]\npub extern \"C\" fn parchbeetle_advance", "pub fn parchbeetle_advance"),
         // A function that the bridge has under another number or not at all.
         (bridge, "return parchbeetle_verdict(", "return parchbeetle_fresh("),
-        (bridged, "changing(8", "changing(9"),
+        (bridged, "changing(9", "changing(8"),
         (bridged, "pub fn verdict(plan: &[u8], k", "pub fn verdict(k: &[u8], plan"),
         // A field's name, width and order, and how many places.
         (header, "field(budget, 2)", "field(budget, 4)"),
@@ -698,9 +699,11 @@ fn the_records_are_what_the_library_reads_and_writes() {
     };
     assert_eq!(state, fresh);
     let mut row = [0; MOST_ROW_BYTES];
-    state.slice(&mut row).unwrap();
+    state.advance().unwrap();
     state.release(2, 2).unwrap();
-    state.slice(&mut row).unwrap();
+    state.show(&mut row).unwrap();
+    assert_eq!((row, state.clock), ([0, 3, 0, 0, 0, 0, 0, 0], 1));
+    state.advance().unwrap();
     let mut expected = State { clock: 2, ..fresh };
     expected.unit[2] = Unit {
         released: 1,
@@ -708,7 +711,6 @@ fn the_records_are_what_the_library_reads_and_writes() {
         left: 1,
     };
     assert_eq!(state, expected);
-    assert_eq!(row, [0, 3, 0, 0, 0, 0, 0, 0]);
     assert_eq!(State::of_image(&state.image()), state);
 
     let refused = state.release(2, 1).unwrap_err();
@@ -732,7 +734,7 @@ fn the_sizes_are_the_librarys() {
     let state = plan_a().fresh().unwrap().image();
     let copy = |size: usize| state[..size].to_vec();
     type Call<'a> = &'a dyn Fn(usize) -> Answer;
-    let calls: [(usize, Call); 11] = [
+    let calls: [(usize, Call); 12] = [
         (PLAN_IMAGE, &|size| check(&plan[..size])),
         (PLAN_IMAGE, &|size| read(&PLAN_A, &mut vec![0; size])),
         (PLAN_IMAGE, &|size| write(&plan[..size], &mut [0; 99])),
@@ -743,7 +745,8 @@ fn the_sizes_are_the_librarys() {
         (PLAN_IMAGE, &|size| fresh(&plan[..size], &mut [0; 256])),
         (STATE_IMAGE, &|size| fresh(&plan, &mut vec![0; size])),
         (STATE_IMAGE, &|size| release(&mut copy(size), 0, 1)),
-        (STATE_IMAGE, &|size| slice(&mut copy(size), &mut [0; 2])),
+        (STATE_IMAGE, &|size| show(&state[..size], &mut [0; 2])),
+        (STATE_IMAGE, &|size| advance(&mut copy(size))),
     ];
     for (size, call) in calls {
         assert_eq!(call(size).number, 0);
@@ -770,7 +773,7 @@ fn the_sizes_are_the_librarys() {
     }; 16];
     assert_eq!(largest.bytes().unwrap().len(), MOST_PLAN_BYTES);
     assert_eq!(largest.slots().unwrap().len(), MOST_TABLE_BYTES);
-    let row = |size: usize| largest.fresh().unwrap().slice(&mut vec![0; size]);
+    let row = |size: usize| largest.fresh().unwrap().show(&mut vec![0; size]);
     assert_eq!(row(MOST_ROW_BYTES), Ok(()));
     assert!(row(MOST_ROW_BYTES - 1).is_err());
 }

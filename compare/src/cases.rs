@@ -26,13 +26,13 @@ const ON_PLANS: [Op; 5] = [Op::Check, Op::Write, Op::SlotTable, Op::Verdict, Op:
 /// The bytes that a function on this plan needs in its second buffer.
 fn needed(op: Op, plan: &Plan) -> usize {
     match op {
-        Op::Check | Op::SmallestBudget | Op::Release => 0,
+        Op::Check | Op::SmallestBudget | Op::Release | Op::Advance => 0,
         Op::Read => PLAN_IMAGE,
         Op::Write => plan_bytes(plan.p, plan.n),
         Op::SlotTable => usize::from(plan.m) * usize::from(plan.frame),
         Op::Verdict => VERDICT_BYTES,
         Op::Fresh => STATE_IMAGE,
-        Op::Slice => usize::from(plan.m),
+        Op::Show => usize::from(plan.m),
     }
     // Beyond what any plan in order needs, more bytes show nothing.
     .min(520)
@@ -44,7 +44,7 @@ fn needed(op: Op, plan: &Plan) -> usize {
 pub enum Fixed {
     /// Every function on a plan.
     Plan(Plan),
-    /// Releases and slices of a state.
+    /// Releases, showings and an advance of a state.
     State(State),
     /// Plan bytes, read.
     Bytes(Vec<u8>),
@@ -114,14 +114,15 @@ fn open_budget(plan: &Plan, project: u64) -> Case {
     Case::smallest_budget(plan_image(plan).to_vec(), project)
 }
 
-/// Slices with enough room and too little; releases of the first, the last and no kind, and of each that ran.
+/// Showings with enough room and too little, and an advance; releases of the first, the last and no kind, and of each that ran.
 fn on_state(state: &State) -> Record {
     let image = state_image(state).to_vec();
     let mut record = Vec::new();
-    let m = needed(Op::Slice, &state.plan);
+    let m = needed(Op::Show, &state.plan);
     for room in [m, m + 1, m.saturating_sub(1)] {
-        record.push(Case::new(Op::Slice, image.clone(), vec![0xEE; room]));
+        record.push(Case::new(Op::Show, image.clone(), vec![0xEE; room]));
     }
+    record.push(Case::new(Op::Advance, image.clone(), Vec::new()));
     let n = u64::from(state.plan.n);
     let mut kinds = vec![0, n.saturating_sub(1), n, 16];
     kinds.extend((0..16).filter(|&i| state.kinds[i as usize] != Default::default()));
@@ -156,7 +157,8 @@ fn lengths() -> Vec<Case> {
         (Op::Verdict, &image),
         (Op::SmallestBudget, &image),
         (Op::Fresh, &image),
-        (Op::Slice, &running),
+        (Op::Show, &running),
+        (Op::Advance, &running),
     ] {
         let room = needed(op, &plan);
         for count in 0..=given.len() {
@@ -193,8 +195,9 @@ fn on_released(plan: &Plan, place: usize, value: u8) -> Record {
     vec![
         Case::release(image.clone(), 0, 1),
         Case::release(image.clone(), 12, 1),
-        Case::new(Op::Slice, image.clone(), vec![0xEE; 2]),
-        Case::new(Op::Slice, image, vec![0xEE; 1]),
+        Case::new(Op::Show, image.clone(), vec![0xEE; 2]),
+        Case::new(Op::Show, image.clone(), vec![0xEE; 1]),
+        Case::new(Op::Advance, image, Vec::new()),
     ]
 }
 
@@ -568,7 +571,7 @@ fn damaged_bytes(g: &mut Generator, plan: &Plan) -> Vec<u8> {
     bytes
 }
 
-/// A state, and the same with one or two bytes changed: releases and a slice on each.
+/// A state, and the same with one or two bytes changed: a release, a showing and an advance on each.
 fn state_records(g: &mut Generator, state: &mut State, records: &mut Vec<Record>) {
     // Releases close together make equal deadlines likely.
     if g.one_in(4) {
@@ -586,7 +589,7 @@ fn state_records(g: &mut Generator, state: &mut State, records: &mut Vec<Record>
     records.push(state_record(g, &image));
 }
 
-/// A slice and a release on a state image.
+/// A release, a showing and an advance on a state image.
 fn state_record(g: &mut Generator, image: &[u8; STATE_IMAGE]) -> Record {
     let mut readable = *image;
     for place in 0..16 {
@@ -595,10 +598,11 @@ fn state_record(g: &mut Generator, image: &[u8; STATE_IMAGE]) -> Record {
     let state = state_of(&readable).unwrap_or_default();
     let (kind, e) = g.release_numbers(&state);
     let image = given(g, image);
-    let row = lent(g, needed(Op::Slice, &state.plan));
+    let row = lent(g, needed(Op::Show, &state.plan));
     vec![
         Case::release(image.clone(), kind, e),
-        Case::new(Op::Slice, image, row),
+        Case::new(Op::Show, image.clone(), row),
+        Case::new(Op::Advance, image, Vec::new()),
     ]
 }
 
@@ -638,7 +642,8 @@ fn nudge_state(g: &mut Generator, image: &mut [u8; STATE_IMAGE]) {
     }
 }
 
-/// A run from the fresh start, if the plan is admitted: each step on the state before it.
+/// A run from the fresh start, if the plan is admitted: each step on the state before it. The host shows a slice once, several times,
+/// with too short a row or not at all, and a release may fall between a showing and its slice.
 fn run_records(g: &mut Generator, plan: &Plan, records: &mut Vec<Record>) {
     let (answer, mut state) = second::fresh(plan);
     if !answer.is_good() {
@@ -646,20 +651,34 @@ fn run_records(g: &mut Generator, plan: &Plan, records: &mut Vec<Record>) {
     }
     let count = g.between(2, 24);
     let (commands, _) = g.run(state, count);
-    let mut room = [0; 8];
+    let m = usize::from(plan.m);
     for bytes in commands.chunks_exact(3) {
         let image = state_image(&state).to_vec();
+        // What is shown before a release is shown again after it, or not.
+        let mut record = Vec::new();
+        for _ in 0..g.below(3) {
+            let room = match g.below(4) {
+                0 => g.below(m as u64) as usize,
+                _ => m + g.below(3) as usize,
+            };
+            let row = arbitrary(g, room);
+            record.push(Case::new(Op::Show, image.clone(), row));
+        }
         match command(bytes) {
             Command::Release { kind, e } => {
-                records.push(vec![Case::release(image, kind, e)]);
+                record.push(Case::release(image, kind, e));
                 state = second::release(&state, kind, e).1;
+                record.push(Case::new(
+                    Op::Advance,
+                    state_image(&state).to_vec(),
+                    Vec::new(),
+                ));
             }
             _ => {
-                let room_for = usize::from(plan.m) + g.below(3) as usize;
-                let row = arbitrary(g, room_for);
-                records.push(vec![Case::new(Op::Slice, image, row)]);
-                state = second::slice(&state, &mut room).1;
+                record.push(Case::new(Op::Advance, image, Vec::new()));
+                state = second::advance(&state).1;
             }
         }
+        records.push(record);
     }
 }

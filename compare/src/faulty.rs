@@ -16,6 +16,7 @@ use second::rack::{in_form, LAST_CLOCK};
 use second::supply::supply_and_slice;
 use second::verdict::{ceiling_of, excess, least_k, workload};
 use second::{Answer, Plan, State};
+use std::cell::Cell;
 use std::io::{self, Read, Write};
 use std::ops::ControlFlow::{self, Break, Continue};
 
@@ -87,12 +88,17 @@ pub enum Fault {
     PlayStops,
     PlayReadEnd,
     PlayGoesOn,
+    ShowWithout11,
+    ShowKeepsIdle,
+    AdvanceGoesOn,
+    AdvanceRemembers,
+    PlayRowAfter,
 }
 
 use Fault::*;
 
 /// Each fault that records must show: its name and what it is.
-pub const RECORD_FAULTS: [(Fault, &str, &str); 54] = [
+pub const RECORD_FAULTS: [(Fault, &str, &str); 58] = [
     (SumFirst, "sum-first", "7 is told before 4"),
     (FiveFirst, "five-first", "all kinds for 5 before any 6"),
     (
@@ -291,10 +297,30 @@ pub const RECORD_FAULTS: [(Fault, &str, &str); 54] = [
         "excess-none-less",
         "an excess of C - 1 where there is no C'",
     ),
+    (
+        ShowWithout11,
+        "show-without-11",
+        "a row is shown at the clock's end",
+    ),
+    (
+        ShowKeepsIdle,
+        "show-keeps-idle",
+        "an idle card's byte stays as it was",
+    ),
+    (
+        AdvanceGoesOn,
+        "advance-goes-on",
+        "the clock goes on beyond its end",
+    ),
+    (
+        AdvanceRemembers,
+        "remembers",
+        "an advance runs what was shown last",
+    ),
 ];
 
 /// Each fault that streams must show.
-pub const STREAM_FAULTS: [(Fault, &str, &str); 12] = [
+pub const STREAM_FAULTS: [(Fault, &str, &str); 13] = [
     (PlayEnd, "play-end", "no end line after a bad command"),
     (
         PlayLeftOver,
@@ -328,6 +354,11 @@ pub const STREAM_FAULTS: [(Fault, &str, &str); 12] = [
         "play-goes-on",
         "an output that fails is not noticed",
     ),
+    (
+        PlayRowAfter,
+        "play-row-after",
+        "the row shown after the slice is printed",
+    ),
     (Ties, "ties", "a tie goes to the higher kind number"),
     (CutOff, "cut-off", "W without the cut-off unit"),
     (Early, "early", "a release at T-1 passes"),
@@ -348,6 +379,11 @@ pub fn named(name: &str) -> Option<Fault> {
 /// The second program with this fault.
 #[derive(Clone, Copy, Debug)]
 pub struct Faulty(pub Fault);
+
+thread_local! {
+    /// What was shown last and not advanced since, for a copy that remembers it.
+    static SHOWN: Cell<Option<Vec<(usize, usize)>>> = const { Cell::new(None) };
+}
 
 impl Faulty {
     fn is(&self, fault: Fault) -> bool {
@@ -661,26 +697,15 @@ impl Faulty {
         }
     }
 
-    fn sliced(&self, state: &State, row: &mut [u8]) -> (Answer, State) {
-        let in_order = second::check(&state.plan).is_good() && in_form(state);
-        if self.is(ElevenFirst) && in_order && state.clock == LAST_CLOCK {
-            return (Answer::refused(11), *state);
-        }
-        let kept = row.to_vec();
-        let (answer, mut next) = second::slice(state, row);
-        if !answer.is_good() {
-            return (answer, *state);
-        }
-        // The row again, by this copy's rules.
-        row.copy_from_slice(&kept);
-        row[..usize::from(state.plan.m)].fill(0);
-        next.kinds = state.kinds;
+    /// Each card that is taken and its kind, by this copy's rules; of a state on a plan in order.
+    fn chosen(&self, state: &State) -> Vec<(usize, usize)> {
         let frame = u64::from(state.plan.frame);
         let clock = u64::from(state.clock);
         let now = match self.0 {
             Rotated => (clock + clock / frame) % frame,
             _ => clock % frame,
         };
+        let mut chosen = Vec::new();
         let cells = cells(&state.plan);
         for project in 0..usize::from(state.plan.p) {
             let cards = cards_held(&cells, project, now);
@@ -688,16 +713,54 @@ impl Faulty {
             let times = if self.is(TwoCards) { 2 } else { 1 };
             let units = ranked.iter().flat_map(|&i| vec![i; times]);
             for (card, i) in cards.into_iter().zip(units) {
-                if self.is(ServesNone) {
-                    continue;
-                }
-                row[card as usize] = i as u8 + 1;
-                if !(self.is(FirstFrame) && clock >= frame) {
-                    next.kinds[i].left = next.kinds[i].left.saturating_sub(1);
+                if !self.is(ServesNone) {
+                    chosen.push((card as usize, i));
                 }
             }
         }
-        (answer, next)
+        chosen
+    }
+
+    fn shown(&self, state: &State, row: &mut [u8]) -> Answer {
+        let in_order = second::check(&state.plan).is_good() && in_form(state);
+        if self.is(ElevenFirst) && in_order && state.clock == LAST_CLOCK {
+            return Answer::refused(11);
+        }
+        let answer = second::show(state, &mut row.to_vec());
+        let at_the_end = self.is(ShowWithout11) && answer.number == 11;
+        if !answer.is_good() && !at_the_end {
+            return answer;
+        }
+        // The row, by this copy's rules.
+        let chosen = self.chosen(state);
+        if !self.is(ShowKeepsIdle) {
+            row[..usize::from(state.plan.m)].fill(0);
+        }
+        for &(card, i) in &chosen {
+            row[card] = i as u8 + 1;
+        }
+        SHOWN.set(Some(chosen));
+        Answer::GOOD
+    }
+
+    fn advanced(&self, state: &State) -> (Answer, State) {
+        let (answer, mut next) = second::advance(state);
+        if self.is(AdvanceGoesOn) && answer.number == 11 {
+            next.clock += 1;
+        } else if !answer.is_good() {
+            return (answer, next);
+        }
+        let chosen = match SHOWN.take() {
+            Some(shown) if self.is(AdvanceRemembers) => shown,
+            _ => self.chosen(state),
+        };
+        next.kinds = state.kinds;
+        for (_, i) in chosen {
+            if !(self.is(FirstFrame) && state.clock >= u32::from(state.plan.frame)) {
+                next.kinds[i].left = next.kinds[i].left.saturating_sub(1);
+            }
+        }
+        (Answer::GOOD, next)
     }
 
     fn ranked(&self, state: &State, project: usize) -> Vec<usize> {
@@ -813,10 +876,16 @@ impl Side for Faulty {
         self.on_state(state, |state| self.released(state, kind, e))
     }
 
-    fn slice(&self, state: &mut [u8], row: &mut [u8]) -> u64 {
+    fn show(&self, state: &[u8], row: &mut [u8]) -> u64 {
         let m = state.first().map_or(0, |&m| usize::from(m));
-        let word = self.on_state(state, |state| self.sliced(state, row));
+        // A showing keeps the state.
+        let mut kept = state.to_vec();
+        let word = self.on_state(&mut kept, |state| (self.shown(state, row), *state));
         self.after(word, row, m)
+    }
+
+    fn advance(&self, state: &mut [u8]) -> u64 {
+        self.on_state(state, |state| self.advanced(state))
     }
 }
 
@@ -970,7 +1039,14 @@ impl Player {
             }
             Command::Slice => {
                 let mut row = vec![0; usize::from(state.plan.m)];
-                let (answer, next) = self.copy.sliced(&state, &mut row);
+                let answer = self.copy.shown(&state, &mut row);
+                let next = match answer.is_good() {
+                    true => self.copy.advanced(&state).1,
+                    false => state,
+                };
+                if self.copy.is(PlayRowAfter) {
+                    self.copy.shown(&next, &mut row);
+                }
                 let clock = match self.copy.is(PlayClock) {
                     true => next.clock,
                     false => state.clock,

@@ -10,7 +10,7 @@ pub const STATE_IMAGE: usize = 256;
 /// Bytes of a verdict: the k of each kind, then the slice of each.
 pub const VERDICT_BYTES: usize = 32;
 
-/// The nine functions on bytes. The word: number in bits 0-7, place 8-15, count 16-31, excess 32-55, slice 56-63.
+/// The ten functions on bytes. The word: number in bits 0-7, place 8-15, count 16-31, excess 32-55, slice 56-63.
 pub trait Side {
     /// Is the plan in order?
     fn check(&self, plan: &[u8]) -> u64;
@@ -28,8 +28,10 @@ pub trait Side {
     fn fresh(&self, plan: &[u8], state: &mut [u8]) -> u64;
     /// Releases a unit.
     fn release(&self, state: &mut [u8], kind: u64, e: u64) -> u64;
-    /// Runs a slice and writes its row.
-    fn slice(&self, state: &mut [u8], row: &mut [u8]) -> u64;
+    /// Shows the row of the next slice.
+    fn show(&self, state: &[u8], row: &mut [u8]) -> u64;
+    /// Runs a slice.
+    fn advance(&self, state: &mut [u8]) -> u64;
 }
 
 /// The word that carries an answer and a count.
@@ -194,11 +196,12 @@ pub enum Op {
     SmallestBudget,
     Fresh,
     Release,
-    Slice,
+    Show,
+    Advance,
 }
 
 /// Each function with its name.
-pub const OPS: [(Op, &str); 9] = [
+pub const OPS: [(Op, &str); 10] = [
     (Op::Check, "check"),
     (Op::Read, "read"),
     (Op::Write, "write"),
@@ -207,7 +210,8 @@ pub const OPS: [(Op, &str); 9] = [
     (Op::SmallestBudget, "smallest_budget"),
     (Op::Fresh, "fresh"),
     (Op::Release, "release"),
-    (Op::Slice, "slice"),
+    (Op::Show, "show"),
+    (Op::Advance, "advance"),
 ];
 
 impl Op {
@@ -224,7 +228,7 @@ pub struct Case {
     pub op: Op,
     /// The first buffer: a plan image, plan bytes or a state image.
     pub given: Vec<u8>,
-    /// The second buffer, as it is lent; empty for `check`, `smallest_budget` and `release`.
+    /// The second buffer, as it is lent; empty for `check`, `smallest_budget`, `release` and `advance`.
     pub lent: Vec<u8>,
     /// The kind and the length e of `release`, the project of `smallest_budget`.
     pub numbers: [u64; 2],
@@ -310,7 +314,8 @@ impl Case {
             Op::SmallestBudget => side.smallest_budget(first, number),
             Op::Fresh => side.fresh(first, second),
             Op::Release => side.release(first, number, e),
-            Op::Slice => side.slice(first, second),
+            Op::Show => side.show(first, second),
+            Op::Advance => side.advance(first),
         };
         Outcome {
             word,
@@ -385,7 +390,7 @@ pub fn outcome_in_words(own: &Outcome, other: &Outcome) -> String {
 pub fn image_in_words(case: &Case) -> Option<String> {
     let (image, running) = match case.op {
         Op::Read => return None,
-        Op::Release | Op::Slice => (case.given.get(..STATE_IMAGE)?, true),
+        Op::Release | Op::Show | Op::Advance => (case.given.get(..STATE_IMAGE)?, true),
         _ => (case.given.get(..PLAN_IMAGE)?, false),
     };
     let plan = plan_of(image);

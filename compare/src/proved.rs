@@ -39,7 +39,11 @@ impl Side for Proved {
         bindings::release(state, kind, e).word()
     }
 
-    fn slice(&self, state: &mut [u8], row: &mut [u8]) -> u64 {
-        bindings::slice(state, row).word()
+    fn show(&self, state: &[u8], row: &mut [u8]) -> u64 {
+        bindings::show(state, row).word()
+    }
+
+    fn advance(&self, state: &mut [u8]) -> u64 {
+        bindings::advance(state).word()
     }
 }

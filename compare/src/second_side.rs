@@ -107,10 +107,17 @@ impl Side for Second {
         }
     }
 
-    fn slice(&self, state: &mut [u8], row: &mut [u8]) -> u64 {
+    fn show(&self, state: &[u8], row: &mut [u8]) -> u64 {
+        match state_or_refuse(state) {
+            Ok(found) => word(second::show(&found, row), 0),
+            Err(word) => word,
+        }
+    }
+
+    fn advance(&self, state: &mut [u8]) -> u64 {
         match state_or_refuse(state) {
             Ok(found) => {
-                let (answer, next) = second::slice(&found, row);
+                let (answer, next) = second::advance(&found);
                 state[..STATE_IMAGE].copy_from_slice(&state_image(&next));
                 word(answer, 0)
             }

@@ -108,7 +108,7 @@ fn without_kind(case: &Case, kind: usize) -> Case {
         image[from + 7 * 15..from + 7 * 16].fill(0);
     };
     move_up(28);
-    if matches!(case.op, Op::Release | Op::Slice) && case.given.len() >= STATE_IMAGE {
+    if matches!(case.op, Op::Release | Op::Show | Op::Advance) && case.given.len() >= STATE_IMAGE {
         move_up(PLAN_IMAGE + 4);
     }
     if case.op == Op::Release && tried.numbers[0] > kind as u64 {

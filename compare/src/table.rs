@@ -9,6 +9,7 @@ use crate::interface::{
 };
 use generate::{release_bytes, SLICE};
 use second::bytes::pack;
+use second::rack::LAST_CLOCK;
 use second::{Answer, Kind, KindState, Plan, State};
 
 /// A case of document 01 and what it must give.
@@ -115,12 +116,16 @@ fn reading(bytes: &[u8], count: usize) -> Case {
     Case::new(Op::Read, bytes.to_vec(), lent(count))
 }
 
-fn slicing(state: &State, count: usize) -> Case {
-    Case::new(Op::Slice, state_image(state).to_vec(), lent(count))
+fn showing(state: &State, count: usize) -> Case {
+    Case::new(Op::Show, state_image(state).to_vec(), lent(count))
 }
 
 fn open(plan: &Plan, project: u64) -> Case {
     Case::smallest_budget(plan_image(plan).to_vec(), project)
+}
+
+fn advancing(state: &State) -> Case {
+    Case::new(Op::Advance, state_image(state).to_vec(), Vec::new())
 }
 
 /// P1 to P11 (without P3 and P4), "Run and compared", and the requests.
@@ -213,6 +218,25 @@ pub fn table() -> Vec<Named> {
         row.expected.given = state_image(&state).to_vec();
     }
 
+    // (iv): kind 1 is to run on card 1; the showing keeps the state, and advancing wants no row.
+    table.good("(iv), shown", showing(&state, 3), 0, &[0, 2]);
+    let case = advancing(&state);
+    let mut after = State { clock: 5, ..state };
+    after.kinds[1].left = 1;
+    table.good("(iv), advanced", case, 0, &[]);
+    if let Some(row) = table.rows.last_mut() {
+        row.expected.given = state_image(&after).to_vec();
+    }
+    // At the clock's end 9 comes before 11, and advancing says 11.
+    let end = State {
+        plan: a,
+        clock: LAST_CLOCK,
+        ..State::default()
+    };
+    table.refused("(iv), 9 before 11", showing(&end, 1), 9, 0, 0);
+    table.refused("(iv), 11", showing(&end, 2), 11, 0, 0);
+    table.refused("(iv), 11", advancing(&end), 11, 0, 0);
+
     let short = "one byte short";
     table.refused(short, reading(&PLAN_A[..21], PLAN_IMAGE), 1, 0, 0);
     table.refused(short, reading(&PLAN_A, PLAN_IMAGE - 1), 9, 0, 0);
@@ -220,7 +244,7 @@ pub fn table() -> Vec<Named> {
     table.refused(short, on(&a, Op::SlotTable, 7), 9, 0, 0);
     table.refused(short, on(&a, Op::Verdict, VERDICT_BYTES - 1), 9, 0, 0);
     table.refused(short, on(&a, Op::Fresh, STATE_IMAGE - 1), 9, 0, 0);
-    table.refused(short, slicing(&state, 1), 9, 0, 0);
+    table.refused(short, showing(&state, 1), 9, 0, 0);
     for op in [Op::Check, Op::Write, Op::SlotTable, Op::Verdict, Op::Fresh] {
         let mut case = on(&a, op, 300);
         case.given.pop();
@@ -229,9 +253,10 @@ pub fn table() -> Vec<Named> {
         }
         table.refused(short, case, 9, 0, 0);
     }
-    let mut case = slicing(&state, 8);
-    case.given.pop();
-    table.refused(short, case, 9, 0, 0);
+    for mut case in [showing(&state, 8), advancing(&state)] {
+        case.given.pop();
+        table.refused(short, case, 9, 0, 0);
+    }
     let mut case = Case::release(state_image(&state).to_vec(), 2, 1);
     case.given.pop();
     table.refused(short, case, 9, 0, 0);

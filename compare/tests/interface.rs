@@ -84,7 +84,7 @@ fn a_difference_is_found_made_small_and_printed_as_bytes() {
     let Some(case) = Case::of_line(line) else {
         panic!("no call in {line}");
     };
-    assert_eq!(case.op, Op::Slice);
+    assert_eq!(case.op, Op::Show);
     assert_ne!(case.run(&side), case.run(&Second));
     // Two kinds are enough for a tie.
     assert_eq!(case.given[2], 2, "{text}");
@@ -97,10 +97,10 @@ fn a_call_is_read_back_from_its_line() {
     assert_eq!(Case::of_line(&case.line()), Some(case));
     for wrong in [
         "",
-        "slice 0 - 0 0",
-        "slice 0g - 0 0",
+        "show 0 - 0 0",
+        "show 0g - 0 0",
         "none 00 - 0 0",
-        "slice 00 -",
+        "show 00 -",
     ] {
         assert_eq!(Case::of_line(wrong), None, "{wrong}");
     }

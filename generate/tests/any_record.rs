@@ -1,7 +1,7 @@
 //! The second program on any record and any bytes: it answers, in the right order, and leaves behind what it should.
 
 use generate::{fixed_plan_records, fixed_state_records, fixed_streams, Generator};
-use second::rack::in_form;
+use second::rack::{in_form, LAST_CLOCK};
 use second::*;
 
 /// Fewer runs where the program is built without speed.
@@ -179,10 +179,18 @@ fn any_state_record_is_answered() {
 
         let lent = generator.row_buffer(&state);
         let mut buffer = lent.clone();
-        let (told, next) = slice(&state, &mut buffer);
+        let told = show(&state, &mut buffer);
+        let (advanced, next) = advance(&state);
         well_made(told, &plan);
         if !order.is_good() {
             assert_eq!(told, order);
+        }
+        // "advancing drops 9": 11 at the clock's end, else good.
+        let at_the_end = order.is_good() && state.clock == LAST_CLOCK;
+        match told.number {
+            9 if at_the_end => assert_eq!(advanced, refused(11, 0)),
+            9 => assert_eq!(advanced, Answer::GOOD),
+            _ => assert_eq!(advanced, told),
         }
         if told.is_good() {
             let m = usize::from(plan.m);
@@ -201,7 +209,7 @@ fn any_state_record_is_answered() {
             row_rules(&state, &buffer[..m]);
         } else {
             assert_eq!(buffer, lent);
-            assert_eq!(next, state);
+            assert!(next == state || advanced.is_good());
         }
     }
 }

@@ -23,6 +23,6 @@ pub use bytes::{read, write};
 pub use layout::slot_table;
 pub use plan::{check, Kind, Plan, Project};
 pub use play::play;
-pub use rack::{fresh, release, slice, KindState, State};
+pub use rack::{advance, fresh, release, show, slice, KindState, State};
 pub use smallest::smallest_budget;
 pub use verdict::verdict;

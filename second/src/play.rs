@@ -3,7 +3,7 @@
 use std::io::{self, BufRead, BufReader, BufWriter, Read, Write};
 
 use crate::bytes::{bytes_asked_for, read};
-use crate::rack::{fresh, release, slice};
+use crate::rack::{advance, fresh, release, show};
 
 /// "commands of three bytes: 1 bit (0 slice, 1 release), kind 4 bits, e 12 bits, 7 zero bits".
 #[derive(Clone, Copy, Debug, PartialEq, Eq)]
@@ -93,16 +93,16 @@ fn play_lines<R: Read, W: Write>(
             }
             // "a slice prints `t CLOCK:` with the clock before it and the row's bytes, or `t refused N`".
             Command::Slice => {
-                let before = state.clock;
+                // "`play` and every other caller use the pair."
                 let mut row = vec![0; usize::from(state.plan.m)];
-                let (answer, next) = slice(&state, &mut row);
-                state = next;
+                let answer = show(&state, &mut row);
                 if answer.is_good() {
-                    write!(output, "t {before}:")?;
+                    write!(output, "t {}:", state.clock)?;
                     for byte in row {
                         write!(output, " {byte}")?;
                     }
                     writeln!(output)?;
+                    state = advance(&state).1;
                 } else {
                     writeln!(output, "t refused {}", answer.number)?;
                 }

@@ -1,4 +1,4 @@
-//! "Running": the state, the fresh start, the release and the slice.
+//! "Running": the state, the fresh start, the release, and the slice as document 02's request (iv) splits it.
 
 use crate::answer::Answer;
 use crate::layout::{cards_held, cells};
@@ -131,9 +131,52 @@ pub fn ranked(state: &State, project: usize) -> Vec<usize> {
     ranked.into_iter().map(|(_, i)| i).collect()
 }
 
-/// "*Slice* looks at clock mod F."
-pub fn slice(state: &State, buffer: &mut [u8]) -> (Answer, State) {
-    // "Slice: the record order, 10, 9, 11."
+/// "*Slice* looks at clock mod F": each card that is taken at the state's clock, and the kind that takes it.
+fn chosen(state: &State) -> Vec<(usize, usize)> {
+    let mut chosen = Vec::new();
+    let now = u64::from(state.clock) % u64::from(state.plan.frame);
+    let cells = cells(&state.plan);
+    for project in 0..usize::from(state.plan.p) {
+        // "the first h of them take that project's cards in ascending card order".
+        let cards = cards_held(&cells, project, now);
+        for (card, i) in cards.into_iter().zip(ranked(state, project)) {
+            chosen.push((card as usize, i));
+        }
+    }
+    chosen
+}
+
+/// "one shows the row and keeps the state".
+pub fn show(state: &State, buffer: &mut [u8]) -> Answer {
+    // "showing keeps the slice order with 9 and 11": "the record order, 10, 9, 11."
+    let answer = check(&state.plan);
+    if !answer.is_good() {
+        return answer;
+    }
+    // 10: "state out of form".
+    if !in_form(state) {
+        return Answer::refused(10);
+    }
+    // 9: "buffer shorter than needed".
+    let m = usize::from(state.plan.m);
+    if buffer.len() < m {
+        return Answer::refused(9);
+    }
+    // 11: "clock is 1,000,000,000".
+    if state.clock == LAST_CLOCK {
+        return Answer::refused(11);
+    }
+    // "The row written has m bytes: kind number plus 1, or 0."
+    buffer[..m].fill(0);
+    for (card, i) in chosen(state) {
+        buffer[card] = i as u8 + 1;
+    }
+    Answer::GOOD
+}
+
+/// "the other advances with no buffer".
+pub fn advance(state: &State) -> (Answer, State) {
+    // "advancing drops 9": the record order, 10, 11.
     let answer = check(&state.plan);
     if !answer.is_good() {
         return (answer, *state);
@@ -142,31 +185,25 @@ pub fn slice(state: &State, buffer: &mut [u8]) -> (Answer, State) {
     if !in_form(state) {
         return (Answer::refused(10), *state);
     }
-    // 9: "buffer shorter than needed".
-    let m = usize::from(state.plan.m);
-    if buffer.len() < m {
-        return (Answer::refused(9), *state);
-    }
     // 11: "clock is 1,000,000,000".
     if state.clock == LAST_CLOCK {
         return (Answer::refused(11), *state);
     }
-
     let mut next = *state;
-    // "The row written has m bytes: kind number plus 1, or 0."
-    buffer[..m].fill(0);
-    let now = u64::from(state.clock) % u64::from(state.plan.frame);
-    let cells = cells(&state.plan);
-    for project in 0..usize::from(state.plan.p) {
-        // "the first h of them take that project's cards in ascending card order".
-        let cards = cards_held(&cells, project, now);
-        for (card, i) in cards.into_iter().zip(ranked(state, project)) {
-            buffer[card as usize] = i as u8 + 1;
-            // "Each chosen kind's left falls by one".
-            next.kinds[i].left -= 1;
-        }
+    for (_, i) in chosen(state) {
+        // "Each chosen kind's left falls by one".
+        next.kinds[i].left -= 1;
     }
     // "the clock rises by one".
     next.clock += 1;
     (Answer::GOOD, next)
+}
+
+/// A slice by the pair: shown, and advanced where the showing is accepted.
+pub fn slice(state: &State, buffer: &mut [u8]) -> (Answer, State) {
+    let shown = show(state, buffer);
+    if !shown.is_good() {
+        return (shown, *state);
+    }
+    advance(state)
 }

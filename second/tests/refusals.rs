@@ -53,7 +53,8 @@ fn the_record_order() {
             assert_eq!(write(&plan, &mut []), (answer, 0));
             assert_eq!(slot_table(&plan, &mut []), (answer, 0));
             assert_eq!(release(&state, 99, 0), (answer, state));
-            assert_eq!(slice(&state, &mut []), (answer, state));
+            assert_eq!(show(&state, &mut []), answer);
+            assert_eq!(advance(&state), (answer, state));
         }
     }
 }
@@ -92,24 +93,27 @@ fn only_a_record_can_say_it() {
 }
 
 #[test]
-fn slice_order_10_9_11_and_no_8() {
+fn show_order_10_9_11_advance_order_10_11_and_no_8() {
     let plan = Plan::a();
     let mut state = State {
         plan,
         clock: LAST_CLOCK + 1,
         ..State::default()
     };
-    assert_eq!(slice(&state, &mut [0]), (refused(10, 0), state));
+    assert_eq!(show(&state, &mut [0]), refused(10, 0));
+    assert_eq!(advance(&state), (refused(10, 0), state));
     state.clock = LAST_CLOCK;
-    assert_eq!(slice(&state, &mut [0]), (refused(9, 0), state));
-    assert_eq!(slice(&state, &mut [0, 0]), (refused(11, 0), state));
+    assert_eq!(show(&state, &mut [0]), refused(9, 0));
+    assert_eq!(show(&state, &mut [0, 0]), refused(11, 0));
+    assert_eq!(advance(&state), (refused(11, 0), state));
     // A release at the last clock is good.
     assert_eq!(release(&state, 0, 1).0, Answer::GOOD);
     state.clock = LAST_CLOCK - 1;
-    assert_eq!(slice(&state, &mut [0, 0]).1.clock, LAST_CLOCK);
+    assert_eq!(advance(&state).1.clock, LAST_CLOCK);
     state.plan.kinds[0].length = 8;
     assert_eq!(verdict(&state.plan).0.number, 8);
-    assert_eq!(slice(&state, &mut [0, 0]).0, Answer::GOOD);
+    assert_eq!(show(&state, &mut [0, 0]), Answer::GOOD);
+    assert_eq!(advance(&state).0, Answer::GOOD);
 }
 
 #[test]

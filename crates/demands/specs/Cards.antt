@@ -1,4 +1,4 @@
--- Whom the cards of an accepted slice serve: a card's byte names the kind that takes it, and two units stand on two cards.
+-- Whom the cards of an accepted advance serve: a card's byte names the kind that takes it, and two units stand on two cards.
 -- Assumes nothing.
 use mathlib.Core.Path.{_≡_, refl, sym, ap, _∙_}
 use mathlib.Core.Logic.{_≢_}
@@ -12,29 +12,27 @@ use Rattle.laws.specs.Count.Properties.{count-extra, count-never}
 use Rattle.answer.specs.declared.Answer.the-variants.{Good}
 use Rattle.rack.specs.declared.State.{State}
 use Rattle.rack.specs.State.{InUse}
-use Rattle.rack.specs.Row.{rowByte, takes}
-use Rattle.rack.specs.Row.Properties.{row-takes, row-below, row-is}
-use Rattle.rack.specs.Slice.{sliceAnswer}
-use Rattle.rack.specs.Slice.Properties.{slice-says}
-use Rattle.demands.specs.Run.{rowWritten}
-use Rattle.demands.specs.Run.Properties.{row-at}
+use Rattle.rack.specs.Row.{rowByte, rowOf, takes}
+use Rattle.rack.specs.Row.Properties.{row-shows, row-takes, row-below, row-is}
+use Rattle.rack.specs.Advance.{advanceAnswer}
+use Rattle.rack.specs.Advance.Properties.{advance-says}
 use Rattle.demands.specs.Named.{namesKind, bytesIn, Apart}
 
-module _ (s : State) (bytes : List ℕ) (good : sliceAnswer s (length bytes) ≡ Good) where
+module _ (s : State) (good : advanceAnswer s ≡ Good) where
   abbrev byte : ℕ → ℕ
-  byte card = getD (rowWritten s bytes) card 0
+  byte card = getD (rowOf s) card 0
 
   pub named-takes : (card i : ℕ) → card < s .plan .cards → namesKind i (byte card) ≡ true → (InUse s i) × (takes s i card ≡ true)
   unfolding namesKind
   named-takes card i l e =
-      let b : rowByte s card ≡ suc i = omega (arith, row-at s bytes good card l, eqb-true (byte card) (i + 1) e) in
+      let b : rowByte s card ≡ suc i = omega (arith, row-shows s card l, eqb-true (byte card) (i + 1) e) in
       (row-below s card i b, row-takes s card i b)
 
   pub takes-named : (card i : ℕ) → card < s .plan .cards → (InUse s i) × (takes s i card ≡ true) → namesKind i (byte card) ≡ true
   unfolding namesKind
   takes-named card i l t =
-      let ready = slice-says s (length bytes) good .advance .ready in
-      eq-eqb (byte card) (i + 1) (omega (arith, row-at s bytes good card l, row-is s ready card i (t .0) (t .1)))
+      let ready = advance-says s good .ready in
+      eq-eqb (byte card) (i + 1) (omega (arith, row-shows s card l, row-is s ready card i (t .0) (t .1)))
 
 -- ---- two units
 

@@ -1,6 +1,7 @@
--- Demand 3: what the rows written owe each unit, each card and each project. Beside document 01, "Running".
--- Of every run: any calls of slice and release, with any arguments and any lent row, refused ones among them, from a fresh start
--- on an admitted plan.
+-- Demand 3: what the rows owe each unit, each card and each project. Beside document 01, "Running".
+-- Of every run: any calls of show, advance and release, with any arguments and any lent row, refused ones among them, from a fresh
+-- start on an admitted plan. Its accepted slices are those advanced, "each with the row that showing gives on the very state
+-- advanced, shown or not"; `Showing` ties these rows to those that showing leaves.
 -- Assumes nothing.
 use mathlib.Core.Path.{_≡_, ap}
 use mathlib.Core.Logic.{_≢_, _↔_}
@@ -17,11 +18,11 @@ use Rattle.plan.specs.Order.{within, budgetOf, kindOf}
 use Rattle.layout.specs.Layout.{held}
 use Rattle.rack.specs.State.{unitOf}
 use Rattle.rack.specs.Rank.{activeKinds}
-use Rattle.rack.specs.Row.{takes}
+use Rattle.rack.specs.Row.{rowOf, takes}
 use Rattle.rack.specs.Start.{startOf}
 use Rattle.rack.specs.Release.{releaseOf}
-use Rattle.rack.specs.Slice.{sliceOf}
-use Rattle.demands.specs.Run.{Call, nextAfter, runFrom, after, slicesOf, noSlice, rowWritten}
+use Rattle.rack.specs.Advance.{advanceOf}
+use Rattle.demands.specs.Run.{Call, nextAfter, runFrom, after, slicesOf, noSlice}
 use Rattle.demands.specs.Since.{never, sinceFrom, fewer}
 use Rattle.demands.specs.Named.{namesKind, namesProject, bytesIn, bytesNaming, Orderly, Apart}
 use Rattle.demands.specs.Shown.{shown, upTo, none, lastFrom, leftOf, restarted, kindsLeft}
@@ -68,7 +69,7 @@ module _ (p : Plan) (admitted : startOf p .answer ≡ Good) where
 
   -- ---- 2. No card serves two units, no unit holds two cards, no project exceeds its ceiling
 
-  -- every row written
+  -- every row
   pub rows-orderly : (calls : List Call) (x : ℕ) →
       let slices = slicesOf (startOf p .state) calls in
       x < length slices →
@@ -76,12 +77,12 @@ module _ (p : Plan) (admitted : startOf p .answer ≡ Good) where
   rows-orderly = row-orderly p admitted
 
   -- and what a row says is what is done: each kind's left falls by the bytes that name it
-  pub rows-serve : (calls : List Call) (bytes : List ℕ) (i : ℕ) →
+  pub rows-serve : (calls : List Call) (i : ℕ) →
       let s = after p calls in
-      let next = sliceOf s (length bytes) in
+      let next = advanceOf s in
       next .answer ≡ Good →
       i < p .kinds →
-      unitOf (next .state) i .left + bytesIn (namesKind i) (rowWritten s bytes) ≡ unitOf s i .left
+      unitOf (next .state) i .left + bytesIn (namesKind i) (rowOf s) ≡ unitOf s i .left
   rows-serve = row-serves p admitted
 
   -- no two kinds take one card
@@ -95,28 +96,28 @@ module _ (p : Plan) (admitted : startOf p .answer ≡ Good) where
   one-kind-a-card = one-kind-each p admitted
 
   -- and a card's byte names the kind that takes it
-  pub rows-name : (calls : List Call) (bytes : List ℕ) (card i : ℕ) →
+  pub rows-name : (calls : List Call) (card i : ℕ) →
       let s = after p calls in
-      sliceOf s (length bytes) .answer ≡ Good →
+      advanceOf s .answer ≡ Good →
       card < p .cards →
-      (namesKind i (getD (rowWritten s bytes) card 0) ≡ true) ↔ ((i < p .kinds) × (takes s i card ≡ true))
+      (namesKind i (getD (rowOf s) card 0) ≡ true) ↔ ((i < p .kinds) × (takes s i card ≡ true))
   rows-name = row-names p admitted
 
   -- so two units of which one slice takes stand on two cards
-  pub served-apart : (calls : List Call) (bytes : List ℕ) (i k : ℕ) →
+  pub served-apart : (calls : List Call) (i k : ℕ) →
       let s = after p calls in
-      let next = sliceOf s (length bytes) in
+      let next = advanceOf s in
       next .answer ≡ Good →
       i < p .kinds →
       k < p .kinds →
       i ≢ k →
       unitOf (next .state) i .left < unitOf s i .left →
       unitOf (next .state) k .left < unitOf s k .left →
-      Apart i k (rowWritten s bytes)
-  served-apart calls bytes i k good l m d a b =
-      let first = rows-serve calls bytes i good l in
-      let second = rows-serve calls bytes k good m in
-      named-apart i k (rowWritten (after p calls) bytes) d (omega (arith, first)) (omega (arith, second))
+      Apart i k (rowOf s)
+  served-apart calls i k good l m d a b =
+      let first = rows-serve calls i good l in
+      let second = rows-serve calls k good m in
+      named-apart i k (rowOf (after p calls)) d (omega (arith, first)) (omega (arith, second))
 
   -- ---- 3. Budget
 
@@ -161,7 +162,7 @@ module _ (p : Plan) (admitted : startOf p .answer ≡ Good) where
   pub clock-tells : (calls : List Call) → after p calls .clock ≡ length (slicesOf (startOf p .state) calls)
   clock-tells = clock-counts p admitted
 
-  -- ---- 6. The same from what a run shows: its accepted releases and the rows written
+  -- ---- 6. The same from what a run shows: its accepted releases and the rows of its slices
 
   -- what is left of a kind's last unit is its length less the bytes that have named the kind since its release
   pub left-shown : (calls : List Call) (i : ℕ) →

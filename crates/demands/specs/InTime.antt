@@ -19,7 +19,7 @@ use Rattle.rack.specs.Rank.{due, until}
 use Rattle.rack.specs.Release.{released, releaseAnswer, Releasable}
 use Rattle.rack.specs.Release.Properties.{release-says, release-unit, release-others}
 use Rattle.rack.specs.Advance.{advanced}
-use Rattle.rack.specs.Slice.Properties.{slice-says}
+use Rattle.rack.specs.Advance.Properties.{advance-says}
 use Rattle.demands.specs.Run.{Call, runFrom, Accepted, accepted, slicesOf}
 use Rattle.demands.specs.Run.Properties.{Claim, WithSlice, WithRelease, along, run-clock, run-plan}
 use Rattle.demands.specs.Named.{namesKind, bytesIn, bytesNaming}
@@ -75,12 +75,12 @@ module _ (i : ℕ) where
 
   with-slice : WithSlice NamedIn
   unfolding advanced
-  with-slice s end bytes slices good h u =
-      let may = slice-says s (length bytes) good .advance in
+  with-slice s end slices good h u =
+      let may = advance-says s good in
       let kept = sliced-released s may (u .safe .places) i (u .its-kind) ∙ u .released in
       let next : Under i (advanced s) = record { safe = advance-safe s (u .safe) may; its-kind = u .its-kind; released = kept } in
-      one-more i (unitOf s i .left) (unitOf (advanced s) i .left) (until s i) (accepted s bytes) slices (none-late s u)
-      (named-falls s (u .safe) bytes good i (u .its-kind))
+      one-more i (unitOf s i .left) (unitOf (advanced s) i .left) (until s i) (accepted s) slices (none-late s u)
+      (named-falls s (u .safe) good i (u .its-kind))
       (rw (← (sliced-until s may (u .safe .places) i (u .its-kind))) (h next))
 
   -- where the kind is released again, its unit's deadline has come

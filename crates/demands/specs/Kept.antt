@@ -23,9 +23,11 @@ use Rattle.rack.specs.Start.Properties.{start-good}
 use Rattle.rack.specs.Rank.{gone, activeKinds}
 use Rattle.unit.specs.Start.{early}
 use Rattle.rack.specs.Release.{released, releaseAnswer, releaseOf}
-use Rattle.rack.specs.Advance.{advanced}
-use Rattle.rack.specs.Slice.{sliceAnswer, sliceOf}
-use Rattle.demands.specs.Run.{Call, slice, release, nextAfter, runFrom, after, noSlice, slicesOf, rowWritten}
+use Rattle.rack.specs.Row.{rowOf}
+use Rattle.rack.specs.Show.{showAnswer}
+use Rattle.rack.specs.Advance.{advanceAnswer, advanceOf}
+use Rattle.rack.specs.Advance.Properties.{advance-moves}
+use Rattle.demands.specs.Run.{Call, show, advance, release, nextAfter, runFrom, after, noSlice, slicesOf}
 use Rattle.demands.specs.Since.{Since, never, sinceFrom, fewer}
 use Rattle.demands.specs.Run.Properties.{run-clock, run-plan, At, slices-at}
 use Rattle.demands.specs.View.{cardsFrom}
@@ -35,7 +37,7 @@ use Rattle.demands.specs.Named.Properties.{orderly}
 use Rattle.demands.specs.Budget.{named-most, named-all}
 use Rattle.demands.specs.Safe.Properties.{start-safe, after-safe}
 use Rattle.demands.specs.InTime.{OnTime, release-named, release-left}
-use Rattle.demands.specs.Refusals.{release-not-ten, release-not-fifteen, fourteen-early, early-fourteen, slice-not}
+use Rattle.demands.specs.Refusals.{release-not-ten, release-not-fifteen, fourteen-early, early-fourteen, show-not, advance-not}
 use Rattle.demands.specs.Since.Properties.{tells-early, Told, told-run}
 
 -- an accepted release hands back the state that it says
@@ -47,13 +49,9 @@ release-good : (s : State) (i e : ℕ) → releaseOf s i e .answer ≡ Good → 
 unfolding releaseOf
 release-good s i e good = good
 
-slice-good : (s : State) (room : ℕ) → sliceOf s room .answer ≡ Good → sliceAnswer s room ≡ Good
-unfolding sliceOf
-slice-good s room good = good
-
-slice-moves : (s : State) (room : ℕ) → sliceOf s room .answer ≡ Good → sliceOf s room .state ≡ advanced s
-unfolding sliceOf
-slice-moves s room good = good-moves (sliceAnswer s room) (advanced s) s good
+advance-good : (s : State) → advanceOf s .answer ≡ Good → advanceAnswer s ≡ Good
+unfolding advanceOf
+advance-good s good = good
 
 module _ (p : Plan) (admitted : startOf p .answer ≡ Good) where
   abbrev fresh : State
@@ -100,15 +98,15 @@ module _ (p : Plan) (admitted : startOf p .answer ≡ Good) where
 
   -- ---- a row
 
-  pub row-serves : (calls : List Call) (bytes : List ℕ) (i : ℕ) →
+  pub row-serves : (calls : List Call) (i : ℕ) →
       let s = after p calls in
-      let next = sliceOf s (length bytes) in
+      let next = advanceOf s in
       next .answer ≡ Good → i < p .kinds →
-      unitOf (next .state) i .left + bytesIn (namesKind i) (rowWritten s bytes) ≡ unitOf s i .left
-  row-serves calls bytes i good l =
+      unitOf (next .state) i .left + bytesIn (namesKind i) (rowOf s) ≡ unitOf s i .left
+  row-serves calls i good l =
       let s = after p calls in
-      rw (slice-moves s (length bytes) good)
-      (named-falls s (after-safe p admitted calls) bytes (slice-good s (length bytes) good) i (omega (arith, kinds-kept calls)))
+      rw (advance-moves s good)
+      (named-falls s (after-safe p admitted calls) (advance-good s good) i (omega (arith, kinds-kept calls)))
 
   pub row-orderly : (calls : List Call) (x : ℕ) → x < length (slicesOf fresh calls) → Orderly p (getD (slicesOf fresh calls) x noSlice .row)
   row-orderly calls x l =
@@ -130,19 +128,24 @@ module _ (p : Plan) (admitted : startOf p .answer ≡ Good) where
 
   -- ---- a refusal
 
-  -- a slice tells 9 or 11, if not the state's own
-  slice-never : (calls : List Call) (bytes : List ℕ) (n : ℕ) → 0 < n → n ≢ 9 → n ≢ 11 →
-      number (sliceAnswer (after p calls) (length bytes)) ≢ n
-  slice-never calls bytes = slice-not (after p calls) (after-safe p admitted calls) (length bytes)
+  -- a showing tells 9 or 11, if not the state's own, and an advance 11
+  show-never : (calls : List Call) (bytes : List ℕ) (n : ℕ) → 0 < n → n ≢ 9 → n ≢ 11 →
+      number (showAnswer (after p calls) (length bytes)) ≢ n
+  show-never calls bytes = show-not (after p calls) (after-safe p admitted calls) (length bytes)
+
+  advance-never : (calls : List Call) (n : ℕ) → 0 < n → n ≢ 11 → number (advanceAnswer (after p calls)) ≢ n
+  advance-never calls = advance-not (after p calls) (after-safe p admitted calls)
 
   pub not-ten : (calls : List Call) (call : Call) → number (nextAfter (after p calls) call .answer) ≢ 10
-  unfolding sliceOf releaseOf
-  not-ten calls (slice bytes) = slice-never calls bytes 10 (omega arith) (omega arith) (omega arith)
+  unfolding advanceOf releaseOf
+  not-ten calls (show bytes) = show-never calls bytes 10 (omega arith) (omega arith) (omega arith)
+  not-ten calls advance = advance-never calls 10 (omega arith) (omega arith)
   not-ten calls (release i e) = release-not-ten (after p calls) (after-safe p admitted calls) i e
 
   pub not-fifteen : (calls : List Call) (call : Call) → number (nextAfter (after p calls) call .answer) ≢ 15
-  unfolding sliceOf releaseOf
-  not-fifteen calls (slice bytes) = slice-never calls bytes 15 (omega arith) (omega arith) (omega arith)
+  unfolding advanceOf releaseOf
+  not-fifteen calls (show bytes) = show-never calls bytes 15 (omega arith) (omega arith) (omega arith)
+  not-fifteen calls advance = advance-never calls 15 (omega arith) (omega arith)
   not-fifteen calls (release i e) = release-not-fifteen (after p calls) (after-safe p admitted calls) i e
 
   module _ (calls : List Call) (i e : ℕ) where

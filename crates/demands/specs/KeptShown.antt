@@ -25,10 +25,10 @@ use Rattle.rack.specs.Start.Properties.{start-good}
 use Rattle.rack.specs.Rank.{working, active, activeKinds}
 use Rattle.rack.specs.Release.{released, releaseAnswer, releaseOf}
 use Rattle.rack.specs.Release.Properties.{release-says, release-unit}
-use Rattle.rack.specs.Row.{takes}
+use Rattle.rack.specs.Row.{rowOf, takes}
 use Rattle.rack.specs.Row.Properties.{card-kind}
-use Rattle.rack.specs.Slice.{sliceOf}
-use Rattle.demands.specs.Run.{Call, runFrom, after, noSlice, slicesOf, rowWritten}
+use Rattle.rack.specs.Advance.{advanceOf}
+use Rattle.demands.specs.Run.{Call, runFrom, after, noSlice, slicesOf}
 use Rattle.demands.specs.Run.Properties.{run-plan, slices-at}
 use Rattle.demands.specs.Named.{namesKind, bytesNaming}
 use Rattle.demands.specs.Safe.Properties.{start-safe, after-safe, release-safe}
@@ -57,12 +57,12 @@ module _ (p : Plan) (admitted : startOf p .answer ≡ Good) where
       let ready = after-safe p admitted calls .ready in
       card-kind (after p calls) ready i k card (omega (arith, after-kinds calls)) (omega (arith, after-kinds calls))
 
-  pub row-names : (calls : List Call) (bytes : List ℕ) (card i : ℕ) →
+  pub row-names : (calls : List Call) (card i : ℕ) →
       let s = after p calls in
-      sliceOf s (length bytes) .answer ≡ Good → card < p .cards →
-      (namesKind i (getD (rowWritten s bytes) card 0) ≡ true) ↔ ((i < p .kinds) × (takes s i card ≡ true))
-  unfolding sliceOf
-  row-names calls bytes card i good l = (says, of)
+      advanceOf s .answer ≡ Good → card < p .cards →
+      (namesKind i (getD (rowOf s) card 0) ≡ true) ↔ ((i < p .kinds) × (takes s i card ≡ true))
+  unfolding advanceOf
+  row-names calls card i good l = (says, of)
     where
       s : State
       s = after p calls
@@ -70,11 +70,11 @@ module _ (p : Plan) (admitted : startOf p .answer ≡ Good) where
       its-card : card < s .plan .cards
       its-card = omega (arith, ap (λ (q : Plan). q .cards) (after-plan calls))
 
-      says : namesKind i (getD (rowWritten s bytes) card 0) ≡ true → (i < p .kinds) × (takes s i card ≡ true)
-      says e = let t = named-takes s bytes good card i its-card e in (omega (arith, t .0, after-kinds calls), t .1)
+      says : namesKind i (getD (rowOf s) card 0) ≡ true → (i < p .kinds) × (takes s i card ≡ true)
+      says e = let t = named-takes s good card i its-card e in (omega (arith, t .0, after-kinds calls), t .1)
 
-      of : (i < p .kinds) × (takes s i card ≡ true) → namesKind i (getD (rowWritten s bytes) card 0) ≡ true
-      of t = takes-named s bytes good card i its-card (omega (arith, t .0, after-kinds calls), t .1)
+      of : (i < p .kinds) × (takes s i card ≡ true) → namesKind i (getD (rowOf s) card 0) ≡ true
+      of t = takes-named s good card i its-card (omega (arith, t .0, after-kinds calls), t .1)
 
   -- ---- what is left
 

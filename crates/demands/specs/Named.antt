@@ -1,4 +1,4 @@
--- Document 01, "Running": the bytes of the rows written that name a kind, or the kinds of a project.
+-- Document 01, "Running": the bytes of the rows that name a kind, or the kinds of a project.
 -- Assumes nothing.
 use mathlib.Core.Path.{_≡_}
 use mathlib.Core.Logic.{_≢_}
@@ -25,14 +25,14 @@ namesProject p j byte = not (eqb byte 0) && eqb (kindOf p (pred byte) .project) 
 unfoldable pub bytesIn : (ℕ → Bool) → List ℕ → ℕ
 bytesIn test row = countTo (length row) (λ card. test (getD row card 0))
 
--- how many bytes of the rows written pass a test
+-- how many bytes of the rows pass a test
 unfoldable pub bytesNaming : (ℕ → Bool) → List Accepted → ℕ
 bytesNaming test [] = 0
 bytesNaming test (slice ∷ slices) = bytesIn test (slice .row) + bytesNaming test slices
 
 -- ---- what a row owes the cards
 
--- of a row written on plan p
+-- of a row on plan p
 pub record Orderly (p : Plan) (row : List ℕ) : Type 0 where
   -- "The row written has m bytes": one for each card
   pub cards : length row ≡ p .cards

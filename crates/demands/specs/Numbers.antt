@@ -33,8 +33,8 @@ use Rattle.rack.specs.Form.{inForm, ready}
 use Rattle.rack.specs.Rank.{gone}
 use Rattle.rack.specs.Start.{startAnswer}
 use Rattle.rack.specs.Release.{releaseAnswer}
-use Rattle.rack.specs.Advance.{timeLeft}
-use Rattle.rack.specs.Slice.{roomFor, sliceAnswer}
+use Rattle.rack.specs.Advance.{timeLeft, advanceAnswer}
+use Rattle.rack.specs.Show.{roomFor, showAnswer}
 use Rattle.demands.specs.Numbers.Stages.{sizes-numbers, unused-numbers, there-numbers, projects-numbers, projects-open-numbers}
 use Rattle.demands.specs.Numbers.Stages.{kinds-numbers, sum-numbers}
 pub mod Stages
@@ -65,7 +65,7 @@ openOrder = 2 ∷ 3 ∷ 27 ∷ 4 ∷ 5 ∷ 6 ∷ []
 abbrev pub smallestOrder : List ℕ
 smallestOrder = 8 ∷ 7 ∷ openOrder
 
--- "the record order, 10": what a slice and a release begin with
+-- "the record order, 10": what every call on a state begins with
 abbrev pub stateOrder : List ℕ
 stateOrder = 10 ∷ recordOrder
 
@@ -73,9 +73,13 @@ stateOrder = 10 ∷ recordOrder
 abbrev pub releaseOrder : List ℕ
 releaseOrder = 12 ∷ 13 ∷ 14 ∷ 15 ∷ stateOrder
 
--- "Slice: the record order, 10, 9, 11"
-abbrev pub sliceOrder : List ℕ
-sliceOrder = 9 ∷ 11 ∷ stateOrder
+-- "showing keeps the slice order with 9 and 11": the record order, 10, 9, 11
+abbrev pub showOrder : List ℕ
+showOrder = 9 ∷ 11 ∷ stateOrder
+
+-- "advancing drops 9": the record order, 10, 11
+abbrev pub advanceOrder : List ℕ
+advanceOrder = 11 ∷ stateOrder
 
 -- ---- the record order
 
@@ -171,8 +175,8 @@ unfolding startAnswer covers among
 start-numbers p =
     andThen-numbered _ _ _ (wider _ recordOrder _ refl (check-numbers p)) (λ e. admitted-numbers p (in-order p e))
 
--- what a slice and a release begin with
-ready-numbers : (s : State) → Numbered stateOrder (ready s)
+-- what every call on a state begins with
+pub ready-numbers : (s : State) → Numbered stateOrder (ready s)
 unfolding ready covers among
 ready-numbers s =
     andThen-numbered _ _ _ (wider _ recordOrder _ refl (check-numbers (s .plan)))
@@ -189,10 +193,17 @@ release-numbers s i e =
     (refuse-numbered _ (early (kindAt s i .separation) (unitOf s i) (gone s i)) _ (bare-numbered _ 14 (λ z. omega arith) refl))
     (λ d. refuse-numbered _ (not (eqb (unitOf s i .left) 0)) _ (bare-numbered _ 15 (λ z. omega arith) refl)))))
 
--- `State::slice`
-pub slice-numbers : (s : State) (room : ℕ) → Numbered sliceOrder (sliceAnswer s room)
-unfolding sliceAnswer roomFor timeLeft covers among
-slice-numbers s room =
+-- `State::show`
+pub show-numbers : (s : State) (room : ℕ) → Numbered showOrder (showAnswer s room)
+unfolding showAnswer roomFor timeLeft covers among
+show-numbers s room =
     andThen-numbered _ _ _ (wider _ stateOrder _ refl (ready-numbers s))
     (λ a. andThen-numbered _ _ _ (refuse-numbered _ (ltb room (s .plan .cards)) _ (bare-numbered _ 9 (λ z. omega arith) refl))
     (λ b. refuse-numbered _ (eqb (s .clock) lastClock) _ (bare-numbered _ 11 (λ z. omega arith) refl)))
+
+-- `State::advance`
+pub advance-numbers : (s : State) → Numbered advanceOrder (advanceAnswer s)
+unfolding advanceAnswer timeLeft covers among
+advance-numbers s =
+    andThen-numbered _ _ _ (wider _ stateOrder _ refl (ready-numbers s))
+    (λ a. refuse-numbered _ (eqb (s .clock) lastClock) _ (bare-numbered _ 11 (λ z. omega arith) refl))

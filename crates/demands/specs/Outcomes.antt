@@ -27,15 +27,16 @@ use Rattle.verdict.specs.Admission.Properties.{none-refused, no-slice-refused}
 use Rattle.smallest_budget.specs.Smallest.{smallestAnswer, smallestOf}
 use Rattle.smallest_budget.specs.OneOutcome.{smallest-budget-one-outcome}
 use Rattle.rack.specs.declared.State.{State}
-use Rattle.rack.specs.declared.Next.{Next}
 use Rattle.rack.specs.State.{noState}
 use Rattle.rack.specs.Start.{startOf}
 use Rattle.rack.specs.Start.Properties.{start-refused}
 use Rattle.rack.specs.Release.{releaseOf}
 use Rattle.rack.specs.Release.Properties.{release-refused}
-use Rattle.rack.specs.Slice.{Sliced}
-use Rattle.rack.specs.Slice.Properties.{slice-refused}
-use Rattle.rack.specs.OneOutcome.{start-one-outcome, release-one-outcome, slice-one-outcome}
+use Rattle.rack.specs.Show.{Shows}
+use Rattle.rack.specs.Show.Properties.{show-refused}
+use Rattle.rack.specs.Advance.{advanceOf}
+use Rattle.rack.specs.Advance.Properties.{advance-refused}
+use Rattle.rack.specs.OneOutcome.{start-one-outcome, release-one-outcome, show-one-outcome, advance-one-outcome}
 
 -- an answer that is not good, by its number
 refusal : (a : Answer) → number a ≢ 0 → (w : Refusal) × (a ≡ No w)
@@ -116,12 +117,20 @@ releasing = release-one-outcome
 pub releasing-refused : (s : State) (i e : ℕ) → number (releaseOf s i e .answer) ≢ 0 → releaseOf s i e .state ≡ s
 releasing-refused s i e h = let t = refusal (releaseOf s i e .answer) h in release-refused s i e (t .0) (t .1)
 
--- ---- a slice
+-- ---- a showing, which keeps the state
 
-pub slicing : (s : State) (bytes : List ℕ) → One (λ (o : Lent Next). Sliced s bytes (o .result) (o .buffer))
-slicing = slice-one-outcome
+pub showing : (s : State) (bytes : List ℕ) → One (λ (o : Lent Answer). Shows s bytes (o .result) (o .buffer))
+showing = show-one-outcome
 
--- "a refused slice .. gives back the state handed in", and the lent row keeps every byte
-pub slicing-refused : (s : State) (bytes after : List ℕ) (next : Next) → Sliced s bytes next after → number (next .answer) ≢ 0 →
-    (next .state ≡ s) × (after ≡ bytes)
-slicing-refused s bytes after next c h = let t = refusal (next .answer) h in slice-refused s bytes after next (t .0) c (t .1)
+-- "Lent buffers keep every byte on a refusal"
+pub showing-refused : (s : State) (bytes after : List ℕ) (a : Answer) → Shows s bytes a after → number a ≢ 0 → after ≡ bytes
+showing-refused s bytes after a c h = let t = refusal a h in show-refused s bytes after a (t .0) c (t .1)
+
+-- ---- an advance
+
+pub advancing : (s : State) → One (λ n. n ≡ advanceOf s)
+advancing = advance-one-outcome
+
+-- "a refused slice or release gives back the state handed in"
+pub advancing-refused : (s : State) → number (advanceOf s .answer) ≢ 0 → advanceOf s .state ≡ s
+advancing-refused s h = let t = refusal (advanceOf s .answer) h in advance-refused s (t .0) (t .1)

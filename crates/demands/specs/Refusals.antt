@@ -18,8 +18,8 @@ use Rattle.rack.specs.Rank.{gone}
 use Rattle.unit.specs.Start.{early, startable}
 use Rattle.rack.specs.Release.{releaseAnswer}
 use Rattle.unit.specs.Start.Properties.{early-says}
-use Rattle.rack.specs.Advance.{timeLeft}
-use Rattle.rack.specs.Slice.{roomFor, sliceAnswer}
+use Rattle.rack.specs.Advance.{timeLeft, advanceAnswer}
+use Rattle.rack.specs.Show.{roomFor, showAnswer}
 use Rattle.demands.specs.Safe.{Safe}
 use Rattle.demands.specs.Safe.Properties.{safe-none-left}
 
@@ -96,19 +96,33 @@ module _ (s : State) (safe : Safe s) where
     pub early-fourteen : InUse s i → within (kindAt s i .length) e ≡ true → soon ≡ true → number (releaseAnswer s i e) ≡ 14
     early-fourteen l w c = release-told ∙ rw (used-of s i l, w, c)
 
-  -- ---- a slice
+  -- ---- a showing
 
   module _ (room : ℕ) where
-    slice-told : number (sliceAnswer s room)
+    show-told : number (showAnswer s room)
         ≡ number (refuse (ltb room (s .plan .cards)) (bare 9) andThen refuse (eqb (s .clock) lastClock) (bare 11))
-    unfolding sliceAnswer roomFor timeLeft
-    slice-told = rw is-ready
+    unfolding showAnswer roomFor timeLeft
+    show-told = rw is-ready
 
     -- 9, 11 or none
-    pub slice-not : (n : ℕ) → 0 < n → n ≢ 9 → n ≢ 11 → number (sliceAnswer s room) ≢ n
-    slice-not n p q r h = go (ltb room (s .plan .cards)) (eqb (s .clock) lastClock) (sym slice-told ∙ h)
+    pub show-not : (n : ℕ) → 0 < n → n ≢ 9 → n ≢ 11 → number (showAnswer s room) ≢ n
+    show-not n p q r h = go (ltb room (s .plan .cards)) (eqb (s .clock) lastClock) (sym show-told ∙ h)
       where
         go : (a b : Bool) → number (refuse a (bare 9) andThen refuse b (bare 11)) ≡ n → ⊥
         go true b e = q (sym e)
         go false true e = r (sym e)
         go false false e = omega arith
+
+  -- ---- an advance
+
+  advance-told : number (advanceAnswer s) ≡ number (refuse (eqb (s .clock) lastClock) (bare 11))
+  unfolding advanceAnswer timeLeft
+  advance-told = rw is-ready
+
+  -- 11 or none
+  pub advance-not : (n : ℕ) → 0 < n → n ≢ 11 → number (advanceAnswer s) ≢ n
+  advance-not n p r h = go (eqb (s .clock) lastClock) (sym advance-told ∙ h)
+    where
+      go : (b : Bool) → number (refuse b (bare 11)) ≡ n → ⊥
+      go true e = r (sym e)
+      go false e = omega arith

@@ -2,19 +2,17 @@
 -- Assumes nothing.
 use mathlib.Core.Path.{_≡_, refl}
 use mathlib.Core.Bool.{Bool, true, false, cond}
-use mathlib.Core.List.{List}
 use Prim.Native.Nat.{ℕ, _+_, _-_}
 use native.Mathlib.Omega.{arith}
-use lib.ListN.{length}
 use Rattle.answer.specs.declared.Answer.the-variants.{Good}
 use Rattle.rack.specs.declared.State.{State}
 use Rattle.rack.specs.State.{unitOf, InUse}
 use Rattle.rack.specs.Rank.{served}
 use Rattle.rack.specs.Rank.Properties.{served-working, working-left}
-use Rattle.rack.specs.Advance.{advanced}
-use Rattle.rack.specs.Slice.{sliceAnswer}
-use Rattle.rack.specs.Slice.Properties.{slice-says}
-use Rattle.demands.specs.Run.{accepted, rowWritten}
+use Rattle.rack.specs.Row.{rowOf}
+use Rattle.rack.specs.Advance.{advanced, advanceAnswer}
+use Rattle.rack.specs.Advance.Properties.{advance-says}
+use Rattle.demands.specs.Run.{accepted}
 use Rattle.demands.specs.Run.Properties.{now-at}
 use Rattle.demands.specs.Named.{namesKind, bytesIn}
 use Rattle.demands.specs.Named.Properties.{kind-named}
@@ -22,22 +20,22 @@ use Rattle.demands.specs.Safe.{Safe}
 use Rattle.demands.specs.View.{cardsFrom}
 use Rattle.demands.specs.View.Steps.{sliced-left}
 
-module _ (s : State) (safe : Safe s) (bytes : List ℕ) (good : sliceAnswer s (length bytes) ≡ Good) (i : ℕ) (l : InUse s i) where
+module _ (s : State) (safe : Safe s) (good : advanceAnswer s ≡ Good) (i : ℕ) (l : InUse s i) where
   falls : unitOf (advanced s) i .left ≡ unitOf s i .left - cond (served s i) 1 0
-  falls = sliced-left s (slice-says s (length bytes) good .advance) (safe .places) i l
+  falls = sliced-left s (advance-says s good) (safe .places) i l
 
-  named : bytesIn (namesKind i) (rowWritten s bytes) ≡ cond (served s i) 1 0
-  named = kind-named (s .plan) (λ j. cardsFrom s j 0) (accepted s bytes) (now-at s bytes good) i l
+  named : bytesIn (namesKind i) (rowOf s) ≡ cond (served s i) 1 0
+  named = kind-named (s .plan) (λ j. cardsFrom s j 0) (accepted s) (now-at s good) i l
 
-  pub named-falls : unitOf (advanced s) i .left + bytesIn (namesKind i) (rowWritten s bytes) ≡ unitOf s i .left
+  pub named-falls : unitOf (advanced s) i .left + bytesIn (namesKind i) (rowOf s) ≡ unitOf s i .left
   named-falls = go (served s i) refl
     where
-      go : (b : Bool) → served s i ≡ b → unitOf (advanced s) i .left + bytesIn (namesKind i) (rowWritten s bytes) ≡ unitOf s i .left
+      go : (b : Bool) → served s i ≡ b → unitOf (advanced s) i .left + bytesIn (namesKind i) (rowOf s) ≡ unitOf s i .left
       go true e =
           let f : unitOf (advanced s) i .left ≡ unitOf s i .left - 1 = rw e at falls in
-          let n : bytesIn (namesKind i) (rowWritten s bytes) ≡ 1 = rw e at named in
+          let n : bytesIn (namesKind i) (rowOf s) ≡ 1 = rw e at named in
           omega (arith, working-left s i (served-working s i e))
       go false e =
           let f : unitOf (advanced s) i .left ≡ unitOf s i .left - 0 = rw e at falls in
-          let n : bytesIn (namesKind i) (rowWritten s bytes) ≡ 0 = rw e at named in
+          let n : bytesIn (namesKind i) (rowOf s) ≡ 0 = rw e at named in
           omega arith

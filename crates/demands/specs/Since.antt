@@ -1,15 +1,14 @@
--- The accepted slices of a run since the last accepted release of a kind: what 14 speaks of.
+-- The accepted advances of a run since the last accepted release of a kind: what 14 speaks of.
 -- Assumes nothing.
 use Prim.Native.Nat.{ℕ, _+_}
 use mathlib.Core.Bool.{Bool, false, cond}
 use mathlib.Core.List.{List, [], _∷_}
 use lib.Dec.{ltb, eqb}
-use lib.ListN.{length}
 use Rattle.answer.specs.Answer.{ifGood}
 use Rattle.rack.specs.declared.State.{State}
 use Rattle.rack.specs.Release.{releaseAnswer}
-use Rattle.rack.specs.Slice.{sliceAnswer}
-use Rattle.demands.specs.Run.{Call, slice, release, nextAfter}
+use Rattle.rack.specs.Advance.{advanceAnswer}
+use Rattle.demands.specs.Run.{Call, show, advance, release, nextAfter}
 pub mod Properties
 
 -- how many, or that the kind was never released
@@ -24,7 +23,8 @@ later (ago slices) = ago (slices + 1)
 
 -- after a call, for kind i
 unfoldable pub sinceCall : ℕ → State → Since → Call → Since
-sinceCall i s since (slice bytes) = ifGood (sliceAnswer s (length bytes)) (later since) since
+sinceCall i s since (show bytes) = since
+sinceCall i s since advance = ifGood (advanceAnswer s) (later since) since
 sinceCall i s since (release k e) = ifGood (releaseAnswer s k e) (cond (eqb k i) (ago 0) since) since
 
 -- after all the calls

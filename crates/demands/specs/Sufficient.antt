@@ -38,10 +38,8 @@ use Rattle.rack.specs.Rank.{gone, active, activeKinds, served}
 use Rattle.rack.specs.Start.Properties.{fresh-form, fresh-places}
 use Rattle.rack.specs.Release.{released, releaseAnswer, releaseOf}
 use Rattle.rack.specs.Release.Properties.{release-says, release-unit, release-others, release-form, release-places}
-use Rattle.rack.specs.Advance.{advanced}
-use Rattle.rack.specs.Advance.Properties.{advance-form, advance-places}
-use Rattle.rack.specs.Slice.{sliceAnswer}
-use Rattle.rack.specs.Slice.Properties.{slice-says}
+use Rattle.rack.specs.Advance.{advanced, advanceAnswer}
+use Rattle.rack.specs.Advance.Properties.{advance-says, advance-form, advance-places}
 use Rattle.demands.specs.View.{cardsFrom}
 use Rattle.demands.specs.Stands.{enough-served}
 use Rattle.demands.specs.Run.{Call, runFrom, accepted, slicesOf}
@@ -85,10 +83,10 @@ pub record Running (s : State) : Type 0 where
   pub ready : Ready s
   pub places : length (s .unit) ≡ 16
 
-slice-running : (s : State) (room : ℕ) → sliceAnswer s room ≡ Good → Running s → Running (advanced s)
+advance-running : (s : State) → advanceAnswer s ≡ Good → Running s → Running (advanced s)
 unfolding advanced
-slice-running s room good r =
-    let may = slice-says s room good .advance in
+advance-running s good r =
+    let may = advance-says s good in
     record { plan = r .plan; ready = advance-form s may (r .places); places = advance-places s may (r .places) }
 
 release-running : (s : State) (k e : ℕ) → releaseAnswer s k e ≡ Good → Running s → Running (released s k e)
@@ -100,7 +98,7 @@ release-running s k e good r =
 run-running : (calls : List Call) (s : State) → Running s → Running (runFrom s calls)
 run-running =
     along Keeps (λ s h. h)
-    (λ s end bytes slices g h t. h (slice-running s (length bytes) g t))
+    (λ s end slices g h t. h (advance-running s g t))
     (λ s end i e slices g h t. h (release-running s i e g t))
   where
     Keeps : Claim
@@ -137,8 +135,8 @@ module _ (i : ℕ) where
 
   step-slice : WithSlice Served
   unfolding bytesNaming
-  step-slice s end bytes slices good h u enough =
-      let n = kind-named (s .plan) (λ j. cardsFrom s j 0) (accepted s bytes) (now-at s bytes good) i (u .its-kind) in
+  step-slice s end slices good h u enough =
+      let n = kind-named (s .plan) (λ j. cardsFrom s j 0) (accepted s) (now-at s good) i (u .its-kind) in
       omega (arith, rw (all-served s i (u .running) (u .its-kind) (omega (arith, u .left))) at n)
 
   step-release : WithRelease Served

@@ -12,6 +12,7 @@ use lib.ListN.{length, getD, take, drop, replicate}
 use borrow.Author.Tests.{ltb-true}
 use Rattle.laws.specs.Tests.{and-left, and-right}
 use Rattle.laws.specs.Count.{countTo}
+use Rattle.answer.specs.declared.Answer.{Answer}
 use Rattle.answer.specs.declared.Answer.the-variants.{Good}
 use Rattle.answer.specs.Answer.{number, place, excess, slice}
 use Rattle.answer.specs.Numbers.{among, placed}
@@ -32,30 +33,34 @@ use Rattle.verdict.specs.Admission.{Fits, Allows, NotAdmitted}
 use Rattle.rack.specs.declared.State.{State}
 use Rattle.rack.specs.declared.Next.{Next}
 use Rattle.rack.specs.State.{noState, unitOf}
-use Rattle.rack.specs.Form.{Ready}
+use Rattle.rack.specs.Form.{Ready, ready}
 use Rattle.rack.specs.Form.Properties.{ready-says}
 use Rattle.rack.specs.Rank.{outranks, rank}
-use Rattle.rack.specs.Row.{holds, takes, rowByte}
+use Rattle.rack.specs.Row.{holds, takes, rowByte, rowOf}
 use Rattle.rack.specs.Start.{startAnswer, startOf}
 use Rattle.rack.specs.Release.{releaseAnswer, releaseOf}
-use Rattle.rack.specs.Slice.{sliceAnswer, sliceOf, Sliced}
-use Rattle.demands.specs.Run.{release, nextAfter, runFrom, after, noSlice, rowWritten}
+use Rattle.rack.specs.Advance.{advanceAnswer, advanceOf}
+use Rattle.rack.specs.Show.{showAnswer, bufferShown, Shows}
+use Rattle.rack.specs.Slice.{Sliced}
+use Rattle.demands.specs.Run.{release, nextAfter, runFrom, after, noSlice, unshown, handedBack}
 use Rattle.demands.specs.Named.{namesKind, namesProject, bytesIn, bytesNaming, Orderly, Apart}
 use Rattle.demands.specs.Shown.{shown, upTo, none, lastFrom, leftOf, restarted, kindsLeft}
 use Rattle.demands.specs.Outcomes.{reading, reading-refused, writing, writing-refused, tabling, tabling-refused}
 use Rattle.answer.specs.Outcome.{Lent}
 use Rattle.demands.specs.Numbers.{check-numbers, read-numbers, write-numbers, slot-table-numbers}
-use Rattle.demands.specs.Numbers.{judge-numbers, start-numbers, release-numbers, slice-numbers}
+use Rattle.demands.specs.Numbers.{judge-numbers, start-numbers, ready-numbers, release-numbers, show-numbers, advance-numbers}
 use Rattle.demands.specs.Outcomes.{judging, judging-refused, starting, starting-refused, releasing, releasing-refused}
-use Rattle.demands.specs.Outcomes.{slicing, slicing-refused}
+use Rattle.demands.specs.Outcomes.{showing, showing-refused, advancing, advancing-refused}
 use Rattle.demands.specs.Verdicts.{admitted-when, least-given, refused-when, written-then-read, read-then-written, only-encoding}
 use Rattle.demands.specs.Verdicts.{stands-when, nothing-left, all-stand, on-its-own, earliest-first, ascending, none-idle}
 use Rattle.demands.specs.Deadlines.{in-time, in-time-so-far, left-in-time, rows-orderly, rows-serve, one-kind-a-card, rows-name}
 use Rattle.demands.specs.Deadlines.{served-apart, budget-at-most, budget-exactly, never-out-of-form, never-left-over, told-early}
 use Rattle.demands.specs.Deadlines.{clock-tells, left-shown, last-shown, unit-shown, in-time-shown, work-shown, budget-shown}
+use Rattle.demands.specs.Showing.{row-shown, shown-twice, shown-alike, pair-is-slice, short-advances, shown-after-release}
+use Rattle.demands.specs.Showing.{showings-move-nothing, slices-shown}
 use Rattle.demands.specs.Sufficient.{runs-well}
-use Rattle.demands.specs.Uses.Figures.{tick, row, releases, threeSlices, fourSlices, example, rows, earlier, later, begun, fourRows}
-use Rattle.demands.specs.Uses.Figures.{oneSlice, running, longer, both, waiting, verdicts, ranks, answers}
+use Rattle.demands.specs.Uses.Figures.{tick, releases, threeSlices, fourSlices, example, rows, earlier, later, begun, fourRows}
+use Rattle.demands.specs.Uses.Figures.{oneSlice, ended, running, longer, both, waiting, verdicts, ranks, answers}
 pub mod Figures
 pub mod Worst
 pub mod BadSlices
@@ -128,24 +133,31 @@ releases-one = ap (λ (n : Next). n .answer) (releasing (after planA fourSlices)
 pub releases-nothing : releaseOf (after planA fourSlices) 2 1 .state ≡ after planA fourSlices
 releases-nothing = releasing-refused (after planA fourSlices) 2 1 (λ z. omega (arith, running .release-early))
 
--- a slice writes two bytes of three, and none of one
-pub slices-two : (o : Lent Next) → Sliced (after planA releases) (7 ∷ 7 ∷ 7 ∷ []) (o .result) (o .buffer) → o .buffer ≡ 1 ∷ 2 ∷ 7 ∷ []
-slices-two o c = ap (λ (x : Lent Next). x .buffer) same
+-- a showing writes two bytes of three, and none of one
+pub shows-two : (o : Lent Answer) → Shows (after planA releases) (7 ∷ 7 ∷ 7 ∷ []) (o .result) (o .buffer) → o .buffer ≡ 1 ∷ 2 ∷ 7 ∷ []
+shows-two o c = ap (λ (x : Lent Answer). x .buffer) same
   where
     s : State
     s = after planA releases
 
-    said : Lent Next
-    said = record { result = sliceOf s 3; buffer = 1 ∷ 2 ∷ 7 ∷ [] }
+    said : Lent Answer
+    said = record { result = Good; buffer = 1 ∷ 2 ∷ 7 ∷ [] }
 
     same : o ≡ said
-    same = slicing s (7 ∷ 7 ∷ 7 ∷ []) .only o c ∙ sym (slicing s (7 ∷ 7 ∷ 7 ∷ []) .only said (running .slices))
+    same = showing s (7 ∷ 7 ∷ 7 ∷ []) .only o c ∙ sym (showing s (7 ∷ 7 ∷ 7 ∷ []) .only said (running .shows))
 
-pub slices-nothing : (next : Next) (left : List ℕ) → Sliced (after planA releases) (7 ∷ []) next left → left ≡ 7 ∷ []
-slices-nothing next left c = slicing-refused (after planA releases) (7 ∷ []) left next c refused .1
+pub shows-nothing : (a : Answer) (left : List ℕ) → Shows (after planA releases) (7 ∷ []) a left → left ≡ 7 ∷ []
+shows-nothing a left c = showing-refused (after planA releases) (7 ∷ []) left a c refused
   where
-    refused : number (next .answer) ≢ 0
-    refused z = omega (arith, ap (λ (n : Next). number (n .answer)) (c .result), running .slice-short)
+    refused : number a ≢ 0
+    refused z = omega (arith, ap number (c .result), running .show-told)
+
+-- an advance raises the clock, and at its end it does not
+pub advances-one : advancing (after planA releases) .outcome .state .clock ≡ 1
+advances-one = ap (λ (n : Next). n .state .clock) (advancing (after planA releases) .meets) ∙ running .advance-clock
+
+pub advances-nothing : advanceOf ended .state ≡ ended
+advances-nothing = advancing-refused ended (λ z. omega (arith, running .advance-ended))
 
 -- ---- demand 1: the numbers
 
@@ -181,8 +193,14 @@ table-place = slot-table-numbers planA 7 .its-place (ap (among placed) (answers 
 pub release-excess : excess (releaseAnswer (after planA fourSlices) 2 1) ≡ 0
 release-excess = release-numbers (after planA fourSlices) 2 1 .its-excess (λ z. omega (arith, running .release-told))
 
-pub slice-place : place (sliceAnswer (after planA releases) 1) ≡ 0
-slice-place = slice-numbers (after planA releases) 1 .its-place (ap (among placed) (running .slice-told) ∙ answers .nine-bare)
+pub show-place : place (showAnswer (after planA releases) 1) ≡ 0
+show-place = show-numbers (after planA releases) 1 .its-place (ap (among placed) (running .show-told) ∙ answers .nine-bare)
+
+pub advance-excess : excess (advanceAnswer ended) ≡ 0
+advance-excess = advance-numbers ended .its-excess (λ z. omega (arith, running .advance-told))
+
+pub ready-excess : (s : State) → number (ready s) ≢ 8 → excess (ready s) ≡ 0
+ready-excess s = ready-numbers s .its-excess
 
 -- ---- demand 2: the verdict
 
@@ -362,23 +380,23 @@ ceiling-one = first-row .ceiling 0 (omega arith)
 -- it takes from kind 1's two what it says
 pub taken-from-two :
     let s = after planA releases in
-    unitOf (sliceOf s 2 .state) 1 .left + bytesIn (namesKind 1) (rowWritten s row) ≡ 2
-taken-from-two = rows-serve planA (running .admitted-A) releases row 1 (running .accepted) (omega arith) ∙ running .two-left
+    unitOf (advanceOf s .state) 1 .left + bytesIn (namesKind 1) (rowOf s) ≡ 2
+taken-from-two = rows-serve planA (running .admitted-A) releases 1 (running .accepted) (omega arith) ∙ running .two-left
 
 -- card 0 is taken by kind 0 alone, and card 1's byte names kind 1
 pub card-none : (k : ℕ) → k < 3 → takes (after planA releases) k 0 ≡ true → 0 ≡ k
 card-none k l takes-it = one-kind-a-card planA (running .admitted-A) releases 0 0 k (omega arith) l (running .takes-none) takes-it
 
-pub card-one-taken : (i : ℕ) → namesKind i (getD (rowWritten (after planA releases) row) 1 0) ≡ true → i < 3
-card-one-taken i names = rows-name planA (running .admitted-A) releases row 1 i (running .accepted) (omega arith) .0 names .0
+pub card-one-taken : (i : ℕ) → namesKind i (getD (rowOf (after planA releases)) 1 0) ≡ true → i < 3
+card-one-taken i names = rows-name planA (running .admitted-A) releases 1 i (running .accepted) (omega arith) .0 names .0
 
-pub card-one : namesKind 1 (getD (rowWritten (after planA releases) row) 1 0) ≡ true
-card-one = rows-name planA (running .admitted-A) releases row 1 1 (running .accepted) (omega arith) .1 (omega arith, running .takes-one)
+pub card-one : namesKind 1 (getD (rowOf (after planA releases)) 1 0) ≡ true
+card-one = rows-name planA (running .admitted-A) releases 1 1 (running .accepted) (omega arith) .1 (omega arith, running .takes-one)
 
 -- kinds 0 and 1 are served, on two cards
-pub two-cards : Apart 0 1 (rowWritten (after planA releases) row)
+pub two-cards : Apart 0 1 (rowOf (after planA releases))
 two-cards =
-    served-apart planA (running .admitted-A) releases row 0 1 (running .accepted) (omega arith) (omega arith) (omega arith)
+    served-apart planA (running .admitted-A) releases 0 1 (running .accepted) (omega arith) (omega arith) (omega arith)
     (running .less-none) (running .less-one)
 
 -- ---- demand 3: project 0's budget of 3 in the example's frame
@@ -430,3 +448,60 @@ named-or-left = unit-shown planA (running .admitted-A) earlier later 1 2 (runnin
 pub none-by-rows : 2 - bytesNaming (namesKind 1) fourRows ≤ 0
 none-by-rows =
     rw (running .four-rows) at (in-time-shown planA (running .admitted-A) earlier later 1 2 (running .kind-one) (running .not-again))
+
+-- ---- showing and advancing
+
+-- what is shown of the first slice is the row that is counted, and a second showing leaves it so
+pub first-shown : 1 ∷ 2 ∷ [] ≡ rowOf (after planA releases)
+first-shown =
+    ap (λ (cards : ℕ). take cards (1 ∷ 2 ∷ 7 ∷ [])) (sym (running .first-cards))
+    ∙ row-shown (after planA releases) (7 ∷ 7 ∷ 7 ∷ []) (1 ∷ 2 ∷ 7 ∷ []) Good (running .shows) refl
+
+pub twice : (again : Answer) (last : List ℕ) → Shows (after planA releases) (1 ∷ 2 ∷ 7 ∷ []) again last → last ≡ 1 ∷ 2 ∷ 7 ∷ []
+twice again last second =
+    shown-twice (after planA releases) (7 ∷ 7 ∷ 7 ∷ []) (1 ∷ 2 ∷ 7 ∷ []) Good (running .shows) again last second .1
+
+-- and so it is in any other lent row
+pub whatever-stood : (bytes left : List ℕ) (a : Answer) → Shows (after planA releases) bytes a left → number a ≡ 0 → 1 ∷ 2 ∷ [] ≡ take 2 left
+whatever-stood bytes left a c good =
+    rw (running .first-cards) at
+    (shown-alike (after planA releases) (7 ∷ 7 ∷ 7 ∷ []) bytes (1 ∷ 2 ∷ 7 ∷ []) left Good a (running .shows) c refl good)
+
+-- the showing and the advance are the one call
+pub one-call : Sliced (after planA releases) (7 ∷ 7 ∷ 7 ∷ []) (advanceOf (after planA releases)) (1 ∷ 2 ∷ 7 ∷ [])
+one-call =
+    let s = after planA releases in
+    pair-is-slice s (7 ∷ 7 ∷ 7 ∷ []) (1 ∷ 2 ∷ 7 ∷ []) Good (advanceOf s) (running .shows) refl (omega arith) .0
+
+-- a row that is too short keeps nobody from advancing, but for the clock's end
+pub short-row : (a : Answer) (left : List ℕ) → Shows (after planA releases) (7 ∷ []) a left → advanceOf (after planA releases) .answer ≡ Good
+short-row a left c =
+    let nine : number a ≡ 9 = ap number (c .result) ∙ running .show-told in
+    let early : after planA releases .clock ≢ 1000000000 = λ z. omega (arith, running .first-clock) in
+    short-advances (after planA releases) (7 ∷ []) left a c nine .0 early
+
+pub short-at-the-end : number (advanceOf ended .answer) ≡ 11
+short-at-the-end = short-advances ended [] [] _ (running .ended-short) refl .1 refl
+
+-- kind 1 is released after a showing: the row shown then has it
+pub shown-anew : 1 ∷ 2 ∷ [] ≡ rowOf begun
+shown-anew =
+    ap (λ (cards : ℕ). take cards (1 ∷ 2 ∷ [])) (sym (running .cards-then))
+    ∙ shown-after-release (after planA earlier) 1 2 (7 ∷ 7 ∷ []) (1 ∷ 2 ∷ []) Good (running .shown-then) refl
+
+pub shown-before : 1 ∷ 0 ∷ [] ≡ rowOf (after planA earlier)
+shown-before =
+    ap (λ (cards : ℕ). take cards (1 ∷ 0 ∷ [])) (sym (running .cards-first))
+    ∙ row-shown (after planA earlier) (7 ∷ 7 ∷ []) (1 ∷ 0 ∷ []) Good (running .shown-first) refl
+
+-- the example's showings change nothing: nine calls answer the same without them, and four slices run
+pub nine-calls : length (handedBack (startOf planA .state) example) ≡ 9
+nine-calls = sym (ap length (showings-move-nothing example (startOf planA .state) .1)) ∙ running .unshown-nine
+
+pub four-still : after planA (unshown example) .clock ≡ 4
+four-still = ap (λ (s : State). s .clock) (showings-move-nothing example (startOf planA .state) .0) ∙ four
+
+-- and each of the four has the row that showing gives on its state
+pub third-shown : let slice = getD rows 2 noSlice in (bytes : List ℕ) → slice .before .plan .cards ≤ length bytes →
+    take (slice .before .plan .cards) (bufferShown (slice .before) bytes) ≡ slice .row
+third-shown bytes l = slices-shown example (startOf planA .state) 2 (omega (arith, running .rows-long)) bytes l .1

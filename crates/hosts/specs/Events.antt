@@ -1,4 +1,5 @@
--- What a host sees of a chain of calls, with no look at the image: the releases accepted and the rows written, in their order.
+-- What a host sees of a chain of calls, with no look at the image: the releases accepted and the rows of the slices advanced,
+-- in their order.
 -- Assumes nothing.
 use Prim.Native.Nat.{ℕ, _+_}
 use mathlib.Core.Bool.{Bool, cond}
@@ -6,10 +7,10 @@ use mathlib.Core.List.{List, [], _∷_}
 use lib.Dec.{eqb}
 use lib.ListN.{take}
 use Rattle.answer.specs.Word.{numberIn}
-use Rattle.demands.specs.Run.{Call, slice, release}
+use Rattle.demands.specs.Run.{Call, show, advance, release}
 use Rattle.demands.specs.Named.{bytesIn}
 use Rattle.demands.specs.Since.{Since, ago, later}
-use Rattle.demands.specs.Shown.{Event, started, wrote}
+use Rattle.demands.specs.Shown.{Event, started, ran}
 use Rattle.hosts.specs.Chain.{Seen}
 pub mod Properties
 
@@ -17,20 +18,21 @@ pub mod Properties
 abbrev pub accepted : ℕ → Bool
 accepted word = eqb (numberIn word) 0
 
--- on a plan of that many cards; "The row written has m bytes"
+-- on a plan of that many cards; "The row written has m bytes"; a showing counts with the advance
 unfoldable pub eventsSeen : ℕ → List Call → List Seen → List Event
 eventsSeen cards [] seens = []
 eventsSeen cards (call ∷ calls) [] = []
-eventsSeen cards (slice row ∷ calls) (seen ∷ seens) =
-    cond (accepted (seen .word)) (wrote (take cards (seen .row)) ∷ eventsSeen cards calls seens) (eventsSeen cards calls seens)
+eventsSeen cards (show row ∷ calls) (seen ∷ seens) = eventsSeen cards calls seens
+eventsSeen cards (advance ∷ calls) (seen ∷ seens) =
+    cond (accepted (seen .word)) (ran (take cards (seen .row)) ∷ eventsSeen cards calls seens) (eventsSeen cards calls seens)
 eventsSeen cards (release i e ∷ calls) (seen ∷ seens) =
     cond (accepted (seen .word)) (started i e ∷ eventsSeen cards calls seens) (eventsSeen cards calls seens)
 
--- the rows written
+-- the rows
 unfoldable pub rowsIn : List Event → List (List ℕ)
 rowsIn [] = []
 rowsIn (started i e ∷ events) = rowsIn events
-rowsIn (wrote row ∷ events) = row ∷ rowsIn events
+rowsIn (ran row ∷ events) = row ∷ rowsIn events
 
 -- how many bytes of rows pass a test
 unfoldable pub bytesOver : (ℕ → Bool) → List (List ℕ) → ℕ
@@ -41,4 +43,4 @@ bytesOver test (row ∷ rows) = bytesIn test row + bytesOver test rows
 unfoldable pub sinceSeen : ℕ → Since → List Event → Since
 sinceSeen i since [] = since
 sinceSeen i since (started k e ∷ events) = sinceSeen i (cond (eqb k i) (ago 0) since) events
-sinceSeen i since (wrote row ∷ events) = sinceSeen i (later since) events
+sinceSeen i since (ran row ∷ events) = sinceSeen i (later since) events

@@ -23,28 +23,34 @@ use Rattle.rack.specs.State.{freshOf, unitOf}
 use Rattle.rack.specs.Start.{startAnswer, startOf}
 use Rattle.rack.specs.Start.Properties.{start-good}
 use Rattle.rack.specs.Release.{releaseOf}
-use Rattle.rack.specs.Slice.{sliceOf, bufferAfter}
+use Rattle.rack.specs.Row.{rowOf}
+use Rattle.rack.specs.Show.{showAnswer, bufferShown}
+use Rattle.rack.specs.Show.Properties.{show-first}
+use Rattle.rack.specs.Advance.{advanceOf}
 use Rattle.images.specs.Image.{planSize, stateSize, planFrom, stateFrom, stateImage}
 use Rattle.images.specs.Lent.{room}
 use Rattle.images.specs.Typed.{StateTyped}
 use Rattle.images.specs.Typed.Properties.{plan-found-typed, start-typed}
 use Rattle.images.specs.RoundTrip.{state-round-trip}
-use Rattle.parchbeetle.specs.Exports.{freshAnswer, Starts, Releases, Slices}
-use Rattle.demands.specs.Run.{Call, slice, release, nextAfter, runFrom, after, rowWritten, slicesOf}
+use Rattle.parchbeetle.specs.Exports.{freshAnswer, Starts, Releases, ShowsRow, Advances}
+use Rattle.parchbeetle.specs.OneOutcome.{parchbeetle-show-one-outcome}
+use Rattle.demands.specs.Run.{Call, show, advance, release, nextAfter, runFrom, after, slicesOf}
 use Rattle.demands.specs.Run.Properties.{run-plan}
 use Rattle.demands.specs.Named.{namesKind, namesProject, bytesIn, bytesNaming, Orderly}
 use Rattle.demands.specs.Since.{never, sinceFrom, fewer}
 use Rattle.demands.specs.Shown.{Event, shown, kindsLeft, upTo}
-use Rattle.demands.specs.Numbers.{verdictOrder, releaseOrder, sliceOrder, release-numbers, slice-numbers}
+use Rattle.demands.specs.Numbers.{verdictOrder, releaseOrder, showOrder, advanceOrder}
+use Rattle.demands.specs.Numbers.{release-numbers, show-numbers, advance-numbers}
 use Rattle.demands.specs.Deadlines as rack
 use Rattle.hosts.specs.Words.{fresh-listed, uncounted}
-use Rattle.hosts.specs.Chain.{Seen, Called, Chain, seenOf, allSeen}
+use Rattle.hosts.specs.Chain.{Seen, lent, Called, Chain, seenOf, allSeen}
 use Rattle.hosts.specs.Chain.Properties.{call-is, next-typed, chain-is-run, run-typed}
 use Rattle.hosts.specs.Events.{eventsSeen, rowsIn, bytesOver, sinceSeen}
-use Rattle.hosts.specs.Events.Properties.{number-told, accepted-good, small-slice, small-release, events-shown}
+use Rattle.hosts.specs.Events.Properties.{number-told, accepted-good, small-show, small-advance, small-release, lent-shows}
+use Rattle.hosts.specs.Events.Properties.{events-shown}
 use Rattle.hosts.specs.Events.Properties.{rowsOf, rows-shown, rows-count, rows-take, rows-drop, rows-at, rows-named, since-shown}
 
--- the rows written, as a host sees them
+-- the rows of the slices advanced
 abbrev pub rowsSeen : ℕ → List Call → List Seen → List (List ℕ)
 rowsSeen cards calls seens = rowsIn (eventsSeen cards calls seens)
 
@@ -54,17 +60,23 @@ fresh-small = refl
 
 -- ---- one call
 
--- an accepted slice
-sliced-good : (s : State) (row : List ℕ) (word : ℕ) → word ≡ told (sliceOf s (length row) .answer) 0 → numberIn word ≡ 0
-    → sliceOf s (length row) .answer ≡ Good
-unfolding sliceOf
-sliced-good s row word e z = accepted-good sliceOrder _ small-slice (slice-numbers s (length row)) (sym (ap numberIn e) ∙ z)
+-- an accepted showing
+shown-good : (s : State) (row : List ℕ) (word : ℕ) → word ≡ told (showAnswer s (length row)) 0 → numberIn word ≡ 0
+    → showAnswer s (length row) ≡ Good
+shown-good s row word e z = accepted-good showOrder _ small-show (show-numbers s (length row)) (sym (ap numberIn e) ∙ z)
+
+-- an accepted advance
+advanced-good : (s : State) (word : ℕ) → word ≡ told (advanceOf s .answer) 0 → numberIn word ≡ 0 → advanceOf s .answer ≡ Good
+unfolding advanceOf
+advanced-good s word e z = accepted-good advanceOrder _ small-advance (advance-numbers s) (sym (ap numberIn e) ∙ z)
 
 -- the number that is seen is the rack's
 seen-number : (s : State) (call : Call) (seen : Seen) → seen ≡ seenOf s call → numberIn (seen .word) ≡ number (nextAfter s call .answer)
-unfolding sliceOf releaseOf
-seen-number s (slice row) seen e = ap (λ (x : Seen). numberIn (x .word)) e
-    ∙ number-told sliceOrder _ small-slice (slice-numbers s (length row))
+unfolding advanceOf releaseOf
+seen-number s (show row) seen e = ap (λ (x : Seen). numberIn (x .word)) e
+    ∙ number-told showOrder _ small-show (show-numbers s (length row))
+seen-number s advance seen e = ap (λ (x : Seen). numberIn (x .word)) e
+    ∙ number-told advanceOrder _ small-advance (advance-numbers s)
 seen-number s (release i l) seen e = ap (λ (x : Seen). numberIn (x .word)) e
     ∙ number-told releaseOrder _ small-release (release-numbers s i l)
 
@@ -171,7 +183,7 @@ module _ (plan state first : List ℕ) (word : ℕ) (fresh : Starts plan state w
 
     -- ---- 2. No card serves two units, no unit holds two cards, no project exceeds its ceiling
 
-    -- every row written
+    -- every row
     pub rows-orderly : (x : ℕ) →
         let rows = rowsSeen (p .cards) calls seens in
         x < length rows →
@@ -277,23 +289,62 @@ module _ (plan state first : List ℕ) (word : ℕ) (fresh : Starts plan state w
           ap (sinceSeen i never) events-are ∙ since-shown i calls (startOf p .state) never in
           rw (since, released-number) (rack.told-early p admitted calls i e)
 
-    -- ---- a slice after these calls
+    -- ---- a showing after these calls, and an advance
 
-    -- what its row says is what is done: each kind's left falls by the bytes that name it
-    pub rows-serve : (row cards next : List ℕ) (told-number i : ℕ) →
-        Slices end row told-number next cards →
+    -- an accepted showing leaves in the first m bytes the row of the bytes' state
+    pub row-shown : (row cards : List ℕ) (told-number : ℕ) →
+        ShowsRow end row told-number cards →
+        numberIn told-number ≡ 0 →
+        take (p .cards) cards ≡ rowOf (stateFrom end)
+    row-shown row cards told-number call z =
+        let s = after p calls in
+        let v = next-is-run (show row) (record { word = told-number; row = cards }) end (call, refl) in
+        let good = shown-good s row told-number (ap (λ (x : Seen). x .word) (v .0)) z in
+        ap (λ (x : Seen). take (p .cards) (x .row)) (v .0)
+        ∙ ap (λ (q : Plan). take (q .cards) (bufferShown s row)) (sym (at-plan calls))
+        ∙ show-first s row good ∙ ap rowOf (sym state-found)
+
+    -- an advance, beside what showing would leave on the same bytes
+    advances-run : (next : List ℕ) (told-number : ℕ) → Advances end told-number next
+        → (told-number ≡ told (advanceOf (after p calls) .answer) 0) × (next ≡ stateImage (advanceOf (after p calls) .state) ++ rest)
+    advances-run next told-number call =
+        let would = parchbeetle-show-one-outcome end lent in
+        let seen : Seen = record { word = told-number; row = would .outcome .buffer } in
+        let v = next-is-run advance seen next (call, (would .outcome .result, would .meets)) in
+        (ap (λ (x : Seen). x .word) (v .0), v .1)
+
+    -- it is the row that counts when these bytes are advanced
+    pub row-counted : (row cards next : List ℕ) (shown-number : ℕ) (seen : Seen) →
+        ShowsRow end row shown-number cards →
+        numberIn shown-number ≡ 0 →
+        Called end advance seen next →
+        numberIn (seen .word) ≡ 0 →
+        take (p .cards) cards ≡ take (p .cards) (seen .row)
+    unfolding advanceOf
+    row-counted row cards next shown-number seen shows y call z =
+        let s = after p calls in
+        let v = next-is-run advance seen next call in
+        let good = advanced-good s (seen .word) (ap (λ (x : Seen). x .word) (v .0)) z in
+        row-shown row cards shown-number shows y ∙ ap rowOf state-found
+        ∙ sym (lent-shows s good)
+        ∙ ap (λ (q : Plan). take (q .cards) (bufferShown s lent)) (at-plan calls)
+        ∙ sym (ap (λ (x : Seen). take (p .cards) (x .row)) (v .0))
+
+    -- and what that row says is what the advance does: each kind's left falls by the bytes that name it
+    pub rows-serve : (row cards next : List ℕ) (shown-number told-number i : ℕ) →
+        ShowsRow end row shown-number cards →
+        numberIn shown-number ≡ 0 →
+        Advances end told-number next →
         numberIn told-number ≡ 0 →
         i < p .kinds →
         unitOf (stateFrom next) i .left + bytesIn (namesKind i) (take (p .cards) cards) ≡ unitOf (stateFrom end) i .left
-    rows-serve row cards next told-number i call z l =
+    rows-serve row cards next shown-number told-number i shows y call z l =
         let s = after p calls in
-        let v = next-is-run (slice row) (record { word = told-number; row = cards }) next call in
-        let w : told-number ≡ told (sliceOf s (length row) .answer) 0 = ap (λ (x : Seen). x .word) (v .0) in
-        let b : take (p .cards) cards ≡ rowWritten s row =
-        ap (λ (x : Seen). take (p .cards) (x .row)) (v .0) ∙ ap (λ (q : Plan). take (q .cards) (bufferAfter s row)) (sym (at-plan calls)) in
-        let n : stateFrom next ≡ sliceOf s (length row) .state =
-        ap stateFrom (v .1) ∙ state-round-trip (sliceOf s (length row) .state) (next-typed s (at-typed calls) rest (slice row)) rest in
-        rw (n, state-found, b) (rack.rows-serve p admitted calls row i (sliced-good s row told-number w z) l)
+        let a = advances-run next told-number call in
+        let n : stateFrom next ≡ advanceOf s .state =
+        ap stateFrom (a .1) ∙ state-round-trip (advanceOf s .state) (next-typed s (at-typed calls) rest advance) rest in
+        let b : take (p .cards) cards ≡ rowOf s = row-shown row cards shown-number shows y ∙ ap rowOf state-found in
+        rw (n, state-found, b) (rack.rows-serve p admitted calls i (advanced-good s told-number (a .0) z) l)
 
     -- ---- 4. Refusals on the way
 

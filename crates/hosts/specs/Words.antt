@@ -24,13 +24,14 @@ use Rattle.verdict.specs.Verdict.{judged}
 use Rattle.smallest_budget.specs.Smallest.{smallestOf}
 use Rattle.images.specs.Image.{planSize, stateSize, planFrom, stateFrom, releasedTold}
 use Rattle.images.specs.Lent.{room}
-use Rattle.demands.specs.Numbers.{recordOrder, bytesOrder, writeOrder, verdictOrder, smallestOrder, stateOrder, releaseOrder, sliceOrder}
+use Rattle.demands.specs.Numbers.{recordOrder, bytesOrder, writeOrder, verdictOrder, smallestOrder, stateOrder, releaseOrder}
+use Rattle.demands.specs.Numbers.{showOrder, advanceOrder}
 use Rattle.demands.specs.Numbers.{check-numbers, read-numbers, write-numbers, slot-table-numbers, judge-numbers, smallest-numbers}
-use Rattle.demands.specs.Numbers.{start-numbers, release-numbers, slice-numbers}
+use Rattle.demands.specs.Numbers.{start-numbers, release-numbers, show-numbers, advance-numbers}
 use Rattle.parchbeetle.specs.Outcome.{Outcome}
 use Rattle.parchbeetle.specs.Exports.{checkAnswer, readsAnswer, writesAnswer, slotsAnswer, verdictAnswer, budgetAnswer, freshAnswer}
-use Rattle.parchbeetle.specs.Exports.{stateAnswer, releasesAnswer, slicesAnswer, Reads, WritesBytes, WritesSlots, Judges, budgetTold}
-use Rattle.parchbeetle.specs.Exports.{Starts, Releases, Slices}
+use Rattle.parchbeetle.specs.Exports.{stateAnswer, releasesAnswer, showsAnswer, advancesAnswer, Reads, WritesBytes, WritesSlots, Judges, budgetTold}
+use Rattle.parchbeetle.specs.Exports.{Starts, Releases, ShowsRow, Advances}
 use Rattle.parchbeetle.specs.Exports.Properties.{read-count, good-size, good-table, budget-most}
 
 -- ---- the numbers that each function lists
@@ -95,11 +96,18 @@ release-listed state kind e =
     andThen-numbered _ _ _ (wider _ (9 ∷ stateOrder) _ refl (state-listed state))
     (λ g. wider _ releaseOrder _ refl (release-numbers (stateFrom state) kind e))
 
--- `parchbeetle_slice`
-pub slice-listed : (state row : List ℕ) → Numbered sliceOrder (slicesAnswer state row)
-unfolding slicesAnswer covers among
-slice-listed state row =
-    andThen-numbered _ _ _ (wider _ (9 ∷ stateOrder) _ refl (state-listed state)) (λ g. slice-numbers (stateFrom state) (length row))
+-- `parchbeetle_show`
+pub show-listed : (state row : List ℕ) → Numbered showOrder (showsAnswer state row)
+unfolding showsAnswer covers among
+show-listed state row =
+    andThen-numbered _ _ _ (wider _ (9 ∷ stateOrder) _ refl (state-listed state)) (λ g. show-numbers (stateFrom state) (length row))
+
+-- `parchbeetle_advance`
+pub advance-listed : (state : List ℕ) → Numbered (9 ∷ advanceOrder) (advancesAnswer state)
+unfolding advancesAnswer covers among
+advance-listed state =
+    andThen-numbered _ _ _ (wider _ (9 ∷ stateOrder) _ refl (state-listed state))
+    (λ g. wider _ advanceOrder _ refl (advance-numbers (stateFrom state)))
 
 -- ---- and what the five macros read
 
@@ -178,8 +186,12 @@ pub release-decodes : (state : List ℕ) (kind e r : ℕ) (after : List ℕ) →
 unfolding small
 release-decodes state kind e r after = read-again-none (9 ∷ releaseOrder) _ _ _ r after refl (release-listed state kind e)
 
--- `parchbeetle_slice`
-pub slice-decodes : (state row : List ℕ) (r : ℕ) (after cards : List ℕ) → Slices state row r after cards →
-    Decodes (slicesAnswer state row) 0 r
+-- `parchbeetle_show`
+pub show-decodes : (state row : List ℕ) (r : ℕ) (after : List ℕ) → ShowsRow state row r after → Decodes (showsAnswer state row) 0 r
 unfolding small
-slice-decodes state row r after cards o = read-again-bare sliceOrder _ r refl (slice-listed state row) (o .result)
+show-decodes state row r after = read-again-none showOrder _ _ _ r after refl (show-listed state row)
+
+-- `parchbeetle_advance`
+pub advance-decodes : (state : List ℕ) (r : ℕ) (after : List ℕ) → Advances state r after → Decodes (advancesAnswer state) 0 r
+unfolding small
+advance-decodes state r after = read-again-none (9 ∷ advanceOrder) _ _ _ r after refl (advance-listed state)

@@ -7,6 +7,7 @@ use lib.Dec.{ltb}
 use lib.ListN.{length, drop, getD}
 use Rattle.laws.specs.Written.{written}
 use Rattle.answer.specs.declared.Answer.{Answer}
+use Rattle.answer.specs.Word.{told}
 use Rattle.answer.specs.Answer.{bare, refuse, _andThen_, ifGood}
 use Rattle.plan.specs.Order.{checked}
 use Rattle.plan_bytes.specs.Parts.{encoded, size}
@@ -18,13 +19,11 @@ use Rattle.smallest_budget.specs.Smallest.{smallestOf}
 use Rattle.rack.specs.State.{freshOf}
 use Rattle.rack.specs.Start.{startAnswer}
 use Rattle.rack.specs.Release.{releaseAnswer, released}
-use Rattle.rack.specs.Advance.{advanced}
-use Rattle.rack.specs.Slice.{sliceAnswer}
 use Rattle.rack.specs.Row.{rowOver}
+use Rattle.rack.specs.Show.{showAnswer}
+use Rattle.rack.specs.Advance.{advanced, advanceAnswer}
 use Rattle.images.specs.Image.{planSize, stateSize, planFrom, planImage, stateFrom, stateImage, releasedTold}
 use Rattle.images.specs.Lent.{room}
-use Rattle.answer.specs.Word.{told}
-use Rattle.answer.specs.Outcome.{LeavesTwo}
 use Rattle.parchbeetle.specs.Outcome.{Outcome}
 pub mod Properties
 
@@ -106,13 +105,18 @@ abbrev pub Releases : List ℕ → ℕ → ℕ → ℕ → List ℕ → Type 0
 Releases state kind e r after =
     Outcome (releasesAnswer state kind e) 0 (stateImage (released (stateFrom state) kind e) ++ drop stateSize state) state r after
 
--- `parchbeetle_slice`: the image, then as a slice answers
-unfoldable pub slicesAnswer : List ℕ → List ℕ → Answer
-slicesAnswer state row = stateAnswer state andThen sliceAnswer (stateFrom state) (length row)
+-- `parchbeetle_show`: the image, then as a showing answers
+unfoldable pub showsAnswer : List ℕ → List ℕ → Answer
+showsAnswer state row = stateAnswer state andThen showAnswer (stateFrom state) (length row)
 
--- the state after the slice, and its row
-abbrev pub Slices : List ℕ → List ℕ → ℕ → List ℕ → List ℕ → Type 0
-Slices state row =
-    let a = slicesAnswer state row in
-    LeavesTwo (told a 0) (ifGood a (stateImage (advanced (stateFrom state)) ++ drop stateSize state) state)
-    (ifGood a (rowOver (stateFrom state) row) row)
+-- the row that the state shows (its image is not lent)
+abbrev pub ShowsRow : List ℕ → List ℕ → ℕ → List ℕ → Type 0
+ShowsRow state row r after = Outcome (showsAnswer state row) 0 (rowOver (stateFrom state) row) row r after
+
+-- `parchbeetle_advance`: the image, then as an advance answers
+unfoldable pub advancesAnswer : List ℕ → Answer
+advancesAnswer state = stateAnswer state andThen advanceAnswer (stateFrom state)
+
+-- the state that follows
+abbrev pub Advances : List ℕ → ℕ → List ℕ → Type 0
+Advances state r after = Outcome (advancesAnswer state) 0 (stateImage (advanced (stateFrom state)) ++ drop stateSize state) state r after

@@ -3,10 +3,11 @@
 use mathlib.Core.Path.{_≡_}
 use mathlib.Core.List.{List}
 use Prim.Native.Nat.{ℕ}
-use Rattle.answer.specs.Outcome.{One, Lent, LentTwo}
-use Rattle.answer.specs.Outcome.Properties.{is-one, leaves-one, leaves-two-one}
+use Rattle.answer.specs.Outcome.{One, Lent}
+use Rattle.answer.specs.Outcome.Properties.{is-one, leaves-one}
 use Rattle.answer.specs.Word.{told}
-use Rattle.parchbeetle.specs.Exports.{checkAnswer, Reads, WritesBytes, WritesSlots, Judges, budgetTold, Starts, Releases, Slices}
+use Rattle.parchbeetle.specs.Exports.{checkAnswer, Reads, WritesBytes, WritesSlots, Judges, budgetTold, Starts, Releases}
+use Rattle.parchbeetle.specs.Exports.{ShowsRow, Advances}
 
 -- `parchbeetle_check`
 pub parchbeetle-check-one-outcome : (plan : List ℕ) → One (λ r. r ≡ told (checkAnswer plan) 0)
@@ -40,6 +41,10 @@ parchbeetle-fresh-one-outcome plan state = leaves-one _ _
 pub parchbeetle-release-one-outcome : (state : List ℕ) (kind e : ℕ) → One (λ (o : Lent ℕ). Releases state kind e (o .result) (o .buffer))
 parchbeetle-release-one-outcome state kind e = leaves-one _ _
 
--- `parchbeetle_slice`
-pub parchbeetle-slice-one-outcome : (state row : List ℕ) → One (λ (o : LentTwo ℕ). Slices state row (o .result) (o .buffer) (o .second))
-parchbeetle-slice-one-outcome state row = leaves-two-one _ _ _
+-- `parchbeetle_show`
+pub parchbeetle-show-one-outcome : (state row : List ℕ) → One (λ (o : Lent ℕ). ShowsRow state row (o .result) (o .buffer))
+parchbeetle-show-one-outcome state row = leaves-one _ _
+
+-- `parchbeetle_advance`
+pub parchbeetle-advance-one-outcome : (state : List ℕ) → One (λ (o : Lent ℕ). Advances state (o .result) (o .buffer))
+parchbeetle-advance-one-outcome state = leaves-one _ _

@@ -6,7 +6,7 @@ ghost use lib.ListN.{length};
 ghost use Rattle.laws.specs.Written.{written};
 ghost use Rattle.answer.specs.Word.{told};
 ghost use Rattle.parchbeetle.specs.Exports.{checkAnswer, Reads, WritesBytes, WritesSlots, verdictByte, Judges, budgetTold};
-ghost use Rattle.parchbeetle.specs.Exports.{Starts, Releases, Slices};
+ghost use Rattle.parchbeetle.specs.Exports.{Starts, Releases, ShowsRow, Advances};
 use answer::Answer;
 use plan::Plan;
 use rack::State;
@@ -198,18 +198,31 @@ pub extern "C" fn parchbeetle_release(state: &mut [u8], kind: u64, e: u64) -> u6
     image_writer::put_state(next.state, state).told(0)
 }
 
-// Runs a slice, in a state's image, and writes its row.
+// Writes the row of the slice to come, for a state's image.
 #[no_mangle]
-pub extern "C" fn parchbeetle_slice(state: &mut [u8], row: &mut [u8]) -> u64
-    ensures { λ r. ⌜ Slices (now (state .entry)) (now (row .entry)) r (now (state .exit)) (now (row .exit)) ⌝ }
+pub extern "C" fn parchbeetle_show(state: &[u8], row: &mut [u8]) -> u64
+    ensures { λ r. ⌜ ShowsRow (now (state .entry)) (now (row .entry)) r (now (row .exit)) ⌝ }
 {
     let found = image_reader::state_of(state);
     let seen = found.answer;
     let Answer::Good = seen else {
         return seen.told(0);
     };
-    let given = found.state;
-    let after = given.slice(row);
+    let shown = found.state.show(row);
+    shown.told(0)
+}
+
+// Runs a slice, in a state's image.
+#[no_mangle]
+pub extern "C" fn parchbeetle_advance(state: &mut [u8]) -> u64
+    ensures { λ r. ⌜ Advances (now (state .entry)) r (now (state .exit)) ⌝ }
+{
+    let found = image_reader::state_of(state);
+    let seen = found.answer;
+    let Answer::Good = seen else {
+        return seen.told(0);
+    };
+    let after = found.state.advance();
     let answer = after.answer;
     let Answer::Good = answer else {
         return answer.told(0);

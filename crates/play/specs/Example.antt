@@ -36,8 +36,8 @@ use Rattle.rack.specs.Rank.{gone, due, working, active, outranks, viewOf, rank,
 use Rattle.rack.specs.Row.{byteBy, rowByte}
 use Rattle.rack.specs.Start.{startAnswer, startOf}
 use Rattle.rack.specs.Release.{releaseAnswer, released, releaseOf}
-use Rattle.rack.specs.Advance.{unitAfter, advanced, timeLeft}
-use Rattle.rack.specs.Slice.{roomFor, sliceAnswer, sliceOf}
+use Rattle.rack.specs.Advance.{unitAfter, advanced, timeLeft, advanceAnswer, advanceOf}
+use Rattle.rack.specs.Show.{roomFor, showAnswer}
 use Rattle.commands.specs.Command.{commandFields, fieldsSay, commandOf}
 use Rattle.lines.specs.Text.{decimalIn, decimal}
 use Rattle.lines.specs.Line.{planLine, outcome, releaseLine, rowText, sliceLine, endLine}
@@ -67,6 +67,6 @@ unfolding sumTo leastTo firstTo countTo allTo written rankIn firstIn sooner each
     owns slotOf held window supply workloadPart fitsAt leastWidth greatestTo allowedLength leastExcess besides partOf workload
     widthOf excessOf fitted admitted untouched underway unitInForm emptyUnit early startable inForm ready gone due working active
     outranks hasCard cardsHeld rankOf chosen takesCard byteOn viewOf rank served byteBy rowByte startAnswer startOf releaseAnswer
-    released releaseOf unitAfter advanced timeLeft roomFor sliceAnswer sliceOf commandFields fieldsSay commandOf decimalIn decimal
-    planLine outcome releaseLine rowText sliceLine endLine lineOf after turns opening played
+    released releaseOf unitAfter advanced timeLeft roomFor showAnswer advanceAnswer advanceOf commandFields fieldsSay commandOf
+    decimalIn decimal planLine outcome releaseLine rowText sliceLine endLine lineOf after turns opening played
 example = refl

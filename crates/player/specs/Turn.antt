@@ -5,28 +5,29 @@ use mathlib.Core.Path.{_≡_}
 use mathlib.Core.List.{List}
 use Rattle.rack.specs.declared.State.{State}
 use Rattle.rack.specs.Release.{releaseOf}
-use Rattle.rack.specs.Slice.{sliceOf}
 use Rattle.rack.specs.Row.{rowByte}
+use Rattle.rack.specs.Show.{showAnswer}
+use Rattle.rack.specs.Advance.{advanceOf}
 use Rattle.commands.specs.declared.command.Command.{Command}
 use Rattle.commands.specs.declared.command.Command.the-variants.{Slice, Release, Bad}
 use Rattle.player.specs.declared.turn.Turn.{Turn}
 use Rattle.lines.specs.Line.{releaseLine, sliceLine, badLine, lineText}
 pub mod Properties
 
--- the bytes that a slice is lent for its row: as many as a plan can have cards
+-- the bytes that a showing is lent for its row: as many as a plan can have cards
 abbrev pub rowRoom : ℕ
 rowRoom = 8
 
 -- "A release prints ..; a slice prints `t CLOCK:` with the clock before it and the row's bytes ..; Any other three bytes .. print `bad
 -- command`"
 unfoldable pub lineOf : State → Command → List ℕ
-lineOf s Slice = sliceLine (sliceOf s rowRoom .answer) (s .clock) (s .plan .cards) (rowByte s)
+lineOf s Slice = sliceLine (showAnswer s rowRoom) (s .clock) (s .plan .cards) (rowByte s)
 lineOf s (Release kind e) = releaseLine kind e (releaseOf s kind e .answer)
 lineOf s Bad = badLine
 
--- the state that the slice or the release hands back
+-- the state that the advance or the release hands back: "`play` and every other caller use the pair"
 unfoldable pub after : State → Command → State
-after s Slice = sliceOf s rowRoom .state
+after s Slice = advanceOf s .state
 after s (Release kind e) = releaseOf s kind e .state
 after s Bad = s
 

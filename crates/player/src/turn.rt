@@ -11,13 +11,13 @@ pub(crate) struct Turn {
     pub(crate) row: [u8; 8],
 }
 
-// Runs a slice: its line shows the row.
+// Shows the row of a slice and then runs it: its line has the row.
 pub(crate) fn slice(state: State) -> Turn
     ensures { λ r. ⌜ Turns state Command.Slice r ⌝ }
 {
     let mut row = [0u8; 8];
-    let run = state.slice(&mut row);
-    let answer = run.answer;
+    let answer = state.show(&mut row);
+    let run = state.advance();
     let after = run.state;
     let plan = state.plan;
     Turn {

@@ -1,15 +1,16 @@
--- Document 01, "Slice", and the refusal 11: the state that follows.
+-- Document 01, "Slice", and the refusal 11: the state that follows. Document 02 (iv): "the other advances with no buffer".
 -- Assumes nothing.
 use Prim.Native.Nat.{ℕ, _+_, _-_, _<_}
 use mathlib.Core.Bool.{cond}
 use lib.Dec.{eqb}
 use Rattle.laws.specs.Written.{written}
 use Rattle.answer.specs.declared.Answer.{Answer}
-use Rattle.answer.specs.Answer.{bare, refuse}
+use Rattle.answer.specs.Answer.{bare, refuse, _andThen_}
 use Rattle.unit.specs.declared.Unit.{Unit}
 use Rattle.rack.specs.declared.State.{State}
-use Rattle.rack.specs.State.{lastClock, unitOf, kindPlaces}
-use Rattle.rack.specs.Form.{Ready}
+use Rattle.rack.specs.declared.Next.{Next}
+use Rattle.rack.specs.State.{lastClock, unitOf, kindPlaces, nextOf}
+use Rattle.rack.specs.Form.{Ready, ready}
 use Rattle.rack.specs.Rank.{served}
 pub mod Properties
 
@@ -24,6 +25,16 @@ advanced s = record { plan = s .plan; clock = s .clock + 1; unit = written (kind
 -- "11: clock is 1,000,000,000"
 unfoldable pub timeLeft : State → Answer
 timeLeft s = refuse (eqb (s .clock) lastClock) (bare 11)
+
+-- "advancing drops 9": the record order, 10, 11
+unfoldable pub advanceAnswer : State → Answer
+advanceAnswer s = ready s andThen timeLeft s
+
+-- what advancing answers and hands back
+unfoldable pub advanceOf : State → Next
+advanceOf s = nextOf (advanceAnswer s) (advanced s) s
+
+-- ---- what a good answer says
 
 -- what advancing needs: none of the record order, 10 and 11
 pub record Advanceable (s : State) : Type 0 where

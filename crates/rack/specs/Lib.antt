@@ -1,4 +1,4 @@
--- The dispatcher: document 01, "Running", and the refusals 8 to 15. Seat says how a slice finds its row.
+-- The dispatcher: document 01, "Running", and the refusals 8 to 15. Seat says how a row is found.
 -- Assumes nothing.
 pub mod State
 pub mod Form
@@ -7,6 +7,7 @@ pub mod Rank
 pub mod Row
 pub mod Release
 pub mod Advance
+pub mod Show
 pub mod Slice
 pub mod Start
 pub mod Alike

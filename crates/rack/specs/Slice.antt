@@ -1,23 +1,20 @@
--- Document 01, "Slice", and the refusal 9: the row that a state shows goes into a lent row, and the state that follows is handed back.
+-- Document 01, "Slice", in one call: the row that a state shows goes into a lent row, and the state that follows is handed back. No
+-- operation is this: it is what showing and then advancing is held to (document 02 (iv), "equals the old call").
 -- Assumes nothing.
-use Prim.Native.Nat.{ℕ, _≤_}
+use Prim.Native.Nat.{ℕ}
 use mathlib.Core.List.{List}
-use lib.Dec.{ltb}
 use lib.ListN.{length}
 use Rattle.answer.specs.declared.Answer.{Answer}
-use Rattle.answer.specs.Answer.{bare, refuse, _andThen_, ifGood}
+use Rattle.answer.specs.Answer.{_andThen_, ifGood}
 use Rattle.answer.specs.Outcome.{Leaves}
 use Rattle.rack.specs.declared.State.{State}
 use Rattle.rack.specs.declared.Next.{Next}
 use Rattle.rack.specs.State.{nextOf}
 use Rattle.rack.specs.Form.{ready}
 use Rattle.rack.specs.Row.{rowOver}
-use Rattle.rack.specs.Advance.{Advanceable, advanced, timeLeft}
+use Rattle.rack.specs.Advance.{advanced, timeLeft}
+use Rattle.rack.specs.Show.{roomFor}
 pub mod Properties
-
--- "9: buffer shorter than needed", for a lent row of that many bytes
-unfoldable pub roomFor : State → ℕ → Answer
-roomFor s room = refuse (ltb room (s .plan .cards)) (bare 9)
 
 -- "Slice: the record order, 10, 9, 11"
 unfoldable pub sliceAnswer : State → ℕ → Answer
@@ -34,10 +31,3 @@ bufferAfter s bytes = ifGood (sliceAnswer s (length bytes)) (rowOver s bytes) by
 -- a slice's whole outcome: what it hands back, and the lent row as it leaves it
 abbrev pub Sliced : State → List ℕ → Next → List ℕ → Type 0
 Sliced s bytes next after = Leaves (sliceOf s (length bytes)) (bufferAfter s bytes) next after
-
--- ---- what a good answer says
-
--- none of the record order, 10, 9 and 11: what advancing needs, and the room of a row
-pub record Sliceable (s : State) (room : ℕ) : Type 0 where
-  pub advance : Advanceable s
-  pub enough : s .plan .cards ≤ room

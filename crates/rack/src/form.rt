@@ -1,4 +1,4 @@
-// Whether a state is in form, and the tests that releases and slices share: the record order, 10.
+// Whether a state is in form, and the tests that every call on a state shares: the record order, 10.
 ghost use mathlib.Core.Path.{_≡_};
 ghost use Rattle.rack.specs.Form.{inForm, ready};
 use crate::State;

@@ -7,7 +7,7 @@ mod advance;
 mod form;
 mod release;
 mod row;
-mod slice;
+mod show;
 
 ghost use mathlib.Core.Path.{_≡_};
 ghost use Rattle.rack.specs.State.{freshOf, noState, kindPlaces, used};

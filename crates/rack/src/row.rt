@@ -4,8 +4,8 @@
 // kind has its seat: the card that it takes, plus 1, or 0 where it is not served. The row and the
 // state that follows both go by the seats.
 //
-// Of n kinds, a of them with slices left, on m cards for p projects, that is a·n steps for the
-// ranks and 3n + p + m for the rest.
+// Of n kinds, a of them with slices left, on m cards for p projects, that is at most a·n / 2 steps
+// for the ranks and 4n + p + m for the rest.
 ghost use mathlib.Core.Path.{_≡_};
 ghost use Prim.Native.Nat.{ℕ, _+_, _≤_, _<_};
 ghost use lib.ListN.{length};

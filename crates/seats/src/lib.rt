@@ -3,12 +3,12 @@
 // Document 01, "Running". What a kind works for, when it is due and where each project's cards
 // begin and end come as arrays, so that nothing is found twice. Every array is answered.
 //
-// Of n kinds, a of them with slices left, that is a·n steps for the ranks and n for the rest.
+// Every two kinds are compared once: of n kinds, a of them with slices left, that is at most a·n / 2
+// steps for the ranks and 2n for the rest.
 ghost use mathlib.Core.Path.{_≡_};
-ghost use mathlib.Core.Bool.{_&&_, _||_};
-ghost use Prim.Native.Nat.{_≤_, _<_};
-ghost use lib.Dec.{ltb, eqb};
-ghost use Rattle.seats.specs.Seats.{rankBy, seatAt, seatBy, seatsBy};
+ghost use Prim.Native.Nat.{_+_, _≤_, _<_};
+ghost use Rattle.seats.specs.Seats.{at, seatAt, seatOn, seatsBy};
+ghost use Rattle.seats.specs.Ranks.{ranksTo};
 
 // The most kinds and the most projects that a plan has.
 const KINDS: usize = 16;
@@ -21,31 +21,41 @@ fn wide(x: u8) -> u16
     x as u16
 }
 
-// Whether kind k, due then, goes before kind i.
-fn outranks(due: u32, k: usize, than: u32, i: usize) -> bool
-    ensures { λ r. ⌜ r ≡ (ltb due than || (eqb due than && ltb k i)) ⌝ }
-{
-    due < than || (due == than && k < i)
-}
-
-// How many kinds of the same project outrank kind i.
-fn rank(works: &[u8; KINDS], due: &[u32; KINDS], kinds: usize, i: usize) -> u8
-    requires { ⌜ (kinds ≤ 16) × (i < kinds) ⌝ }
-    ensures { λ r. ⌜ r ≡ rankBy (now (works .entry)) (now (due .entry)) kinds i ⌝ }
+// The ranks of the kinds before kind i, which has slices left, and then of kind i too: it is
+// compared with each of them, and the one that goes second has one more before it.
+fn compared(works: &[u8; KINDS], due: &[u32; KINDS], i: usize, ranks: &mut [u8])
+    requires { ⌜ (i < 16) × (at (now works) i ≡ 0 → ⊥) × (now ranks ≡ ranksTo (now works) (now due) i) ⌝ }
+    ensures { λ _. ⌜ now (ranks .exit) ≡ ranksTo (now (works .entry)) (now (due .entry)) (i + 1) ⌝ }
 {
     let project = works[i];
     let than = due[i];
     let mut rank: u8 = 0;
-    for k in 0..kinds {
+    for k in 0..i {
         if works[k] != project {
             continue;
         }
-        if !outranks(due[k], k, than, i) {
+        if due[k] <= than {
+            rank += 1;
             continue;
         }
-        rank += 1;
+        ranks[k] += 1;
     }
-    rank
+    ranks[i] = rank;
+}
+
+// How many kinds of the same project outrank each kind with slices left.
+fn ranks(works: &[u8; KINDS], due: &[u32; KINDS], kinds: usize) -> [u8; KINDS]
+    requires { ⌜ kinds ≤ 16 ⌝ }
+    ensures { λ r. ⌜ r ≡ ranksTo (now (works .entry)) (now (due .entry)) kinds ⌝ }
+{
+    let mut ranks = [0u8; KINDS];
+    for i in 0..kinds {
+        if works[i] == 0 {
+            continue;
+        }
+        compared(works, due, i, &mut ranks);
+    }
+    ranks
 }
 
 // A card below the end of a project's, plus 1; else 0.
@@ -58,19 +68,11 @@ fn seat_at(card: u16, end: u8) -> u8
     0
 }
 
-// Where kind i sits.
-fn seat(
-    works: &[u8; KINDS],
-    due: &[u32; KINDS],
-    low: &[u8; PROJECTS],
-    end: &[u8; PROJECTS],
-    kinds: usize,
-    i: usize,
-) -> u8
-    requires { ⌜ (kinds ≤ 16) × (i < kinds) ⌝ }
-    ensures { λ r. ⌜ r ≡ seatBy (now (works .entry)) (now (due .entry)) (now (low .entry)) (now (end .entry)) kinds i ⌝ }
+// Where a kind sits that works for a project and has so many before it.
+fn seat(works: u8, rank: u8, low: &[u8; PROJECTS], end: &[u8; PROJECTS]) -> u8
+    ensures { λ r. ⌜ r ≡ seatOn works rank (now (low .entry)) (now (end .entry)) ⌝ }
 {
-    let number = wide(works[i]) as usize;
+    let number = wide(works) as usize;
     if number == 0 {
         return 0;
     }
@@ -78,7 +80,7 @@ fn seat(
         return 0;
     }
     let project = number - 1;
-    let card = wide(low[project]) + wide(rank(works, due, kinds, i));
+    let card = wide(low[project]) + wide(rank);
     seat_at(card, end[project])
 }
 
@@ -98,8 +100,9 @@ pub fn seats(
     if KINDS < kinds {
         return seats;
     }
+    let ranks = ranks(works, due, kinds);
     for i in 0..kinds {
-        seats[i] = seat(works, due, low, end, kinds, i);
+        seats[i] = seat(works[i], ranks[i], low, end);
     }
     seats
 }

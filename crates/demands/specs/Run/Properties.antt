@@ -1,4 +1,4 @@
--- Laws of a run: it is its accepted calls, one after the other, and the rows that it writes are those that its states show.
+-- Laws of a run: it is its accepted advances and releases, one after the other, and the rows are those that its states show.
 -- Assumes nothing.
 use mathlib.Core.Path.{_≡_, refl, sym, ap, _∙_}
 use mathlib.Core.List.{List, [], _∷_}
@@ -14,27 +14,26 @@ use Rattle.rack.specs.Form.{Ready}
 use Rattle.rack.specs.View.{cardsHeld}
 use Rattle.rack.specs.Rank.{viewOf}
 use Rattle.rack.specs.Rank.Properties.{view-held}
-use Rattle.rack.specs.Row.{rowByte, rowOf}
-use Rattle.rack.specs.Row.Properties.{row-size, row-shows, over-take}
+use Rattle.rack.specs.Row.{rowByte}
+use Rattle.rack.specs.Row.Properties.{row-size, row-shows}
 use Rattle.rack.specs.Release.{released, releaseAnswer}
-use Rattle.rack.specs.Advance.{advanced}
-use Rattle.rack.specs.Slice.{sliceAnswer, bufferAfter}
-use Rattle.rack.specs.Slice.Properties.{slice-says}
+use Rattle.rack.specs.Advance.{advanced, advanceAnswer}
+use Rattle.rack.specs.Advance.Properties.{advance-says}
 use Rattle.demands.specs.Shown.Along.{along-shown}
 use Rattle.demands.specs.View.{cardsFrom}
 use Rattle.demands.specs.View.Properties.{cards-now, cards-later, cards-kept}
-use Rattle.demands.specs.Run.{Call, runFrom, Accepted, accepted, rowWritten, slicesOf}
+use Rattle.demands.specs.Run.{Call, runFrom, Accepted, accepted, slicesOf}
 
--- ---- the calls that are accepted: refusals change nothing
+-- ---- the calls that are accepted: showings and refusals change nothing
 
--- a claim on a run: the state that it starts from, its accepted slices, and the state that it leads to
+-- a claim on a run: the state that it starts from, its accepted advances, and the state that it leads to
 abbrev pub Claim : Type 1
 Claim = State → List Accepted → State → Type 0
 
--- it stays with an accepted slice before
+-- it stays with an accepted advance before
 abbrev pub WithSlice : Claim → Type 0
-WithSlice P = (s end : State) (bytes : List ℕ) (slices : List Accepted) → sliceAnswer s (length bytes) ≡ Good →
-    P (advanced s) slices end → P s (accepted s bytes ∷ slices) end
+WithSlice P = (s end : State) (slices : List Accepted) → advanceAnswer s ≡ Good →
+    P (advanced s) slices end → P s (accepted s ∷ slices) end
 
 -- and with an accepted release before
 abbrev pub WithRelease : Claim → Type 0
@@ -46,37 +45,25 @@ module _ (P : Claim) (none : (s : State) → P s [] s) (with-slice : WithSlice P
   pub along : (calls : List Call) (s : State) → P s (slicesOf s calls) (runFrom s calls)
   along =
       along-shown (λ s events slices end. P s slices end) none
-      (λ s end bytes events slices. with-slice s end bytes slices) (λ s end i e events slices. with-release s end i e slices)
+      (λ s end events slices. with-slice s end slices) (λ s end i e events slices. with-release s end i e slices)
 
 -- ---- how far it gets
 
--- a slice moves the clock by one, and nothing else does
+-- an advance moves the clock by one, and nothing else does
 pub run-clock : (calls : List Call) (s : State) → runFrom s calls .clock ≡ s .clock + length (slicesOf s calls)
 unfolding advanced released
-run-clock = along Counts (λ s. omega arith) (λ s end bytes slices g h. omega arith) (λ s end i e slices g h. h)
+run-clock = along Counts (λ s. omega arith) (λ s end slices g h. omega arith) (λ s end i e slices g h. h)
   where
     Counts : Claim
     Counts s slices end = end .clock ≡ s .clock + length slices
 
 pub run-plan : (calls : List Call) (s : State) → runFrom s calls .plan ≡ s .plan
 unfolding advanced released
-run-plan = along (λ s slices end. end .plan ≡ s .plan) (λ s. refl) (λ s end bytes slices g h. h) (λ s end i e slices g h. h)
+run-plan = along (λ s slices end. end .plan ≡ s .plan) (λ s. refl) (λ s end slices g h. h) (λ s end i e slices g h. h)
 
--- ---- the rows written
+-- ---- the rows
 
--- the row of an accepted slice is what its state shows, card by card
-module _ (s : State) (bytes : List ℕ) (good : sliceAnswer s (length bytes) ≡ Good) where
-  row-is : rowWritten s bytes ≡ rowOf s
-  unfolding bufferAfter
-  row-is = rw good (over-take s bytes)
-
-  pub row-length : length (rowWritten s bytes) ≡ s .plan .cards
-  row-length = ap length row-is ∙ row-size s
-
-  pub row-at : (card : ℕ) → card < s .plan .cards → getD (rowWritten s bytes) card 0 ≡ rowByte s card
-  row-at card l = ap (λ (row : List ℕ). getD row card 0) row-is ∙ row-shows s card l
-
--- an accepted slice on a plan, at which each project holds so many cards
+-- an accepted advance on a plan, at which each project holds so many cards
 pub record At (p : Plan) (holds : ℕ → ℕ) (w : Accepted) : Type 0 where
   pub plan : w .before .plan ≡ p
   pub cards : (j : ℕ) → cardsHeld (viewOf (w .before) j) ≡ holds j
@@ -84,13 +71,13 @@ pub record At (p : Plan) (holds : ℕ → ℕ) (w : Accepted) : Type 0 where
   pub size : length (w .row) ≡ w .before .plan .cards
   pub shows : (card : ℕ) → card < w .before .plan .cards → getD (w .row) card 0 ≡ rowByte (w .before) card
 
-pub now-at : (s : State) (bytes : List ℕ) → sliceAnswer s (length bytes) ≡ Good → At (s .plan) (λ j. cardsFrom s j 0) (accepted s bytes)
-now-at s bytes g = record {
+pub now-at : (s : State) → advanceAnswer s ≡ Good → At (s .plan) (λ j. cardsFrom s j 0) (accepted s)
+now-at s g = record {
   plan = refl;
   cards = λ j. sym (cards-now s j);
-  ready = slice-says s (length bytes) g .advance .ready;
-  size = row-length s bytes g;
-  shows = row-at s bytes g;
+  ready = advance-says s g .ready;
+  size = row-size s;
+  shows = row-shows s;
 }
 
 -- as the layout counts them
@@ -102,7 +89,7 @@ at-held {w = w} a j l =
 same-cards : {p : Plan} {f g : ℕ → ℕ} {w : Accepted} → ((j : ℕ) → f j ≡ g j) → At p f w → At p g w
 same-cards e a = record { plan = a .plan; cards = λ j. a .cards j ∙ e j; ready = a .ready; size = a .size; shows = a .shows }
 
--- the accepted slices of a run are one after the other, on one plan: at each, a project holds the cards that it was to hold then
+-- the accepted advances of a run are one after the other, on one plan: at each, a project holds the cards that it was to hold then
 pub slices-at : (none : Accepted) (calls : List Call) (s : State) (x : ℕ) → x < length (slicesOf s calls) →
     At (s .plan) (λ j. cardsFrom s j x) (getD (slicesOf s calls) x none)
 unfolding advanced released
@@ -112,8 +99,8 @@ slices-at none = along Each (λ s x l. absurd (omega arith)) first same
     Each s slices end = (x : ℕ) → x < length slices → At (s .plan) (λ j. cardsFrom s j x) (getD slices x none)
 
     first : WithSlice Each
-    first s end bytes slices g h zero l = now-at s bytes g
-    first s end bytes slices g h (suc x) l = same-cards (λ j. cards-later s j x ∙ ap (cardsFrom s j) (one-add x)) (h x (omega arith))
+    first s end slices g h zero l = now-at s g
+    first s end slices g h (suc x) l = same-cards (λ j. cards-later s j x ∙ ap (cardsFrom s j) (one-add x)) (h x (omega arith))
 
     same : WithRelease Each
     same s end i e slices g h x l = same-cards (λ j. cards-kept s j i e x) (h x l)

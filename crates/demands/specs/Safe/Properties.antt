@@ -23,8 +23,7 @@ use Rattle.rack.specs.Start.Properties.{start-good, fresh-form, fresh-places}
 use Rattle.rack.specs.Release.{released, releaseAnswer}
 use Rattle.rack.specs.Release.Properties.{release-says, release-form, release-places}
 use Rattle.rack.specs.Advance.{Advanceable, advanced}
-use Rattle.rack.specs.Advance.Properties.{advance-places, advance-form}
-use Rattle.rack.specs.Slice.Properties.{slice-says}
+use Rattle.rack.specs.Advance.Properties.{advance-says, advance-places, advance-form}
 use Rattle.analysis.specs.Setup.{Own}
 use Rattle.analysis.specs.Moment.{Idle}
 use Rattle.analysis.specs.Reached.{idle, slice, release}
@@ -110,7 +109,7 @@ release-safe s safe k e good =
 pub run-safe : (calls : List Call) (s : State) → Safe s → Safe (runFrom s calls)
 run-safe =
     along Keeps (λ s h. h)
-    (λ s end bytes slices g h t. h (advance-safe s t (slice-says s (length bytes) g .advance)))
+    (λ s end slices g h t. h (advance-safe s t (advance-says s g)))
     (λ s end i e slices g h t. h (release-safe s t i e g))
   where
     Keeps : Claim

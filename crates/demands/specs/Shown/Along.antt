@@ -3,26 +3,25 @@
 use mathlib.Core.Path.{_≡_, refl}
 use mathlib.Core.List.{List, [], _∷_}
 use Prim.Native.Nat.{ℕ}
-use lib.ListN.{length}
 use Rattle.answer.specs.declared.Answer.{Answer}
 use Rattle.answer.specs.declared.Answer.the-variants.{Good, No}
 use Rattle.rack.specs.declared.State.{State}
 use Rattle.rack.specs.Release.{released, releaseAnswer, releaseOf}
-use Rattle.rack.specs.Advance.{advanced}
-use Rattle.rack.specs.Slice.{sliceAnswer, sliceOf}
-use Rattle.demands.specs.Run.{Call, slice, release, runFrom, Accepted, accepted, rowWritten, acceptedIn, slicesOf}
-use Rattle.demands.specs.Shown.{Event, started, wrote, shownBy, shown}
+use Rattle.rack.specs.Row.{rowOf}
+use Rattle.rack.specs.Advance.{advanced, advanceAnswer, advanceOf}
+use Rattle.demands.specs.Run.{Call, show, advance, release, runFrom, Accepted, accepted, acceptedIn, slicesOf}
+use Rattle.demands.specs.Shown.{Event, started, ran, shownBy, shown}
 
--- ---- the calls that show something: refusals show nothing and change nothing
+-- ---- the calls that show something: showings and refusals change nothing
 
--- a claim on what a run shows: the state that it starts from, its events, its accepted slices, and the state that it leads to
+-- a claim on what a run shows: the state that it starts from, its events, its accepted advances, and the state that it leads to
 abbrev pub Claim : Type 1
 Claim = State → List Event → List Accepted → State → Type 0
 
--- it stays with an accepted slice before
+-- it stays with an accepted advance before
 abbrev pub WithSlice : Claim → Type 0
-WithSlice P = (s end : State) (bytes : List ℕ) (events : List Event) (slices : List Accepted) → sliceAnswer s (length bytes) ≡ Good →
-    P (advanced s) events slices end → P s (wrote (rowWritten s bytes) ∷ events) (accepted s bytes ∷ slices) end
+WithSlice P = (s end : State) (events : List Event) (slices : List Accepted) → advanceAnswer s ≡ Good →
+    P (advanced s) events slices end → P s (ran (rowOf s) ∷ events) (accepted s ∷ slices) end
 
 -- and with an accepted release before
 abbrev pub WithRelease : Claim → Type 0
@@ -35,14 +34,15 @@ module _ (P : Claim) (nothing : (s : State) → P s [] [] s) (with-slice : WithS
 
   -- then it holds of every run
   pub along-shown : (calls : List Call) (s : State) → Of calls s
-  unfolding shown shownBy slicesOf runFrom acceptedIn sliceOf releaseOf
+  unfolding shown shownBy slicesOf runFrom acceptedIn advanceOf releaseOf
   along-shown [] s = nothing s
-  along-shown (slice bytes ∷ calls) s = go (sliceAnswer s (length bytes)) refl (along-shown calls (advanced s)) (along-shown calls s)
+  along-shown (show bytes ∷ calls) s = along-shown calls s
+  along-shown (advance ∷ calls) s = go (advanceAnswer s) refl (along-shown calls (advanced s)) (along-shown calls s)
     where
-      go : (a : Answer) → sliceAnswer s (length bytes) ≡ a → Of calls (advanced s) → Of calls s → Of (slice bytes ∷ calls) s
+      go : (a : Answer) → advanceAnswer s ≡ a → Of calls (advanced s) → Of calls s → Of (advance ∷ calls) s
       go Good e p q =
           let next = advanced s in
-          rw e (with-slice s (runFrom next calls) bytes (shown next calls) (slicesOf next calls) e p)
+          rw e (with-slice s (runFrom next calls) (shown next calls) (slicesOf next calls) e p)
       go (No r) e p q = rw e q
   along-shown (release i e ∷ calls) s = go (releaseAnswer s i e) refl (along-shown calls (released s i e)) (along-shown calls s)
     where

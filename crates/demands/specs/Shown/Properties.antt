@@ -15,17 +15,16 @@ use Rattle.rack.specs.State.{unitOf, InUse}
 use Rattle.rack.specs.Rank.{gone}
 use Rattle.rack.specs.Release.{Releasable, released, releaseAnswer}
 use Rattle.rack.specs.Release.Properties.{release-says, release-unit, release-others}
-use Rattle.rack.specs.Advance.{Advanceable, unitAfter, advanced}
-use Rattle.rack.specs.Advance.Properties.{unit-after}
-use Rattle.rack.specs.Slice.{sliceAnswer}
-use Rattle.rack.specs.Slice.Properties.{slice-says}
-use Rattle.demands.specs.Run.{Call, runFrom, noSlice, rowWritten, slicesOf}
+use Rattle.rack.specs.Row.{rowOf}
+use Rattle.rack.specs.Advance.{Advanceable, unitAfter, advanced, advanceAnswer}
+use Rattle.rack.specs.Advance.Properties.{advance-says, unit-after}
+use Rattle.demands.specs.Run.{Call, runFrom, noSlice, slicesOf}
 use Rattle.demands.specs.Named.{namesKind, bytesNaming}
 use Rattle.demands.specs.View.Steps.{sliced-released}
 use Rattle.demands.specs.Served.{named-falls}
 use Rattle.demands.specs.Safe.{Safe}
 use Rattle.demands.specs.Safe.Properties.{advance-safe, release-safe}
-use Rattle.demands.specs.Shown.{started, wrote, shown, upTo}
+use Rattle.demands.specs.Shown.{started, ran, shown, upTo}
 use Rattle.demands.specs.Shown.Along.{Claim, WithSlice, WithRelease, along-shown}
 use Rattle.demands.specs.Shown.{Last, none, unit, lastAfter, lastFrom, leftOf, restarted}
 
@@ -39,8 +38,8 @@ clock-before = along-shown Rises (λ s x l. absurd (omega arith)) with-slice (λ
     Rises s events slices end = (x : ℕ) → x < length slices → getD slices x noSlice .before .clock ≡ s .clock + x
 
     with-slice : WithSlice Rises
-    with-slice s end bytes events slices g f zero l = omega arith
-    with-slice s end bytes events slices g f (suc x) l = omega (arith, f x (omega arith))
+    with-slice s end events slices g f zero l = omega arith
+    with-slice s end events slices g f (suc x) l = omega (arith, f x (omega arith))
 
 -- ---- a kind along a run
 
@@ -59,9 +58,9 @@ moved-le true from to h = omega arith
 moved-le false from to h = omega arith
 
 module _ (i : ℕ) where
-  its-slice : (s : State) (room : ℕ) → sliceAnswer s room ≡ Good → Its i s → Its i (advanced s)
+  its-slice : (s : State) → advanceAnswer s ≡ Good → Its i s → Its i (advanced s)
   unfolding advanced
-  its-slice s room good t = record { safe = advance-safe s (t .safe) (slice-says s room good .advance); its-kind = t .its-kind }
+  its-slice s good t = record { safe = advance-safe s (t .safe) (advance-says s good); its-kind = t .its-kind }
 
   its-release : (s : State) (k e : ℕ) → releaseAnswer s k e ≡ Good → Its i s → Its i (released s k e)
   unfolding released
@@ -77,10 +76,10 @@ module _ (i : ℕ) where
   abbrev Tells : State → Last → Type 0
   Tells s last = unitOf s i .left ≡ leftOf last
 
-  left-slice : (s : State) (bytes : List ℕ) (last : Last) → sliceAnswer s (length bytes) ≡ Good → Its i s → Tells s last →
-      Tells (advanced s) (lastAfter i last (wrote (rowWritten s bytes)))
-  left-slice s bytes none good t h = omega (arith, named-falls s (t .safe) bytes good i (t .its-kind))
-  left-slice s bytes (unit e named) good t h = omega (arith, named-falls s (t .safe) bytes good i (t .its-kind))
+  left-slice : (s : State) (last : Last) → advanceAnswer s ≡ Good → Its i s → Tells s last →
+      Tells (advanced s) (lastAfter i last (ran (rowOf s)))
+  left-slice s none good t h = omega (arith, named-falls s (t .safe) good i (t .its-kind))
+  left-slice s (unit e named) good t h = omega (arith, named-falls s (t .safe) good i (t .its-kind))
 
   left-release : (s : State) (k e : ℕ) (last : Last) → releaseAnswer s k e ≡ Good → Its i s → Tells s last →
       Tells (released s k e) (lastAfter i last (started k e))
@@ -102,8 +101,8 @@ module _ (i : ℕ) where
       Ends s events slices end = Its i s → (last : Last) → Tells s last → Tells end (lastFrom i last events)
 
       with-slice : WithSlice Ends
-      with-slice s end bytes events slices g f t last h =
-          f (its-slice s (length bytes) g t) (lastAfter i last (wrote (rowWritten s bytes))) (left-slice s bytes last g t h)
+      with-slice s end events slices g f t last h =
+          f (its-slice s g t) (lastAfter i last (ran (rowOf s))) (left-slice s last g t h)
 
       with-release : WithRelease Ends
       with-release s end k e events slices g f t last h =
@@ -119,9 +118,9 @@ module _ (i : ℕ) where
   left-before = along-shown Before (λ s t last h x l. absurd (omega arith)) with-slice with-release
     where
       with-slice : WithSlice Before
-      with-slice s end bytes events slices g f t last h zero l = h
-      with-slice s end bytes events slices g f t last h (suc x) l =
-          f (its-slice s (length bytes) g t) (lastAfter i last (wrote (rowWritten s bytes))) (left-slice s bytes last g t h) x (omega arith)
+      with-slice s end events slices g f t last h zero l = h
+      with-slice s end events slices g f t last h (suc x) l =
+          f (its-slice s g t) (lastAfter i last (ran (rowOf s))) (left-slice s last g t h) x (omega arith)
 
       with-release : WithRelease Before
       with-release s end k e events slices g f t last h x l =
@@ -139,8 +138,8 @@ module _ (i : ℕ) where
   left-falls = along-shown Falls (λ s t h. omega arith) with-slice with-release
     where
       with-slice : WithSlice Falls
-      with-slice s end bytes events slices g f t h =
-          omega (arith, f (its-slice s (length bytes) g t) h, named-falls s (t .safe) bytes g i (t .its-kind))
+      with-slice s end events slices g f t h =
+          omega (arith, f (its-slice s g t) h, named-falls s (t .safe) g i (t .its-kind))
 
       with-release : WithRelease Falls
       with-release s end k e events slices g f t h =
@@ -160,10 +159,10 @@ module _ (i : ℕ) where
 
   moves-slice : WithSlice Moves
   unfolding restarted
-  moves-slice s end bytes events slices g f t r =
-      let may = slice-says s (length bytes) g .advance in
+  moves-slice s end events slices g f t r =
+      let may = advance-says s g in
       let still = sliced-released s may (t .safe .places) i (t .its-kind) in
-      rw (same-clock s may t) at (f (its-slice s (length bytes) g t) (still ∙ r))
+      rw (same-clock s may t) at (f (its-slice s g t) (still ∙ r))
 
   moves-release : WithRelease Moves
   unfolding restarted gone

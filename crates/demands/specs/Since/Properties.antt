@@ -8,7 +8,6 @@ use Prim.Native.Nat.{ℕ, _+_}
 use native.Mathlib.Decide.{ℕ-discrete}
 use native.Mathlib.Omega.{arith}
 use lib.Dec.{eqb}
-use lib.ListN.{length}
 use borrow.Author.Tests.{eq-eqb, ne-eqb}
 use Rattle.answer.specs.declared.Answer.{Answer}
 use Rattle.answer.specs.declared.Answer.the-variants.{Good, No}
@@ -20,10 +19,9 @@ use Rattle.rack.specs.Rank.{gone}
 use Rattle.unit.specs.Start.{early}
 use Rattle.rack.specs.Release.{releaseAnswer, released, releaseOf, Releasable}
 use Rattle.rack.specs.Release.Properties.{release-says, release-unit, release-others}
-use Rattle.rack.specs.Advance.{advanced}
-use Rattle.rack.specs.Slice.{sliceAnswer, sliceOf}
-use Rattle.rack.specs.Slice.Properties.{slice-says}
-use Rattle.demands.specs.Run.{Call, slice, release, nextAfter, runFrom}
+use Rattle.rack.specs.Advance.{advanced, advanceAnswer, advanceOf}
+use Rattle.rack.specs.Advance.Properties.{advance-says}
+use Rattle.demands.specs.Run.{Call, show, advance, release, nextAfter, runFrom}
 use Rattle.demands.specs.View.Steps.{sliced-released, sliced-gone, new-gone, kept-gone}
 use Rattle.demands.specs.Safe.{Safe}
 use Rattle.demands.specs.Safe.Properties.{advance-safe, release-safe}
@@ -64,10 +62,10 @@ pub record Told (i : ℕ) (s : State) (since : Since) : Type 0 where
   pub tells : Tells s i since
 
 module _ (i : ℕ) where
-  told-slice : (s : State) (since : Since) (room : ℕ) → Told i s since → sliceAnswer s room ≡ Good → Told i (advanced s) (later since)
+  told-slice : (s : State) (since : Since) → Told i s since → advanceAnswer s ≡ Good → Told i (advanced s) (later since)
   unfolding advanced
-  told-slice s since room t good =
-      let may = slice-says s room good .advance in
+  told-slice s since t good =
+      let may = advance-says s good in
       record {
         safe = advance-safe s (t .safe) may;
         its-kind = t .its-kind;
@@ -98,9 +96,9 @@ module _ (i : ℕ) where
           (kept-gone s k e may (t .safe .places) i d) (t .tells)
 
   told-call : (s : State) (since : Since) (call : Call) → Told i s since → Told i (nextAfter s call .state) (sinceCall i s since call)
-  unfolding sliceOf releaseOf sinceCall
-  told-call s since (slice bytes) t =
-      chosen (Told i) (sliceAnswer s (length bytes)) (advanced s) s (later since) since (told-slice s since (length bytes) t) t
+  unfolding advanceOf releaseOf sinceCall
+  told-call s since (show bytes) t = t
+  told-call s since advance t = chosen (Told i) (advanceAnswer s) (advanced s) s (later since) since (told-slice s since t) t
   told-call s since (release k e) t =
       chosen (Told i) (releaseAnswer s k e) (released s k e) s (cond (eqb k i) (ago 0) since) since (told-release s since k e t) t
 

@@ -14,7 +14,7 @@ use Rattle.laws.specs.All.{allTo}
 use Rattle.laws.specs.Written.{written}
 use Rattle.laws.specs.Ranking.{rankIn, firstIn, sooner}
 use Rattle.answer.specs.declared.Answer.the-variants.{Good}
-use Rattle.answer.specs.Answer.{number, place, excess, eachTo}
+use Rattle.answer.specs.Answer.{bare, number, place, excess, eachTo}
 use Rattle.answer.specs.Numbers.{among, placed}
 use Rattle.plan.specs.declared.Plan.{Plan}
 use Rattle.plan.specs.Example.{kind, likeA, planA, planB, bytesA}
@@ -43,16 +43,17 @@ use Rattle.unit.specs.Unit.{noUnit}
 use Rattle.unit.specs.Form.{untouched, underway, unitInForm, emptyUnit}
 use Rattle.unit.specs.Start.{early, startable}
 use Rattle.rack.specs.declared.State.{State}
-use Rattle.rack.specs.State.{freshOf, unitOf}
+use Rattle.rack.specs.State.{lastClock, freshOf, unitOf}
 use Rattle.rack.specs.Form.{inForm, ready}
 use Rattle.rack.specs.View.{hasCard, cardsHeld, rankOf, chosen, takesCard, byteOn}
 use Rattle.rack.specs.Rank.{gone, due, working, active, activeKinds, outranks, viewOf, rank, served}
 use Rattle.rack.specs.Row.{holds, takes, byteBy, rowByte, rowOf, rowOver}
 use Rattle.rack.specs.Start.{startAnswer, startOf}
 use Rattle.rack.specs.Release.{releaseAnswer, released, releaseOf}
-use Rattle.rack.specs.Advance.{unitAfter, advanced, timeLeft}
-use Rattle.rack.specs.Slice.{roomFor, sliceAnswer, sliceOf, bufferAfter, Sliced}
-use Rattle.demands.specs.Run.{Call, slice, release, runFrom, after, Accepted, acceptedIn, slicesOf, noSlice}
+use Rattle.rack.specs.Advance.{unitAfter, advanced, timeLeft, advanceAnswer, advanceOf}
+use Rattle.rack.specs.Show.{roomFor, showAnswer, bufferShown, Shows}
+use Rattle.demands.specs.Run.{Call, show, advance, release, runFrom, after, Accepted, acceptedIn, slicesOf, noSlice}
+use Rattle.demands.specs.Run.{unshown, handedBack}
 use Rattle.demands.specs.Since.{never, ago, sinceCall, sinceFrom}
 use Rattle.demands.specs.Named.{namesKind, bytesIn}
 use Rattle.demands.specs.Sufficient.{enoughCards}
@@ -60,25 +61,29 @@ use Rattle.demands.specs.Shown.{shownBy, shown, upTo, lastFrom, restarte
 
 -- ---- the player's example: "Plan A, then releases (0,6) (1,2) (2,2), four slices, releases (1,2) (2,1)"
 
--- a lent row, and a slice with it
-abbrev pub row : List ℕ
-row = 0 ∷ 0 ∷ []
+-- a showing in a lent row, and an advance
+abbrev pub look : Call
+look = show (0 ∷ 0 ∷ [])
 
 abbrev pub tick : Call
-tick = slice row
+tick = advance
 
 abbrev pub releases : List Call
 releases = release 0 6 ∷ release 1 2 ∷ release 2 2 ∷ []
 
--- with one slice fewer than kind 1's separation, and with as many
+-- with one slice fewer than kind 1's separation, and with as many: one slice is shown, one is not, one is shown twice, and one in a
+-- row that is too short
 abbrev pub threeSlices : List Call
-threeSlices = release 0 6 ∷ release 1 2 ∷ release 2 2 ∷ tick ∷ tick ∷ tick ∷ []
+threeSlices = release 0 6 ∷ release 1 2 ∷ release 2 2 ∷ look ∷ tick ∷ tick ∷ look ∷ look ∷ tick ∷ []
 
 abbrev pub fourSlices : List Call
-fourSlices = release 0 6 ∷ release 1 2 ∷ release 2 2 ∷ tick ∷ tick ∷ tick ∷ tick ∷ []
+fourSlices = release 0 6 ∷ release 1 2 ∷ release 2 2 ∷ look ∷ tick ∷ tick ∷ look ∷ look ∷ tick ∷ show [] ∷ tick ∷ []
 
+-- two releases more, with a showing between them
 abbrev pub example : List Call
-example = release 0 6 ∷ release 1 2 ∷ release 2 2 ∷ tick ∷ tick ∷ tick ∷ tick ∷ release 1 2 ∷ release 2 1 ∷ []
+example =
+    release 0 6 ∷ release 1 2 ∷ release 2 2 ∷ look ∷ tick ∷ tick ∷ look ∷ look ∷ tick ∷ show [] ∷ tick ∷
+    release 1 2 ∷ look ∷ release 2 1 ∷ []
 
 -- the rows of the whole example: a full frame
 abbrev pub rows : List Accepted
@@ -89,7 +94,7 @@ abbrev pub earlier : List Call
 earlier = release 0 6 ∷ []
 
 abbrev pub later : List Call
-later = release 2 2 ∷ tick ∷ tick ∷ tick ∷ tick ∷ []
+later = look ∷ release 2 2 ∷ look ∷ tick ∷ tick ∷ tick ∷ tick ∷ []
 
 -- the state that its release leaves, and the rows from there
 abbrev pub begun : State
@@ -97,6 +102,10 @@ begun = releaseOf (after planA earlier) 1 2 .state
 
 abbrev pub fourRows : List Accepted
 fourRows = slicesOf begun later
+
+-- plan A with nothing released, at the clock's end
+abbrev pub ended : State
+ended = record { plan = planA; clock = lastClock; unit = replicate 16 noUnit }
 
 -- on the refused plan that runs well: a release beside another, and one slice
 abbrev pub oneSlice : List Accepted
@@ -115,13 +124,13 @@ pub record Running : Type 0 where
   -- four rows in the example, of which the first names kind 0 on card 0
   pub rows-long : length rows ≡ 4
   pub names-none : namesKind 0 (getD (getD rows 0 noSlice .row) 0 0) ≡ true
-  -- the first slice: it is accepted, kinds 0 and 1 take cards 0 and 1, and each has one slice less left
-  pub accepted : sliceOf (after planA releases) 2 .answer ≡ Good
+  -- the first advance: it is accepted, kinds 0 and 1 take cards 0 and 1, and each has one slice less left
+  pub accepted : advanceOf (after planA releases) .answer ≡ Good
   pub takes-none : takes (after planA releases) 0 0 ≡ true
   pub takes-one : takes (after planA releases) 1 1 ≡ true
   pub two-left : unitOf (after planA releases) 1 .left ≡ 2
-  pub less-none : unitOf (sliceOf (after planA releases) 2 .state) 0 .left < unitOf (after planA releases) 0 .left
-  pub less-one : unitOf (sliceOf (after planA releases) 2 .state) 1 .left < unitOf (after planA releases) 1 .left
+  pub less-none : unitOf (advanceOf (after planA releases) .state) 0 .left < unitOf (after planA releases) 0 .left
+  pub less-one : unitOf (advanceOf (after planA releases) .state) 1 .left < unitOf (after planA releases) 1 .left
   -- kind 2 is released, and its two slices are named in the third and the fourth row
   pub one-left : unitOf (after planA threeSlices) 2 .left ≡ 1
   -- project 0 has as many kinds with slices left as it holds cards, at each of the four slices
@@ -132,13 +141,25 @@ pub record Running : Type 0 where
   pub since-three : sinceFrom 1 (startOf planA .state) never threeSlices ≡ ago 3
   pub since-four : sinceFrom 1 (startOf planA .state) never fourSlices ≡ ago 4
   pub fits : within 2 2 ≡ true
-  -- a release at exactly its separation, one that is told 14, and slices with a byte too many and one too few
+  -- a release at exactly its separation, one that is told 14, showings with a byte too many and one too few, and the clock's end
   pub release-good : releaseOf (after planA fourSlices) 1 2 .answer ≡ Good
   pub release-early : number (releaseOf (after planA fourSlices) 2 1 .answer) ≡ 14
-  pub slices : Sliced (after planA releases) (7 ∷ 7 ∷ 7 ∷ []) (sliceOf (after planA releases) 3) (1 ∷ 2 ∷ 7 ∷ [])
-  pub slice-short : number (sliceOf (after planA releases) 1 .answer) ≡ 9
+  pub shows : Shows (after planA releases) (7 ∷ 7 ∷ 7 ∷ []) Good (1 ∷ 2 ∷ 7 ∷ [])
+  pub first-clock : after planA releases .clock ≡ 0
+  pub first-cards : after planA releases .plan .cards ≡ 2
+  pub advance-clock : advanceOf (after planA releases) .state .clock ≡ 1
+  pub advance-ended : number (advanceOf ended .answer) ≡ 11
   pub release-told : number (releaseAnswer (after planA fourSlices) 2 1) ≡ 14
-  pub slice-told : number (sliceAnswer (after planA releases) 1) ≡ 9
+  pub show-told : number (showAnswer (after planA releases) 1) ≡ 9
+  pub advance-told : number (advanceAnswer ended) ≡ 11
+  pub ended-short : Shows ended [] (bare 9) []
+  -- what was shown before kind 1's release, and after it
+  pub shown-first : Shows (after planA earlier) (7 ∷ 7 ∷ []) Good (1 ∷ 0 ∷ [])
+  pub shown-then : Shows begun (7 ∷ 7 ∷ []) Good (1 ∷ 2 ∷ [])
+  pub cards-first : after planA earlier .plan .cards ≡ 2
+  pub cards-then : begun .plan .cards ≡ 2
+  -- without its showings, the calls of the example are nine, of which the last is refused
+  pub unshown-nine : length (handedBack (startOf planA .state) (unshown example)) ≡ 9
   -- on the refused plan
   pub enough-good : releaseOf (runFrom (freshOf enoughCards) (release 0 1 ∷ [])) 1 1 .answer ≡ Good
   pub enough-rows : length oneSlice ≡ 1
@@ -149,8 +170,9 @@ unfolding sumTo leastTo firstTo countTo allTo written rankIn firstIn sooner each
     firstCell owns slotOf held window supply workloadPart fitsAt leastWidth greatestTo allowedLength leastExcess besides partOf
     workload widthOf excessOf fitted admitted untouched underway unitInForm emptyUnit early startable inForm ready gone due working
     active activeKinds outranks hasCard cardsHeld rankOf chosen takesCard byteOn viewOf rank served holds byteBy rowByte rowOf
-    rowOver startAnswer startOf releaseAnswer released releaseOf unitAfter advanced timeLeft roomFor sliceAnswer sliceOf bufferAfter
-    runFrom acceptedIn slicesOf sinceCall sinceFrom namesKind bytesIn shownBy shown upTo lastFrom restarted kindsLeft
+    rowOver startAnswer startOf releaseAnswer released releaseOf unitAfter advanced timeLeft advanceAnswer advanceOf roomFor
+    showAnswer bufferShown runFrom acceptedIn slicesOf unshown handedBack sinceCall sinceFrom namesKind bytesIn shownBy shown upTo
+    lastFrom restarted kindsLeft
 running = record {
   admitted-A = refl;
   kind-one = refl;
@@ -174,10 +196,20 @@ running = record {
   fits = refl;
   release-good = refl;
   release-early = refl;
-  slices = record { result = refl; buffer = refl };
-  slice-short = refl;
+  shows = record { result = refl; buffer = refl };
+  first-clock = refl;
+  first-cards = refl;
+  advance-clock = refl;
+  advance-ended = refl;
   release-told = refl;
-  slice-told = refl;
+  show-told = refl;
+  advance-told = refl;
+  ended-short = record { result = refl; buffer = refl };
+  shown-first = record { result = refl; buffer = refl };
+  shown-then = record { result = refl; buffer = refl };
+  cards-first = refl;
+  cards-then = refl;
+  unshown-nine = refl;
   enough-good = refl;
   enough-rows = refl;
 }

@@ -34,14 +34,13 @@ use Rattle.rack.specs.Rank.{gone, due, working, active, outranks, viewOf, rank,
 use Rattle.rack.specs.Row.{byteBy, rowByte, rowOf, rowOver}
 use Rattle.rack.specs.Start.{startAnswer, startOf}
 use Rattle.rack.specs.Release.{releaseAnswer, released, releaseOf}
-use Rattle.rack.specs.Advance.{unitAfter, advanced, timeLeft}
-use Rattle.rack.specs.Slice.{roomFor, sliceAnswer, sliceOf, bufferAfter}
+use Rattle.rack.specs.Advance.{unitAfter, advanced, timeLeft, advanceAnswer, advanceOf}
 use Rattle.demands.specs.Run.{Call, runFrom, after, Accepted, acceptedIn, slicesOf}
 use Rattle.demands.specs.Named.{namesKind, bytesNaming}
 use Rattle.demands.specs.Deadlines.{in-time, in-time-so-far}
 use Rattle.demands.specs.Uses.Figures.{tick, running}
 
--- three slices to the one at which project 0 holds no card, and then seven
+-- three advances to the one at which project 0 holds no card, and then seven
 abbrev three : List Call
 three = tick ∷ tick ∷ tick ∷ []
 
@@ -63,8 +62,7 @@ unfolding sumTo leastTo firstTo countTo allTo written rankIn firstIn sooner each
     firstCell owns slotOf held window supply workloadPart fitsAt leastWidth greatestTo allowedLength leastExcess besides partOf
     workload widthOf excessOf fitted admitted untouched underway unitInForm emptyUnit early startable inForm ready gone due working
     active outranks hasCard cardsHeld rankOf chosen takesCard byteOn viewOf rank served byteBy rowByte rowOf rowOver startAnswer
-    startOf releaseAnswer released releaseOf unitAfter advanced timeLeft roomFor sliceAnswer sliceOf bufferAfter runFrom acceptedIn
-    slicesOf
+    startOf releaseAnswer released releaseOf unitAfter advanced timeLeft advanceAnswer advanceOf runFrom acceptedIn slicesOf
 figures = record { accepted = refl; seven-rows = refl; eight-rows = refl }
 
 -- after seven slices at most one is to come

@@ -16,18 +16,18 @@ use Rattle.rack.specs.declared.State.{State}
 use Rattle.rack.specs.Form.{ready}
 use Rattle.rack.specs.Release.{releaseAnswer, released, releaseOf}
 use Rattle.rack.specs.Row.{rowOver}
-use Rattle.rack.specs.Advance.{advanced}
-use Rattle.rack.specs.Slice.{sliceAnswer, sliceOf, bufferAfter}
+use Rattle.rack.specs.Show.{showAnswer, bufferShown}
+use Rattle.rack.specs.Advance.{advanced, advanceAnswer, advanceOf}
 use Rattle.images.specs.Image.{stateSize, planFrom, stateFrom, stateImage}
 use Rattle.images.specs.Image.Properties.{state-length}
 use Rattle.images.specs.Lent.{room}
 use Rattle.images.specs.Typed.{StateTyped}
-use Rattle.images.specs.Typed.Properties.{release-typed, slice-typed}
+use Rattle.images.specs.Typed.Properties.{release-typed, advance-typed}
 use Rattle.images.specs.RoundTrip.{state-round-trip, state-told}
-use Rattle.parchbeetle.specs.Exports.{stateAnswer, releasesAnswer, slicesAnswer}
-use Rattle.demands.specs.Run.{Call, slice, release, nextAfter, runFrom}
+use Rattle.parchbeetle.specs.Exports.{stateAnswer, releasesAnswer, showsAnswer, ShowsRow, advancesAnswer}
+use Rattle.demands.specs.Run.{Call, show, advance, release, nextAfter, runFrom}
 use Rattle.hosts.specs.Words.{uncounted}
-use Rattle.hosts.specs.Chain.{Seen, Called, Chain, seenOf, allSeen}
+use Rattle.hosts.specs.Chain.{Seen, lent, Called, Chain, seenOf, allSeen}
 
 -- the record order is asked once
 once : (c x y : Answer) → (c andThen Good) andThen ((c andThen x) andThen y) ≡ (c andThen x) andThen y
@@ -57,9 +57,13 @@ module _ (s : State) (typed : StateTyped s) (rest : List ℕ) where
   unfolding stateAnswer
   found = rw (long, stands-plan, state-told s typed rest)
 
-  slice-answer : (row : List ℕ) → slicesAnswer image row ≡ sliceAnswer s (length row)
-  unfolding slicesAnswer sliceAnswer ready
-  slice-answer row = rw (found, stands) (once (checked (s .plan)) _ _)
+  show-answer : (row : List ℕ) → showsAnswer image row ≡ showAnswer s (length row)
+  unfolding showsAnswer showAnswer ready
+  show-answer row = rw (found, stands) (once (checked (s .plan)) _ _)
+
+  advance-answer : advancesAnswer image ≡ advanceAnswer s
+  unfolding advancesAnswer advanceAnswer ready
+  advance-answer = rw (found, stands) (once (checked (s .plan)) _ _)
 
   release-answer : (i e : ℕ) → releasesAnswer image i e ≡ releaseAnswer s i e
   unfolding releasesAnswer releaseAnswer ready
@@ -70,17 +74,30 @@ module _ (s : State) (typed : StateTyped s) (rest : List ℕ) where
   left Good next = ap (λ (l : List ℕ). stateImage next ++ l) behind
   left (No r) next = refl
 
+  -- the row that a showing leaves
+  row-is : (row : List ℕ) (word : ℕ) (cards : List ℕ) → ShowsRow (stateImage s ++ rest) row word cards → cards ≡ bufferShown s row
+  unfolding bufferShown
+  row-is row word cards c =
+      c .buffer ∙ ap₂ (λ (a : Answer) (v : State). ifGood a (rowOver v row) row) (show-answer row) stands
+
   -- what is seen is what the rack gives, and the image after it stands for the state that the rack hands back
   pub call-is : (call : Call) (seen : Seen) (after : List ℕ) → Called (stateImage s ++ rest) call seen after
       → (seen ≡ seenOf s call) × (after ≡ stateImage (nextAfter s call .state) ++ rest)
-  unfolding sliceOf releaseOf bufferAfter
-  call-is (slice row) seen after c =
-      let e = slice-answer row in
-      let w : seen .word ≡ told (sliceAnswer s (length row)) 0 = c .result ∙ ap (λ (a : Answer). told a 0) e in
-      let r : seen .row ≡ ifGood (sliceAnswer s (length row)) (rowOver s row) row =
-      c .second ∙ ap₂ (λ (a : Answer) (v : State). ifGood a (rowOver v row) row) e stands in
-      let i = c .buffer ∙ ap₂ (λ (a : Answer) (v : State). ifGood a (stateImage (advanced v) ++ drop stateSize image) image) e stands in
-      (λ k. record { word = w k; row = r k }, i ∙ left (sliceAnswer s (length row)) (advanced s))
+  unfolding advanceOf releaseOf
+  call-is (show row) seen after c =
+      let g = showsAnswer image row in
+      let w : seen .word ≡ told (showAnswer s (length row)) 0 = c .0 .result ∙ ap (told g) (uncounted g)
+      ∙ ap (λ (a : Answer). told a 0) (show-answer row) in
+      let r = row-is row (seen .word) (seen .row) (c .0) in
+      (λ k. record { word = w k; row = r k }, c .1)
+  call-is advance seen after c =
+      let f = advance-answer in
+      let g = advancesAnswer image in
+      let w : seen .word ≡ told (advanceAnswer s) 0 = c .0 .result ∙ ap (told g) (uncounted g) ∙ ap (λ (a : Answer). told a 0) f in
+      let r = row-is lent (c .1 .0) (seen .row) (c .1 .1) in
+      let j = c .0 .buffer
+      ∙ ap₂ (λ (a : Answer) (v : State). ifGood a (stateImage (advanced v) ++ drop stateSize image) image) f stands in
+      (λ k. record { word = w k; row = r k }, j ∙ left (advanceAnswer s) (advanced s))
   call-is (release i e) seen after c =
       let f = release-answer i e in
       let g = releasesAnswer image i e in
@@ -91,11 +108,12 @@ module _ (s : State) (typed : StateTyped s) (rest : List ℕ) where
       (λ k. record { word = w k; row = r k }, j ∙ left (releaseAnswer s i e) (released s i e))
 
   pub next-typed : (call : Call) → StateTyped (nextAfter s call .state)
-  unfolding sliceOf releaseOf
-  next-typed (slice row) = go (sliceAnswer s (length row)) refl
+  unfolding advanceOf releaseOf
+  next-typed (show row) = typed
+  next-typed advance = go (advanceAnswer s) refl
     where
-      go : (a : Answer) → sliceAnswer s (length row) ≡ a → StateTyped (ifGood (sliceAnswer s (length row)) (advanced s) s)
-      go Good e = rw e (slice-typed s typed (length row) e)
+      go : (a : Answer) → advanceAnswer s ≡ a → StateTyped (ifGood (advanceAnswer s) (advanced s) s)
+      go Good e = rw e (advance-typed s typed e)
       go (No r) e = rw e typed
   next-typed (release i e) = go (releaseAnswer s i e) refl
     where

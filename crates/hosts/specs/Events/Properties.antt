@@ -17,15 +17,18 @@ use Rattle.answer.specs.Numbers.{Numbered, small}
 use Rattle.answer.specs.Numbers.Properties.{numbered-holds}
 use Rattle.plan.specs.declared.Plan.{Plan}
 use Rattle.rack.specs.declared.State.{State}
-use Rattle.rack.specs.Advance.{advanced}
+use Rattle.rack.specs.Row.{rowOf}
+use Rattle.rack.specs.Show.{bufferShown}
+use Rattle.rack.specs.Show.Properties.{show-of, show-first}
+use Rattle.rack.specs.Advance.{advanced, advanceAnswer, advanceOf}
+use Rattle.rack.specs.Advance.Properties.{advance-says}
 use Rattle.rack.specs.Release.{releaseAnswer, released, releaseOf}
-use Rattle.rack.specs.Slice.{sliceAnswer, sliceOf, bufferAfter}
-use Rattle.demands.specs.Run.{Call, slice, release, nextAfter, Accepted, noSlice, rowWritten, acceptedIn, slicesOf}
+use Rattle.demands.specs.Run.{Call, show, advance, release, nextAfter, Accepted, noSlice, acceptedIn, slicesOf}
 use Rattle.demands.specs.Named.{bytesIn, bytesNaming}
 use Rattle.demands.specs.Since.{Since, ago, later, sinceCall, sinceFrom}
-use Rattle.demands.specs.Shown.{Event, started, wrote, shownBy, shown}
-use Rattle.demands.specs.Numbers.{releaseOrder, sliceOrder, release-numbers, slice-numbers}
-use Rattle.hosts.specs.Chain.{Seen, seenOf, allSeen}
+use Rattle.demands.specs.Shown.{Event, started, ran, shownBy, shown}
+use Rattle.demands.specs.Numbers.{releaseOrder, showOrder, advanceOrder, release-numbers, advance-numbers}
+use Rattle.hosts.specs.Chain.{Seen, lent, seenOf, allSeen}
 use Rattle.hosts.specs.Events.{accepted, eventsSeen, rowsIn, bytesOver, sinceSeen}
 
 -- ---- the number in the word
@@ -48,9 +51,13 @@ no-refused listed a s n h = ne-eqb (numberIn (told a 0)) 0 (λ e. h (accepted-go
 sorry : (r : _) → No r ≡ Good → ⊥
 sorry r e = let z : _≡_ {A = ℕ} 0 1 = cc in omega arith
 
-pub small-slice : small sliceOrder ≡ true
+pub small-show : small showOrder ≡ true
 unfolding small
-small-slice = refl
+small-show = refl
+
+pub small-advance : small advanceOrder ≡ true
+unfolding small
+small-advance = refl
 
 pub small-release : small releaseOrder ≡ true
 unfolding small
@@ -58,19 +65,27 @@ small-release = refl
 
 -- ---- the events
 
+-- eight bytes are enough: showing in them leaves the row
+pub lent-shows : (s : State) → advanceAnswer s ≡ Good → take (s .plan .cards) (bufferShown s lent) ≡ rowOf s
+lent-shows s g =
+    let may = advance-says s g in
+    show-first s lent (show-of s 8 (record { advance = may; enough = may .ready .order .counts .cards-most }))
+
 pub events-shown : (cards : ℕ) (calls : List Call) (s : State) → s .plan .cards ≡ cards
     → eventsSeen cards calls (allSeen s calls) ≡ shown s calls
-unfolding eventsSeen allSeen shown shownBy sliceOf releaseOf advanced released
+unfolding eventsSeen allSeen shown shownBy advanceOf releaseOf advanced released
 events-shown cards [] s p = refl
-events-shown cards (slice row ∷ calls) s p =
-    go (sliceAnswer s (length row)) refl (events-shown cards calls (advanced s) p) (events-shown cards calls s p)
+events-shown cards (show row ∷ calls) s p = events-shown cards calls s p
+events-shown cards (advance ∷ calls) s p =
+    go (advanceAnswer s) refl (events-shown cards calls (advanced s) p) (events-shown cards calls s p)
   where
-    go : (a : Answer) → sliceAnswer s (length row) ≡ a → eventsSeen cards calls (allSeen (advanced s) calls) ≡ shown (advanced s) calls
+    go : (a : Answer) → advanceAnswer s ≡ a → eventsSeen cards calls (allSeen (advanced s) calls) ≡ shown (advanced s) calls
         → eventsSeen cards calls (allSeen s calls) ≡ shown s calls
-        → eventsSeen cards (slice row ∷ calls) (allSeen s (slice row ∷ calls)) ≡ shown s (slice row ∷ calls)
-    go Good e x y = rw (e, good-accepted) (ap₂ (λ (m : ℕ) (l : List Event). wrote (take m (bufferAfter s row)) ∷ l) (sym p) x)
-    go (No r) e x y =
-        rw (e, no-refused sliceOrder (No r) small-slice (rw e at (slice-numbers s (length row))) (sorry r)) y
+        → eventsSeen cards (advance ∷ calls) (allSeen s (advance ∷ calls)) ≡ shown s (advance ∷ calls)
+    go Good e x y =
+        let row : take cards (bufferShown s lent) ≡ rowOf s = ap (λ (m : ℕ). take m (bufferShown s lent)) (sym p) ∙ lent-shows s e in
+        rw (e, good-accepted) (ap₂ (λ (r : List ℕ) (l : List Event). ran r ∷ l) row x)
+    go (No r) e x y = rw (e, no-refused advanceOrder (No r) small-advance (rw e at (advance-numbers s)) (sorry r)) y
 events-shown cards (release i e ∷ calls) s p =
     go (releaseAnswer s i e) refl (events-shown cards calls (released s i e) p) (events-shown cards calls s p)
   where
@@ -83,20 +98,21 @@ events-shown cards (release i e ∷ calls) s p =
 
 -- ---- the rows
 
--- the rows of accepted slices
+-- the rows of accepted advances
 unfoldable pub rowsOf : List Accepted → List (List ℕ)
 rowsOf [] = []
 rowsOf (w ∷ ws) = w .row ∷ rowsOf ws
 
 pub rows-shown : (calls : List Call) (s : State) → rowsIn (shown s calls) ≡ rowsOf (slicesOf s calls)
-unfolding rowsIn shown shownBy rowsOf slicesOf acceptedIn sliceOf releaseOf
+unfolding rowsIn shown shownBy rowsOf slicesOf acceptedIn advanceOf releaseOf
 rows-shown [] s = refl
-rows-shown (slice row ∷ calls) s = go (sliceAnswer s (length row)) refl (rows-shown calls (advanced s)) (rows-shown calls s)
+rows-shown (show row ∷ calls) s = rows-shown calls s
+rows-shown (advance ∷ calls) s = go (advanceAnswer s) refl (rows-shown calls (advanced s)) (rows-shown calls s)
   where
-    go : (a : Answer) → sliceAnswer s (length row) ≡ a → rowsIn (shown (advanced s) calls) ≡ rowsOf (slicesOf (advanced s) calls)
+    go : (a : Answer) → advanceAnswer s ≡ a → rowsIn (shown (advanced s) calls) ≡ rowsOf (slicesOf (advanced s) calls)
         → rowsIn (shown s calls) ≡ rowsOf (slicesOf s calls)
-        → rowsIn (shown s (slice row ∷ calls)) ≡ rowsOf (slicesOf s (slice row ∷ calls))
-    go Good e x y = rw e (ap (λ (l : List (List ℕ)). rowWritten s row ∷ l) x)
+        → rowsIn (shown s (advance ∷ calls)) ≡ rowsOf (slicesOf s (advance ∷ calls))
+    go Good e x y = rw e (ap (λ (l : List (List ℕ)). rowOf s ∷ l) x)
     go (No r) e x y = rw e y
 rows-shown (release i e ∷ calls) s = go (releaseAnswer s i e) refl (rows-shown calls (released s i e)) (rows-shown calls s)
   where
@@ -137,15 +153,16 @@ rows-named test (w ∷ ws) = ap (λ (n : ℕ). bytesIn test (w .row) + n) (rows-
 -- ---- the slices since
 
 pub since-shown : (i : ℕ) (calls : List Call) (s : State) (since : Since) → sinceSeen i since (shown s calls) ≡ sinceFrom i s since calls
-unfolding sinceSeen shown shownBy sinceFrom sinceCall sliceOf releaseOf
+unfolding sinceSeen shown shownBy sinceFrom sinceCall advanceOf releaseOf
 since-shown i [] s since = refl
-since-shown i (slice row ∷ calls) s since =
-    go (sliceAnswer s (length row)) refl (since-shown i calls (advanced s) (later since)) (since-shown i calls s since)
+since-shown i (show row ∷ calls) s since = since-shown i calls s since
+since-shown i (advance ∷ calls) s since =
+    go (advanceAnswer s) refl (since-shown i calls (advanced s) (later since)) (since-shown i calls s since)
   where
-    go : (a : Answer) → sliceAnswer s (length row) ≡ a
+    go : (a : Answer) → advanceAnswer s ≡ a
         → sinceSeen i (later since) (shown (advanced s) calls) ≡ sinceFrom i (advanced s) (later since) calls
         → sinceSeen i since (shown s calls) ≡ sinceFrom i s since calls
-        → sinceSeen i since (shown s (slice row ∷ calls)) ≡ sinceFrom i s since (slice row ∷ calls)
+        → sinceSeen i since (shown s (advance ∷ calls)) ≡ sinceFrom i s since (advance ∷ calls)
     go Good e x y = rw e x
     go (No r) e x y = rw e y
 since-shown i (release k e ∷ calls) s since =

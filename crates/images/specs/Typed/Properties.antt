@@ -1,4 +1,4 @@
--- Every plan that is read or found, and every state that is found or that a fresh start, a release and a slice hand back, is of the
+-- Every plan that is read or found, and every state that is found or that a fresh start, a release and an advance hand back, is of the
 -- language's type.
 -- Assumes nothing.
 use mathlib.Core.Path.{_≡_, refl, _∙_}
@@ -30,9 +30,8 @@ use Rattle.rack.specs.State.{freshOf, unitOf, kindPlaces}
 use Rattle.rack.specs.Form.Properties.{places-most, place-most}
 use Rattle.rack.specs.Release.{releaseAnswer, released, Releasable}
 use Rattle.rack.specs.Release.Properties.{release-says, release-unit, release-others, release-places}
-use Rattle.rack.specs.Advance.{unitAfter, advanced}
-use Rattle.rack.specs.Slice.{sliceAnswer}
-use Rattle.rack.specs.Slice.Properties.{slice-says}
+use Rattle.rack.specs.Advance.{unitAfter, advanced, advanceAnswer}
+use Rattle.rack.specs.Advance.Properties.{advance-says}
 use Rattle.images.specs.Image.{countWidths, projectWidths, kindWidths, clockWidths, unitWidths, projectPlace, kindPlace, clockPlace}
 use Rattle.images.specs.Image.{unitPlace}
 use Rattle.images.specs.Image.{projectFrom, kindFrom, clockFrom, unitFrom, planFrom, stateFrom, projectFields, kindFields, unitFields}
@@ -188,26 +187,26 @@ module _ (s : State) (t : StateTyped s) where
           unit-fits = λ k l. release-fits k l (ℕ-discrete k i);
         }
 
-  -- by a slice
-  module _ (room : ℕ) (good : sliceAnswer s room ≡ Good) where
+  -- by an advance
+  module _ (good : advanceAnswer s ≡ Good) where
     after-fits : (k : ℕ) → k < 16 → Fitting unitWidths (unitFields (unitAfter s k))
     unfolding unitAfter
     after-fits k l = let u = t .unit-fits k l in (u .0, (u .1 .0, (omega arith, tt)))
 
-    slice-fits : (k : ℕ) → k < 16 → Dec (k < kindPlaces s) → Fitting unitWidths (unitFields (unitOf (advanced s) k))
+    advance-fits : (k : ℕ) → k < 16 → Dec (k < kindPlaces s) → Fitting unitWidths (unitFields (unitOf (advanced s) k))
     unfolding advanced
-    slice-fits k l (yes z) =
-        let n = places-most s (kindPlaces s) (slice-says s room good .advance .ready) refl in
+    advance-fits k l (yes z) =
+        let n = places-most s (kindPlaces s) (advance-says s good .ready) refl in
         rw (written-at (kindPlaces s) (unitAfter s) (s .unit) noUnit k z (omega (arith, t .sixteen))) (after-fits k l)
-    slice-fits k l (no z) = rw (written-kept (kindPlaces s) (unitAfter s) (s .unit) noUnit k (omega arith)) (t .unit-fits k l)
+    advance-fits k l (no z) = rw (written-kept (kindPlaces s) (unitAfter s) (s .unit) noUnit k (omega arith)) (t .unit-fits k l)
 
-    pub slice-typed : StateTyped (advanced s)
+    pub advance-typed : StateTyped (advanced s)
     unfolding advanced
-    slice-typed =
-        let time = slice-says s room good .advance .time in
+    advance-typed =
+        let time = advance-says s good .time in
         record {
           plan-typed = t .plan-typed;
           clock-fits = (omega arith, tt);
           sixteen = written-length (kindPlaces s) (unitAfter s) (s .unit) ∙ t .sixteen;
-          unit-fits = λ k l. slice-fits k l (decLt k (kindPlaces s));
+          unit-fits = λ k l. advance-fits k l (decLt k (kindPlaces s));
         }

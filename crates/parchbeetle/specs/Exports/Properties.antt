@@ -40,9 +40,9 @@ use Rattle.rack.specs.Rank.{gone}
 use Rattle.rack.specs.Start.{startAnswer, startOf}
 use Rattle.unit.specs.Start.{startable}
 use Rattle.rack.specs.Release.{releaseAnswer, released, releaseOf}
-use Rattle.rack.specs.Advance.{advanced}
-use Rattle.rack.specs.Slice.{sliceAnswer, sliceOf, bufferAfter, Sliced}
 use Rattle.rack.specs.Row.{rowOver}
+use Rattle.rack.specs.Show.{showAnswer, bufferShown, Shows}
+use Rattle.rack.specs.Advance.{advanced, advanceAnswer, advanceOf}
 use Rattle.images.specs.declared.PlanFound.{PlanFound}
 use Rattle.images.specs.declared.StateFound.{StateFound}
 use Rattle.images.specs.Image.{planSize, stateSize, planFrom, planImage, stateFrom, stateImage, releasedTold}
@@ -53,7 +53,7 @@ use Rattle.answer.specs.Word.{told}
 use Rattle.parchbeetle.specs.Outcome.Properties.{refused-outcome, good-outcome, stored-outcome, uncounted}
 use Rattle.parchbeetle.specs.Exports.{checkAnswer, readsAnswer, Reads, writesAnswer, WritesBytes, slotsAnswer, WritesSlots}
 use Rattle.parchbeetle.specs.Exports.{verdictAnswer, verdictByte, Judges, budgetAnswer, budgetTold, freshAnswer, Starts, stateAnswer}
-use Rattle.parchbeetle.specs.Exports.{releasesAnswer, Releases, slicesAnswer, Slices}
+use Rattle.parchbeetle.specs.Exports.{releasesAnswer, Releases, showsAnswer, ShowsRow, advancesAnswer, Advances}
 
 -- ---- `parchbeetle_check`
 
@@ -266,7 +266,7 @@ fresh-stored plan state after f v b r e g h n t u =
     (opened-on (v .answer) (startAnswer (planFrom plan)) (room state stateSize) b n (start-answer (planFrom plan) v i) (t .result)))
     (uncounted b r u))
 
--- ---- the record order, with which releases and slices begin, need not be asked before them
+-- ---- the record order, with which every call on a state begins, need not be asked before it
 
 -- checking twice is checking once
 again : (a b c : Answer) → (a andThen ((a andThen b) andThen c)) ≡ ((a andThen b) andThen c)
@@ -387,63 +387,72 @@ release-stored state after kind e k x f v b r h g p q t n u z =
     (stored-outcome (releasesAnswer state kind e) b 0 stateSize (stateImage (v .state)) state after r u
     (release-stage state kind e f b h g (a ∙ release-answer (stateFrom state) kind e v i)) (uncounted b r z))
 
--- ---- `parchbeetle_slice`
+-- ---- `parchbeetle_show`: a is what the showing answered
 
-slice-once : (s row : List ℕ) → slicesAnswer s row ≡ (foundAnswer s andThen sliceAnswer (stateFrom s) (length row))
-unfolding slicesAnswer sliceAnswer ready stateFrom
-slice-once s row = once s (sliceAnswer (stateFrom s) (length row)) (again (checked (planFrom s)) _ _)
+show-once : (s row : List ℕ) → showsAnswer s row ≡ (foundAnswer s andThen showAnswer (stateFrom s) (length row))
+unfolding showsAnswer showAnswer ready stateFrom
+show-once s row = once s (showAnswer (stateFrom s) (length row)) (again (checked (planFrom s)) _ _)
 
-slice-stage : (state row : List ℕ) (f : StateFound) (x : Answer) → f ≡ stateFound state → f .answer ≡ Good →
-    x ≡ sliceAnswer (f .state) (length row) → x ≡ slicesAnswer state row
-slice-stage state row f x h g t =
-    state-on state f (sliceAnswer (stateFrom state) (length row)) x h g
-    (t ∙ ap (λ (s : State). sliceAnswer s (length row)) (state-is state f h g))
-    ∙ sym (slice-once state row)
+pub show-unfound : (state row : List ℕ) (f : StateFound) (w : Refusal) (r : ℕ) → f ≡ stateFound state → f .answer ≡ No w →
+    r ≡ told (f .answer) 0 → ShowsRow state row r row
+show-unfound state row f w r h g t =
+    refused-outcome (showsAnswer state row) (f .answer) w _ _ row r g t
+    (state-no state f (showAnswer (stateFrom state) (length row)) w h g ∙ sym (show-once state row))
 
-slice-answer : (s : State) (row cards : List ℕ) (v : Next) → Sliced s row v cards → v .answer ≡ sliceAnswer s (length row)
-unfolding sliceOf
-slice-answer s row cards v t = ap (λ (x : Next). x .answer) (t .result)
-
-slice-row : (s : State) (row cards : List ℕ) (v : Next) (a : Answer) → Sliced s row v cards → v .answer ≡ a →
-    cards ≡ ifGood a (rowOver s row) row
-unfolding bufferAfter
-slice-row s row cards v a t n = t .buffer ∙ ap (λ (x : Answer). ifGood x (rowOver s row) row) (sym (slice-answer s row cards v t) ∙ n)
-
-slice-state : (s : State) (row cards : List ℕ) (v : Next) → Sliced s row v cards → v .answer ≡ Good → v .state ≡ advanced s
-unfolding sliceOf
-slice-state s row cards v t n =
-    ap (λ (x : Next). x .state) (t .result) ∙ ap (λ (x : Answer). ifGood x (advanced s) s) (sym (slice-answer s row cards v t) ∙ n)
-
-pub slice-unfound : (state row : List ℕ) (f : StateFound) (w : Refusal) (r : ℕ) → f ≡ stateFound state → f .answer ≡ No w →
-    r ≡ told (f .answer) 0 → Slices state row r state row
-slice-unfound state row f w r h g t =
-    let z : slicesAnswer state row ≡ No w = slice-once state row ∙ sym (state-no state f (sliceAnswer (stateFrom state) (length row)) w h g)
-    ∙ g in
-    record { result = t ∙ ap (λ (x : Answer). told x 0) (g ∙ sym z); buffer = rw z; second = rw z }
-
-pub slice-refused : (state row cards : List ℕ) (f : StateFound) (v : Next) (w : Refusal) (r : ℕ) → f ≡ stateFound state → f .answer ≡ Good →
-    Sliced (f .state) row v cards → v .answer ≡ No w → r ≡ told (v .answer) 0 → Slices state row r state cards
-slice-refused state row cards f v w r h g t n u =
-    let z : slicesAnswer state row ≡ No w = sym (slice-stage state row f (v .answer) h g (slice-answer (f .state) row cards v t)) ∙ n in
-    record {
-      result = u ∙ ap (λ (x : Answer). told x 0) (n ∙ sym z);
-      buffer = rw z;
-      second = rw z
-          (slice-row (f .state) row cards v (No w) t n);
-    }
-
-pub slice-stored : (state row after cards : List ℕ) (f : StateFound) (v : Next) (b : Answer) (r : ℕ) → f ≡ stateFound state →
-    f .answer ≡ Good → Sliced (f .state) row v cards → v .answer ≡ Good → StoresState (v .state) state b after → r ≡ told b 0 →
-    Slices state row r after cards
-slice-stored state row after cards f v b r h g t n u y =
-    let z : slicesAnswer state row ≡ Good = sym (slice-stage state row f (v .answer) h g (slice-answer (f .state) row cards v t)) ∙ n in
-    let a = state-room state f h g in
+pub show-told : (state row after : List ℕ) (f : StateFound) (a : Answer) (r : ℕ) → f ≡ stateFound state → f .answer ≡ Good →
+    Shows (f .state) row a after → r ≡ told a 0 → ShowsRow state row r after
+unfolding bufferShown
+show-told state row after f a r h g t u =
     let s = state-is state f h g in
-    let d : v .state ≡ advanced (stateFrom state) = slice-state (f .state) row cards v t n ∙ ap advanced s in
+    let z : a ≡ showsAnswer state row =
+    state-on state f (showAnswer (stateFrom state) (length row)) a h g (t .result ∙ ap (λ (x : State). showAnswer x (length row)) s)
+    ∙ sym (show-once state row) in
     record {
-      result = y ∙ ap (λ (x : Answer). told x 0) (u .result ∙ a ∙ sym z);
+      result = uncounted a r u ∙ ap (λ (x : Answer). told x (ifGood x 0 0)) z;
       buffer =
-          rw z (u .buffer ∙ ap (λ (x : Answer). ifGood x (stateImage (v .state) ++ drop stateSize state) state) a ∙ ap
-          (λ (x : State). stateImage x ++ drop stateSize state) d);
-      second = rw z (slice-row (f .state) row cards v Good t n ∙ ap (λ (x : State). rowOver x row) s);
+          t .buffer ∙ ap (λ (x : Answer). ifGood x (rowOver (f .state) row) row) (sym (t .result) ∙ z)
+          ∙ ap (λ (x : State). ifGood (showsAnswer state row) (rowOver x row) row) s;
     }
+
+-- ---- `parchbeetle_advance`: v is what the advance handed back
+
+advance-once : (s : List ℕ) → advancesAnswer s ≡ (foundAnswer s andThen advanceAnswer (stateFrom s))
+unfolding advancesAnswer advanceAnswer ready stateFrom
+advance-once s = once s (advanceAnswer (stateFrom s)) (again (checked (planFrom s)) _ _)
+
+advance-answer : (s : State) (v : Next) → v ≡ advanceOf s → v .answer ≡ advanceAnswer s
+unfolding advanceOf
+advance-answer s v i = ap (λ (x : Next). x .answer) i
+
+advance-state : (s : State) (v : Next) → v ≡ advanceOf s → v .answer ≡ Good → v .state ≡ advanced s
+unfolding advanceOf
+advance-state s v i n = ap (λ (x : Next). x .state) i ∙ ap (λ (x : Answer). ifGood x (advanced s) s) (sym (advance-answer s v i) ∙ n)
+
+advance-is : (state : List ℕ) (f : StateFound) (v : Next) → f ≡ stateFound state → f .answer ≡ Good → v ≡ advanceOf (f .state) →
+    v ≡ advanceOf (stateFrom state)
+advance-is state f v h g t = t ∙ ap advanceOf (state-is state f h g)
+
+advance-stage : (state : List ℕ) (f : StateFound) (x : Answer) → f ≡ stateFound state → f .answer ≡ Good →
+    x ≡ advanceAnswer (stateFrom state) → x ≡ advancesAnswer state
+advance-stage state f x h g t = state-on state f (advanceAnswer (stateFrom state)) x h g t ∙ sym (advance-once state)
+
+pub advance-unfound : (state : List ℕ) (f : StateFound) (w : Refusal) (r : ℕ) → f ≡ stateFound state → f .answer ≡ No w →
+    r ≡ told (f .answer) 0 → Advances state r state
+advance-unfound state f w r h g t =
+    refused-outcome (advancesAnswer state) (f .answer) w _ _ state r g t
+    (state-no state f (advanceAnswer (stateFrom state)) w h g ∙ sym (advance-once state))
+
+pub advance-refused : (state : List ℕ) (f : StateFound) (v : Next) (w : Refusal) (r : ℕ) → f ≡ stateFound state → f .answer ≡ Good →
+    v ≡ advanceOf (f .state) → v .answer ≡ No w → r ≡ told (v .answer) 0 → Advances state r state
+advance-refused state f v w r h g t n u =
+    refused-outcome (advancesAnswer state) (v .answer) w _ _ state r n u
+    (advance-stage state f (v .answer) h g (advance-answer (stateFrom state) v (advance-is state f v h g t)))
+
+pub advance-stored : (state after : List ℕ) (f : StateFound) (v : Next) (b : Answer) (r : ℕ) → f ≡ stateFound state → f .answer ≡ Good →
+    v ≡ advanceOf (f .state) → v .answer ≡ Good → StoresState (v .state) state b after → r ≡ told b 0 → Advances state r after
+advance-stored state after f v b r h g t n u z =
+    let i = advance-is state f v h g t in
+    let a : b ≡ v .answer = u .result ∙ state-room state f h g ∙ sym n in
+    rw (← advance-state (stateFrom state) v i n)
+    (stored-outcome (advancesAnswer state) b 0 stateSize (stateImage (v .state)) state after r u
+    (advance-stage state f b h g (a ∙ advance-answer (stateFrom state) v i)) (uncounted b r z))

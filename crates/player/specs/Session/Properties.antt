@@ -24,7 +24,7 @@ use Rattle.rack.specs.declared.State.{State}
 use Rattle.rack.specs.declared.Next.{Next}
 use Rattle.rack.specs.State.{noState}
 use Rattle.rack.specs.Start.{startOf}
-use Rattle.rack.specs.Slice.{sliceOf}
+use Rattle.rack.specs.Show.{showAnswer}
 use Rattle.rack.specs.Row.{rowByte}
 use Rattle.lines.specs.declared.line.Line.{Line}
 use Rattle.lines.specs.declared.line.Line.the-variants as line
@@ -411,7 +411,7 @@ plan-some (No w) = omega arith
 
 line-some : (s : State) (k : Command) → 0 < length (commandMove s k .text)
 unfolding commandMove lineOf releaseLine sliceLine
-line-some s Slice = go (sliceOf s rowRoom .answer)
+line-some s Slice = go (showAnswer s rowRoom)
   where
     go : (a : Answer) → 0 < length (sliceLine a (s .clock) (s .plan .cards) (rowByte s))
     go Good = omega arith

@@ -11,8 +11,9 @@ use Rattle.codec.specs.Places.{partsTo}
 use Rattle.rack.specs.declared.State.{State}
 use Rattle.rack.specs.declared.Next.{Next}
 use Rattle.rack.specs.Release.{releaseOf}
-use Rattle.rack.specs.Slice.{sliceAnswer, sliceOf, bufferAfter, Sliced}
-use Rattle.rack.specs.Slice.Properties.{slice-room}
+use Rattle.rack.specs.Show.{showAnswer, bufferShown, Shows}
+use Rattle.rack.specs.Show.Properties.{show-room}
+use Rattle.rack.specs.Advance.{advanceOf}
 use Rattle.rack.specs.Row.{rowByte, rowOver}
 use Rattle.rack.specs.Row.Properties.{over-at}
 use Rattle.lines.specs.declared.line.Line.the-variants as line
@@ -29,29 +30,21 @@ row-same zero f g h = refl
 row-same (suc cards) f g h =
     ap₂ _++_ (row-same cards f g (λ card l. h card (omega arith))) (ap (λ (n : ℕ). ascii " " ++ decimal n) (h cards (omega arith)))
 
--- a slice's answer is good: the row has room, and its bytes are in it
-module _ (s : State) (row : List ℕ) (next : Next) (sliced : Sliced s (replicate 8 0) next row) where
-  answer-is : next .answer ≡ sliceOf s rowRoom .answer
-  answer-is = ap (λ (n : Next). n .answer) (sliced .result)
+-- a showing's answer is good: the row has room, and its bytes are in it
+module _ (s : State) (answer : Answer) (row : List ℕ) (shows : Shows s (replicate 8 0) answer row) where
+  good-is : answer ≡ Good → showAnswer s rowRoom ≡ Good
+  good-is e = sym (shows .result) ∙ e
 
-  state-is : next .state ≡ after s Slice
-  unfolding after
-  state-is = ap (λ (n : Next). n .state) (sliced .result)
+  cards-fit : answer ≡ Good → s .plan .cards ≤ 8
+  cards-fit e = show-room s rowRoom answer e (shows .result)
 
-  good-is : next .answer ≡ Good → sliceAnswer s rowRoom ≡ Good
-  unfolding sliceOf
-  good-is e = sym answer-is ∙ e
-
-  cards-fit : next .answer ≡ Good → s .plan .cards ≤ 8
-  cards-fit e = slice-room s rowRoom (sliceAnswer s rowRoom) (good-is e) refl
-
-  row-is : next .answer ≡ Good → (card : ℕ) → card < s .plan .cards → getD row card 0 ≡ rowByte s card
-  unfolding bufferAfter
+  row-is : answer ≡ Good → (card : ℕ) → card < s .plan .cards → getD row card 0 ≡ rowByte s card
+  unfolding bufferShown
   row-is e card l =
-      let a : row ≡ rowOver s (replicate 8 0) = sliced .buffer ∙ rw (good-is e) in
+      let a : row ≡ rowOver s (replicate 8 0) = shows .buffer ∙ rw (good-is e) in
       ap (λ (x : List ℕ). getD x card 0) a ∙ over-at s (replicate 8 0) card l
 
-  told : (a : Answer) → next .answer ≡ a → sliceLine a (s .clock) (min (s .plan .cards) 8) (λ (card : ℕ). getD row card 0)
+  told : (a : Answer) → answer ≡ a → sliceLine a (s .clock) (min (s .plan .cards) 8) (λ (card : ℕ). getD row card 0)
       ≡ sliceLine a (s .clock) (s .plan .cards) (rowByte s)
   unfolding sliceLine
   told Good e =
@@ -59,9 +52,11 @@ module _ (s : State) (row : List ℕ) (next : Next) (sliced : Sliced s (replicat
       rw (fit, ← row-same (s .plan .cards) (λ (card : ℕ). getD row card 0) (rowByte s) (row-is e))
   told (No w) e = refl
 
-  pub slice-told : Turns s Slice (record { state = next .state; line = line.Slice (next .answer) (s .clock) (s .plan .cards); row = row })
-  unfolding lineOf lineText
-  slice-told = record { state = state-is; line = rw (← answer-is) (told (next .answer) refl) }
+  pub slice-told : (next : Next) → next ≡ advanceOf s →
+      Turns s Slice (record { state = next .state; line = line.Slice answer (s .clock) (s .plan .cards); row = row })
+  unfolding lineOf lineText after
+  slice-told next moves =
+      record { state = ap (λ (n : Next). n .state) moves; line = rw (← (shows .result)) (told answer refl) }
 
 pub release-told : (s : State) (kind e : ℕ) (next : Next) (row : List ℕ) → next ≡ releaseOf s kind e
     → Turns s (Release kind e) (record { state = next .state; line = line.Release kind e (next .answer); row = row })

@@ -1,26 +1,70 @@
--- Laws of the state that follows: the steps of the loop that lowers what is left, and that it is in form.
+-- Laws of advancing: what an accepted one says and that nothing less is asked; of the state that follows, the steps of the loop that
+-- lowers what is left, and that it is in form.
 -- Assumes nothing.
 use mathlib.Core.Path.{_≡_, refl, sym, ap, _∙_}
 use mathlib.Core.Bool.{Bool, true, false}
 use mathlib.Core.List.{List}
 use Prim.Native.Nat.{ℕ, _+_, _-_, _≤_, _<_}
 use native.Mathlib.Omega.{arith}
+use lib.Dec.{eqb}
 use lib.ListN.{length, getD, set}
+use borrow.Author.Tests.{ne-eqb, eqb-false}
 use Rattle.laws.specs.Written.{written}
 use Rattle.laws.specs.Written.Properties.{written-again, written-at, written-kept, written-length, written-stop, written-same}
+use Rattle.answer.specs.declared.Answer.{Answer}
+use Rattle.answer.specs.declared.Answer.the-variants.{Good, No}
+use Rattle.answer.specs.declared.Refusal.{Refusal}
+use Rattle.answer.specs.Answer.Properties.{andThen-left, andThen-right, refuse-good}
 use Rattle.unit.specs.declared.Unit.{Unit}
 use Rattle.unit.specs.Unit.{noUnit}
 use Rattle.unit.specs.Form.{UnitInForm}
 use Rattle.rack.specs.declared.State.{State}
-use Rattle.rack.specs.State.{unitOf, kindAt, kindPlaces, InUse}
-use Rattle.rack.specs.Form.{Ready}
-use Rattle.rack.specs.Form.Properties.{not-used}
+use Rattle.rack.specs.State.{lastClock, unitOf, kindAt, kindPlaces, InUse}
+use Rattle.rack.specs.State.Properties.{refused-keeps, good-moves}
+use Rattle.rack.specs.Form.{ready, Ready}
+use Rattle.rack.specs.Form.Properties.{ready-says, ready-of, not-used}
 use Rattle.rack.specs.Rank.{served}
 use Rattle.rack.specs.Rank.Properties.{served-working, working-left}
 use Rattle.seats.specs.Seats.{at}
 use Rattle.rack.specs.Seat.{seatsOf, seatOf}
 use Rattle.rack.specs.Seat.Properties.{seat-served, seat-unserved, seats-at}
-use Rattle.rack.specs.Advance.{Advanceable, unitAfter, advanced}
+use Rattle.rack.specs.Advance.{Advanceable, unitAfter, advanced, timeLeft, advanceAnswer, advanceOf}
+
+-- ---- the answer
+
+pub advance-says : (s : State) → advanceAnswer s ≡ Good → Advanceable s
+unfolding advanceAnswer timeLeft
+advance-says s h =
+    let r = ready-says s (andThen-left (ready s) (timeLeft s) h) in
+    let eleven = refuse-good (eqb (s .clock) lastClock) _ (andThen-right (ready s) (timeLeft s) h) in
+    let z = eqb-false (s .clock) lastClock eleven in
+    record { ready = r; time = omega (arith, r .form .clock-most) }
+
+pub advance-of : (s : State) → Advanceable s → advanceAnswer s ≡ Good
+unfolding advanceAnswer timeLeft
+advance-of s may =
+    let earlier = ne-eqb (s .clock) lastClock (λ e. omega (arith, may .time)) in
+    rw (ready-of s (may .ready), earlier)
+
+-- what the tests answered, opened
+pub advance-opened : (s : State) (r : Answer) → r ≡ Good → r ≡ advanceAnswer s → Advanceable s
+advance-opened s r good is = advance-says s (sym is ∙ good)
+
+pub advance-ready : (s : State) (r : Answer) → r ≡ Good → r ≡ advanceAnswer s → Ready s
+advance-ready s r good is = advance-opened s r good is .ready
+
+-- the clock can rise: s is the state as it was, and the clock still its own
+pub advance-early : (s : State) (r : Answer) (clock : ℕ) → r ≡ Good → r ≡ advanceAnswer s → clock ≡ s .clock → clock + 1 < 4294967296
+advance-early s r clock good is e = omega (arith, advance-opened s r good is .time)
+
+-- an accepted one hands back the state that follows, and a refusal changes nothing
+pub advance-moves : (s : State) → advanceOf s .answer ≡ Good → advanceOf s .state ≡ advanced s
+unfolding advanceOf
+advance-moves s good = good-moves (advanceAnswer s) (advanced s) s good
+
+pub advance-refused : (s : State) (w : Refusal) → advanceOf s .answer ≡ No w → advanceOf s .state ≡ s
+unfolding advanceOf
+advance-refused s w e = refused-keeps (advanceAnswer s) w (advanced s) s e
 
 -- ---- a kind's unit after it
 

@@ -1,81 +1,56 @@
--- Laws of a slice: what an accepted one says, that nothing less is asked, and that a refused one changes nothing.
+-- The pair is held to the one call: showing answers as it does and leaves the same row, and unless that is 9 advancing answers and hands
+-- back the same.
 -- Assumes nothing.
-use mathlib.Core.Path.{_≡_, refl, sym, ap, _∙_}
+use mathlib.Core.Path.{_≡_, refl, ap, _∙_}
+use mathlib.Core.Logic.{_≢_}
+use mathlib.Core.Bool.{Bool, true, false}
 use mathlib.Core.List.{List}
-use Prim.Native.Nat.{ℕ, _≤_, _<_}
-use native.Mathlib.Omega.{arith}
-use lib.Dec.{ltb, eqb}
-use lib.ListN.{length}
-use borrow.Author.Tests.{le-ltb, ne-eqb, ltb-false, eqb-false}
+use Prim.Native.Nat.{ℕ}
+use lib.Dec.{ltb}
 use Rattle.answer.specs.declared.Answer.{Answer}
 use Rattle.answer.specs.declared.Answer.the-variants.{Good, No}
-use Rattle.answer.specs.declared.Refusal.{Refusal}
-use Rattle.answer.specs.Answer.{bare, _andThen_}
-use Rattle.answer.specs.Answer.Properties.{andThen-left, andThen-right, refuse-good}
+use Rattle.answer.specs.Answer.{bare, number, refuse, _andThen_}
 use Rattle.rack.specs.declared.State.{State}
-use Rattle.rack.specs.declared.Next.{Next}
-use Rattle.rack.specs.State.{lastClock}
-use Rattle.rack.specs.State.Properties.{refused-keeps}
-use Rattle.rack.specs.Form.{ready, Ready}
-use Rattle.rack.specs.Form.Properties.{ready-says, ready-of}
-use Rattle.rack.specs.Row.{rowOver}
-use Rattle.rack.specs.Advance.{advanced, timeLeft}
-use Rattle.rack.specs.Slice.{Sliceable, roomFor, sliceAnswer, sliceOf, bufferAfter, Sliced}
+use Rattle.rack.specs.State.{nextOf}
+use Rattle.rack.specs.Form.{ready}
+use Rattle.rack.specs.Advance.{advanced, timeLeft, advanceAnswer, advanceOf}
+use Rattle.rack.specs.Show.{roomFor, showAnswer, bufferShown}
+use Rattle.rack.specs.Slice.{sliceAnswer, sliceOf, bufferAfter}
 
--- ---- the answer
+-- ---- showing
 
-pub slice-says : (s : State) (room : ℕ) → sliceAnswer s room ≡ Good → Sliceable s room
-unfolding sliceAnswer roomFor timeLeft
-slice-says s room h =
-    let r = ready-says s (andThen-left (ready s) (roomFor s room andThen timeLeft s) h) in
-    let t = andThen-right (ready s) (roomFor s room andThen timeLeft s) h in
-    let nine = refuse-good (ltb room (s .plan .cards)) _ (andThen-left (roomFor s room) (timeLeft s) t) in
-    let eleven = refuse-good (eqb (s .clock) lastClock) _ (andThen-right (roomFor s room) (timeLeft s) t) in
-    let z = eqb-false (s .clock) lastClock eleven in
-    record {
-      advance = record { ready = r; time = omega (arith, r .form .clock-most) };
-      enough = ltb-false room (s .plan .cards) nine;
-    }
+pub show-is-slice : (s : State) (room : ℕ) → showAnswer s room ≡ sliceAnswer s room
+unfolding showAnswer sliceAnswer
+show-is-slice s room = refl
 
-pub slice-of : (s : State) (room : ℕ) → Sliceable s room → sliceAnswer s room ≡ Good
-unfolding sliceAnswer roomFor timeLeft
-slice-of s room r =
-    let earlier = ne-eqb (s .clock) lastClock (λ e. omega (arith, r .advance .time)) in
-    rw (ready-of s (r .advance .ready), le-ltb room (s .plan .cards) (r .enough), earlier)
+pub shown-is-sliced : (s : State) (bytes : List ℕ) → bufferShown s bytes ≡ bufferAfter s bytes
+unfolding bufferShown bufferAfter showAnswer sliceAnswer
+shown-is-sliced s bytes = refl
 
--- ---- what the tests answered, opened
+-- ---- advancing
 
-module _ (s : State) (room : ℕ) (r : Answer) (good : r ≡ Good) (is : r ≡ sliceAnswer s room) where
-  slice-opened : Sliceable s room
-  slice-opened = slice-says s room (sym is ∙ good)
+-- where showing does not say 9, advancing answers as it does
+pub advance-alike : (s : State) (room : ℕ) → number (showAnswer s room) ≢ 9 → advanceAnswer s ≡ showAnswer s room
+unfolding advanceAnswer showAnswer roomFor
+advance-alike s room = go (ready s) (ltb room (s .plan .cards))
+  where
+    go : (a : Answer) (short : Bool) → number (a andThen (refuse short (bare 9) andThen timeLeft s)) ≢ 9 →
+        (a andThen timeLeft s) ≡ (a andThen (refuse short (bare 9) andThen timeLeft s))
+    go (No w) short h = refl
+    go Good true h = absurd (h refl)
+    go Good false h = refl
 
-  pub slice-ready : Ready s
-  slice-ready = slice-opened .advance .ready
+-- and so does all that the one call does
+pub advance-is-slice : (s : State) (room : ℕ) → number (showAnswer s room) ≢ 9 → advanceOf s ≡ sliceOf s room
+unfolding advanceOf sliceOf
+advance-is-slice s room h =
+    ap (λ (a : Answer). nextOf a (advanced s) s) (advance-alike s room h ∙ show-is-slice s room)
 
-  pub slice-room : s .plan .cards ≤ room
-  slice-room = slice-opened .enough
-
-  pub slice-time : s .clock < lastClock
-  slice-time = slice-opened .advance .time
-
--- ---- the lent row
-
-pub buffer-kept : (s : State) (bytes : List ℕ) (r : Answer) (w : Refusal) → r ≡ No w → r ≡ sliceAnswer s (length bytes) →
-    bytes ≡ bufferAfter s bytes
-unfolding bufferAfter
-buffer-kept s bytes r w e q = rw (← q, e)
-
-pub buffer-row : (s : State) (bytes after : List ℕ) (r : Answer) → r ≡ Good → r ≡ sliceAnswer s (length bytes) →
-    after ≡ rowOver s bytes → after ≡ bufferAfter s bytes
-unfolding bufferAfter
-buffer-row s bytes after r e q h = rw (← q, e) h
-
--- ---- a refusal changes nothing
-
-pub slice-refused : (s : State) (bytes after : List ℕ) (next : Next) (w : Refusal) → Sliced s bytes next after → next .answer ≡ No w →
-    (next .state ≡ s) × (after ≡ bytes)
-unfolding sliceOf
-slice-refused s bytes after next w r e =
-    let a : sliceAnswer s (length bytes) ≡ No w = sym (ap (λ (n : Next). n .answer) (r .result)) ∙ e in
-    let kept = refused-keeps (sliceAnswer s (length bytes)) w (advanced s) s a in
-    (ap (λ (n : Next). n .state) (r .result) ∙ kept, r .buffer ∙ sym (buffer-kept s bytes (No w) w refl (sym a)))
+-- where the state itself has no 9 to say and showing says 9, only the clock is left to ask
+pub advance-short : (s : State) (room : ℕ) → number (ready s) ≢ 9 → number (showAnswer s room) ≡ 9 → advanceAnswer s ≡ timeLeft s
+unfolding advanceAnswer showAnswer
+advance-short s room = go (ready s)
+  where
+    go : (a : Answer) → number a ≢ 9 → number (a andThen (roomFor s room andThen timeLeft s)) ≡ 9 → (a andThen timeLeft s) ≡ timeLeft s
+    go (No w) h e = absurd (h e)
+    go Good h e = refl

@@ -5,9 +5,6 @@ use borrow.Author.Needs.{needs}
 use Rattle.seats.proofs.seat.Statement.{statement}
 use Rattle.seats.proofs.seat.Tie as tie
 
-element-copy-out-wide : tie.Need-element-copy-out-wide
-element-copy-out-wide c = search needs
-
 wide-requires : tie.Need-wide-requires
 wide-requires c κs = search needs
 
@@ -23,14 +20,11 @@ returns-2 c = search no-project
 sub-project : tie.Need-sub-project
 sub-project c = search needs
 
-element-copy-out-wide-2 : tie.Need-element-copy-out-wide-2
-element-copy-out-wide-2 c = search needs
+element-copy-out-wide : tie.Need-element-copy-out-wide
+element-copy-out-wide c = search needs
 
 wide-requires-2 : tie.Need-wide-requires-2
 wide-requires-2 c κs = search needs
-
-rank-requires : tie.Need-rank-requires
-rank-requires c κs = search needs
 
 wide-requires-3 : tie.Need-wide-requires-3
 wide-requires-3 c κs = search needs
@@ -51,15 +45,13 @@ pub seat-spec : {M : Type 1} → statement M
 seat-spec =
     tie.close
     (tie.spec
-    element-copy-out-wide
     wide-requires
     cast-number
     returns
     returns-2
     sub-project
-    element-copy-out-wide-2
+    element-copy-out-wide
     wide-requires-2
-    rank-requires
     wide-requires-3
     add-card
     element-copy-out-seat-at

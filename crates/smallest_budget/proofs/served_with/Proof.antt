@@ -92,8 +92,8 @@ loop-again-2 c =
       omega (arith, within),
       here .loop .inv .1,
       here .loop .inv .2,
-      served-again (given .t1) (given .project) (search) (here .loop .i) (omega (arith, within)) (given .budget)
-          (laid .cards-with .result) (now (given .workloads)) found (search) (search) (search) (search) some (search),
+      served-again (given .t1) (given .project) (search) (here .loop .i) (omega (arith, within)) (given .budget) (laid .cards-with .result)
+          (now (given .workloads)) found (search) (search) (search) (search) some (search),
     )
 
 returns-2 : tie.Need-returns-2 Inv-loop μ-loop

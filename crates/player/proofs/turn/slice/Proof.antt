@@ -5,14 +5,17 @@ use borrow.Author.Needs.{needs}
 use Rattle.player.proofs.turn.slice.Statement.{statement}
 use Rattle.player.proofs.turn.slice.Tie as tie
 
-slice-aggregate-slice : tie.Need-slice-aggregate-slice
-slice-aggregate-slice c = search needs
+slice-aggregate-show : tie.Need-slice-aggregate-show
+slice-aggregate-show c = search needs
 
-slice-requires : tie.Need-slice-requires
-slice-requires c κs = search needs
+show-requires : tie.Need-show-requires
+show-requires c κs = search needs
+
+advance-requires : tie.Need-advance-requires
+advance-requires c κs = search needs
 
 returns : tie.Need-returns
 returns c = search slice-told
 
 pub slice-spec : {M : Type 1} → statement M
-slice-spec = tie.close (tie.spec slice-aggregate-slice slice-requires returns)
+slice-spec = tie.close (tie.spec slice-aggregate-show show-requires advance-requires returns)

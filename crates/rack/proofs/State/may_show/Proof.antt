@@ -1,12 +1,12 @@
--- `rack::State::may_slice` meets its contract.
+-- `rack::State::may_show` meets its contract.
 -- Assumes nothing.
 use Rattle.laws.specs.Tests.{tests}
 use Rattle.answer.specs.Answer.Properties.{stages, opened-no, opened-on}
 use Rattle.rack.specs.Advance.{timeLeft}
-use Rattle.rack.specs.Slice.{roomFor, sliceAnswer}
+use Rattle.rack.specs.Show.{roomFor, showAnswer}
 use borrow.Author.Needs.{needs}
-use Rattle.rack.proofs.State.may_slice.Statement.{statement}
-use Rattle.rack.proofs.State.may_slice.Tie as tie
+use Rattle.rack.proofs.State.may_show.Statement.{statement}
+use Rattle.rack.proofs.State.may_show.Tie as tie
 
 check-requires : tie.Need-check-requires
 check-requires c κs = search needs
@@ -18,7 +18,7 @@ enum-told-2 : tie.Need-enum-told-2
 enum-told-2 c = search needs
 
 returns : tie.Need-returns
-unfolding sliceAnswer
+unfolding showAnswer
 returns c = search (opened-no, opened-on)
 
 cast-if1 : tie.Need-cast-if1
@@ -28,21 +28,21 @@ bare-requires : tie.Need-bare-requires
 bare-requires c κs = search needs
 
 returns-2 : tie.Need-returns-2
-unfolding sliceAnswer roomFor timeLeft
+unfolding showAnswer roomFor timeLeft
 returns-2 c = search (opened-on, stages, tests)
 
 bare-requires-2 : tie.Need-bare-requires-2
 bare-requires-2 c κs = search needs
 
 returns-3 : tie.Need-returns-3
-unfolding sliceAnswer roomFor timeLeft
+unfolding showAnswer roomFor timeLeft
 returns-3 c = search (opened-on, stages, tests)
 
 returns-4 : tie.Need-returns-4
-unfolding sliceAnswer roomFor timeLeft
+unfolding showAnswer roomFor timeLeft
 returns-4 c = search (opened-on, stages, tests)
 
-pub may-slice-spec : {M : Type 1} → statement M
-may-slice-spec =
+pub may-show-spec : {M : Type 1} → statement M
+may-show-spec =
     tie.close
     (tie.spec check-requires enum-told enum-told-2 returns cast-if1 bare-requires returns-2 bare-requires-2 returns-3 returns-4)

@@ -1,9 +1,9 @@
--- `parchbeetle::parchbeetle_slice` meets its contract.
+-- `parchbeetle::parchbeetle_advance` meets its contract.
 -- Assumes nothing.
-use Rattle.parchbeetle.specs.Exports.Properties.{slice-unfound, slice-refused, slice-stored}
+use Rattle.parchbeetle.specs.Exports.Properties.{advance-unfound, advance-refused, advance-stored}
 use borrow.Author.Needs.{needs}
-use Rattle.parchbeetle.proofs.parchbeetle_slice.Statement.{statement}
-use Rattle.parchbeetle.proofs.parchbeetle_slice.Tie as tie
+use Rattle.parchbeetle.proofs.parchbeetle_advance.Statement.{statement}
+use Rattle.parchbeetle.proofs.parchbeetle_advance.Tie as tie
 
 state-of-requires : tie.Need-state-of-requires
 state-of-requires c κs = search needs
@@ -21,10 +21,10 @@ same-length : tie.Need-same-length
 same-length c = search needs
 
 returns : tie.Need-returns
-returns c = search slice-unfound
+returns c = search advance-unfound
 
-slice-requires : tie.Need-slice-requires
-slice-requires c κs = search needs
+advance-requires : tie.Need-advance-requires
+advance-requires c κs = search needs
 
 enum-told-3 : tie.Need-enum-told-3
 enum-told-3 c = search needs
@@ -38,11 +38,8 @@ told-requires-2 c κs = search needs
 same-length-2 : tie.Need-same-length-2
 same-length-2 c = search needs
 
-same-length-3 : tie.Need-same-length-3
-same-length-3 c = search needs
-
 returns-2 : tie.Need-returns-2
-returns-2 c = search slice-refused
+returns-2 c = search advance-refused
 
 put-state-requires : tie.Need-put-state-requires
 put-state-requires c κs = search needs
@@ -50,17 +47,14 @@ put-state-requires c κs = search needs
 told-requires-3 : tie.Need-told-requires-3
 told-requires-3 c κs = search needs
 
-same-length-4 : tie.Need-same-length-4
-same-length-4 c = search needs
-
-same-length-5 : tie.Need-same-length-5
-same-length-5 c = search needs
+same-length-3 : tie.Need-same-length-3
+same-length-3 c = search needs
 
 returns-3 : tie.Need-returns-3
-returns-3 c = search slice-stored
+returns-3 c = search advance-stored
 
-pub parchbeetle-slice-spec : {M : Type 1} → statement M
-parchbeetle-slice-spec =
+pub parchbeetle-advance-spec : {M : Type 1} → statement M
+parchbeetle-advance-spec =
     tie.close
     (tie.spec
     state-of-requires
@@ -69,15 +63,13 @@ parchbeetle-slice-spec =
     told-requires
     same-length
     returns
-    slice-requires
+    advance-requires
     enum-told-3
     enum-told-4
     told-requires-2
     same-length-2
-    same-length-3
     returns-2
     put-state-requires
     told-requires-3
-    same-length-4
-    same-length-5
+    same-length-3
     returns-3)

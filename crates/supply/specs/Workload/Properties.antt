@@ -33,29 +33,30 @@ module _ (T D C t : ℕ) (some : 0 < T) where
       let high : wholeUnits T D t < t / T + 2 = div-lt-iff-lt-mul some .1 room in
       omega arith
 
-  fewer : t % T < D → workloadPart T D C t ≡ t / T * C + min C (t % T)
+  part-fewer : t % T < D → workloadPart T D C t ≡ t / T * C + min C (t % T)
   unfolding workloadPart
-  fewer l = rw (units-fewer l) (omega (arith, div-add-mod' t T))
+  part-fewer l = rw (units-fewer l) (omega (arith, div-add-mod' t T))
 
-  more : D ≤ t % T → workloadPart T D C t ≡ t / T * C + C
+  part-more : D ≤ t % T → workloadPart T D C t ≡ t / T * C + C
   unfolding workloadPart
-  more l = rw (units-more l) (omega (arith, div-add-mod' t T, mod-lt t some, suc-mul (t / T) T, suc-mul (t / T) C))
+  part-more l = rw (units-more l) (omega (arith, div-add-mod' t T, mod-lt t some, suc-mul (t / T) T, suc-mul (t / T) C))
 
--- "For C <= D <= T the value is the same": document 001's equation 5, "floor(Di/Tj)Cj + min(Cj, Di mod Tj)", at every t
+-- "For C <= D <= T the value is the same": document 001's equation 5, "floor(Di/Tj)Cj + min(Cj, Di mod Tj)", here at every t, and with
+-- no word on T, since a deadline beyond it counts as T
 pub part-by-five : (T D C t : ℕ) → C ≤ D → workloadPart T D C t ≡ t / T * C + min C (t % T)
 part-by-five T D C t l =
     elim (decLt 0 T) [
-      | yes p ↦ elim (decLt (t % T) D) [ yes q ↦ fewer T D C t p q | no q ↦ omega (arith, more T D C t p (omega arith)) ]
+      | yes p ↦ elim (decLt (t % T) D) [ yes q ↦ part-fewer T D C t p q | no q ↦ omega (arith, part-more T D C t p (omega arith)) ]
       | no p ↦ none (omega arith)
     ]
   where
     none : T ≡ 0 → workloadPart T D C t ≡ t / T * C + min C (t % T)
     none e = rw (e, div-zero t, mod-zero t, zero-mul C, part-none D C t) (omega arith)
 
--- and it is never more
-five-below : (T D C t : ℕ) → 0 < T → t / T * C + min C (t % T) ≤ workloadPart T D C t
-five-below T D C t p =
-    elim (decLt (t % T) D) [ yes q ↦ omega (arith, fewer T D C t p q) | no q ↦ omega (arith, more T D C t p (omega arith)) ]
+-- and that is never more, whatever the length
+part-no-less : (T D C t : ℕ) → 0 < T → t / T * C + min C (t % T) ≤ workloadPart T D C t
+part-no-less T D C t p =
+    elim (decLt (t % T) D) [ yes q ↦ omega (arith, part-fewer T D C t p q) | no q ↦ omega (arith, part-more T D C t p (omega arith)) ]
 
 -- ---- what it bounds
 
@@ -69,7 +70,7 @@ part-covers T D C z y some l =
     let n = (z - y) / T in
     let room : n * T ≤ z - y = div-mul-le-self (z - y) T in
     let most : n ≤ z / T = le-div-iff-mul-le some .1 (omega arith) in
-    let five = five-below T D C z some in
+    let five = part-no-less T D C z some in
     elim (decLt n (z / T)) [ yes q ↦ omega (arith, suc-mul n C, mul-le-mul-right C q) | no q ↦ omega (arith, same (omega arith)) ]
   where
     same : (z - y) / T ≡ z / T → min C y + (z - y) / T * C ≤ z / T * C + min C (z % T)

@@ -157,7 +157,7 @@ is-four = ap (λ (r : Smallest). r .budget) (figures .four)
 
 -- project 1's five cells, from cell 3 on as they are laid
 pub from-three : supply 4 (heldFrom 3 5 4) 2 3 ≡ 3
-from-three = first-cell-moved 3 0 5 4 2 3 ∙ figures .from-none
+from-three = omega (arith, first-cell-moved 3 0 5 4 2 3, figures .from-none)
 
 -- kind 1 fits at 1 with 4 cells, and so with 5
 fits-four : FitsWith planA 1 4 1 1

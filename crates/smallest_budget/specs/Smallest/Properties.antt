@@ -139,22 +139,17 @@ module _ (p : Plan) (j : ℕ) where
       let next = servedAtMost p j andThen sumFits p j in
       f ∙ ap (smallestWith p j) (opened-on a (checkedOpen p j) next next e q refl)
 
-  module _ (most : ℕ) (m : most ≡ mostBudget p j) (a : Answer) (q : a ≡ servedWith p j most) where
-    at-most : a ≡ servedAtMost p j
-    at-most = q ∙ ap (servedWith p j) m
-
+  module _ (a : Answer) (q : a ≡ servedAtMost p j) where
     -- 8
-    pub eight : (w : Refusal) → a ≡ No w →
-        record { answer = a; budget = 0 } ≡ smallestWith p j (servedAtMost p j andThen sumFits p j)
-    eight w e = answered-no a _ w e (opened-no a (servedAtMost p j) (sumFits p j) w e at-most)
+    pub eight : (w : Refusal) → a ≡ No w → record { answer = a; budget = 0 } ≡ smallestWith p j (servedAtMost p j andThen sumFits p j)
+    eight w e = answered-no a _ w e (opened-no a (servedAtMost p j) (sumFits p j) w e q)
 
     module _ (e : a ≡ Good) (b : ℕ) (f : b ≡ leastBudget p j) (s : Answer) (g : s ≡ budgetsFit (withBudget p j b)) where
       summed : s ≡ (servedAtMost p j andThen sumFits p j)
-      summed = opened-on a (servedAtMost p j) (sumFits p j) s e at-most (g ∙ ap (λ (n : ℕ). budgetsFit (withBudget p j n)) f)
+      summed = opened-on a (servedAtMost p j) (sumFits p j) s e q (g ∙ ap (λ (n : ℕ). budgetsFit (withBudget p j n)) f)
 
       -- 7
-      pub seven : (w : Refusal) → s ≡ No w →
-          record { answer = s; budget = 0 } ≡ smallestWith p j (servedAtMost p j andThen sumFits p j)
+      pub seven : (w : Refusal) → s ≡ No w → record { answer = s; budget = 0 } ≡ smallestWith p j (servedAtMost p j andThen sumFits p j)
       seven w h = answered-no s _ w h summed
 
       pub found : s ≡ Good → record { answer = s; budget = b } ≡ smallestWith p j (servedAtMost p j andThen sumFits p j)

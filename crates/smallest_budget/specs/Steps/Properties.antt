@@ -13,8 +13,13 @@ use borrow.Author.Tests.{lt-ltb, le-ltb}
 use Rattle.laws.specs.Written.{written}
 use Rattle.laws.specs.Written.Properties.{written-again, written-at}
 use Rattle.plan.specs.declared.Plan.{Plan}
-use Rattle.plan.specs.Order.{projectOf, kindOf}
-use Rattle.plan.specs.Open.{InOrderOpen}
+use Rattle.answer.specs.declared.Answer.{Answer}
+use Rattle.answer.specs.declared.Answer.the-variants.{Good}
+use Rattle.answer.specs.Answer.{notAdmitted, eachTo}
+use Rattle.answer.specs.Answer.Properties.{each-more}
+use Rattle.plan.specs.Order.{projectOf, kindOf, budgetsFit, checked}
+use Rattle.plan.specs.Open.{withBudget, checkedOpen, InOrderOpen}
+use Rattle.plan.specs.Open.Properties.{open-opened, with-checked}
 use Rattle.layout.specs.Cards.{cardsBelow, heldFrom}
 use Rattle.layout.specs.Cards.Properties.{below-start, below-frames, below-cell, past-cell, below-part, run-closed, run-ceiling}
 use Rattle.layout.specs.Layout.{cellAt, firstCell}
@@ -24,10 +29,21 @@ use Rattle.supply.specs.Fit.Properties.{fit-framed, excess-most}
 use Rattle.workload.specs.Workload.{workload}
 use Rattle.workload.specs.Workload.Properties.{workload-most}
 use Rattle.smallest_budget.specs.Rotation.{width-anywhere, excess-anywhere}
-use Rattle.smallest_budget.specs.Smallest.{widthWith, excessWith, mostBudget}
+use Rattle.smallest_budget.specs.Smallest.{widthWith, excessWith, mostBudget, leastBudget, fittedWith, servedAtMost}
+use Rattle.smallest_budget.specs.Smallest.Properties.{kind-lacks, kind-fits, least-most, least-some}
 use Rattle.smallest_budget.specs.Steps.{cardsWith, workloadsOf, fitWith}
 
 -- ---- the cards of a budget from cell 0 on
+
+pub more-yes : (w : ℕ) (t : Bool) → t ≡ true → w + 1 ≡ w + cond t 1 0
+more-yes w t e = rw e
+
+pub more-no : (w : ℕ) (t : Bool) → t ≡ false → w ≡ w + cond t 1 0
+more-no w t e = rw e (omega arith)
+
+pub more-most : (w v : ℕ) (t : Bool) → w ≤ 8 → v ≡ w + cond t 1 0 → v < 256
+more-most w v true l e = omega arith
+more-most w v false l e = omega arith
 
 module _ (b F s : ℕ) (l : s < F) where
   -- the rest of less than a frame: one card at each of its first slices
@@ -64,13 +80,26 @@ module _ (b F s : ℕ) (l : s < F) where
 pub whole-most : (b F w : ℕ) → 0 < F → b ≤ 8 * F → w ≡ b / F → w ≤ 8
 whole-most b F w some l e = let h : b / F < 9 = div-lt-iff-lt-mul {k = F} {x = b} {y = 9} some .1 (omega arith) in omega arith
 
+-- a project of a plan in order has a place
+pub project-fits : (p : Plan) (j : ℕ) (a : Answer) → a ≡ Good → a ≡ checkedOpen p j → j < 256
+project-fits p j a e q = let o = open-opened p j a e q in omega (arith, o .its-place, o .counts .projects-most)
+
 -- ---- a plan in order but for one budget
 
 module _ (p : Plan) (j : ℕ) (o : InOrderOpen p j) where
   pub some-frame : 0 < p .frame
   some-frame = o .counts .some-slice
 
-  pub most-eight : mostBudget p j ≤ 8 * p .frame
+  pub frame-room : p .frame ≤ 64
+  frame-room = o .counts .frame-most
+
+  pub kinds-room : p .kinds ≤ 16
+  kinds-room = o .counts .kinds-most
+
+  pub project-place : j < 8
+  project-place = omega (arith, o .its-place, o .counts .projects-most)
+
+  most-eight : mostBudget p j ≤ 8 * p .frame
   most-eight =
       omega (
         arith,
@@ -78,8 +107,39 @@ module _ (p : Plan) (j : ℕ) (o : InOrderOpen p j) where
         mul-le-mul-right (p .frame) (o .counts .cards-most),
       )
 
+  pub budget-room : (b : ℕ) → b ≤ mostBudget p j → b ≤ 8 * p .frame
+  budget-room b l = omega (arith, l, most-eight)
+
   pub most-some : 0 < mostBudget p j
   most-some = omega (arith, mul-le-mul (o .some-ceiling j (o .its-place)) (o .counts .some-slice))
+
+  -- the most that a frame of 64 slices and 8 cards has
+  pub most-room : (most : ℕ) → most ≡ mostBudget p j → most ≤ 512
+  most-room most e = omega (arith, e, most-eight, o .counts .frame-most)
+
+  pub most-above : (most : ℕ) → most ≡ mostBudget p j → 0 < most
+  most-above most e = omega (arith, e, most-some)
+
+  -- half way is not above it
+  pub middle-room : (most below enough : ℕ) → most ≡ mostBudget p j → below < enough → enough ≤ most → (below + enough) / 2 ≤ mostBudget p j
+  middle-room most below enough e l m = omega arith
+
+  pub ceiling-fits : projectOf p j .ceiling < 65536
+  ceiling-fits = omega (arith, o .ceiling-most j (o .its-place), o .counts .cards-most)
+
+  pub most-fits : mostBudget p j < 65536
+  most-fits = omega (arith, most-room (mostBudget p j) refl)
+
+  -- the least budget, where the most serves
+  pub found-some : (b : ℕ) (a : Answer) → a ≡ Good → a ≡ servedAtMost p j → b ≡ leastBudget p j → 0 < b
+  found-some b a e q f = omega (arith, f, least-some p j most-some (sym q ∙ e))
+
+  pub found-room : (b : ℕ) → b ≡ leastBudget p j → b ≤ mostBudget p j
+  found-room b f = omega (arith, f, least-most p j)
+
+  -- the plan with a budget written in that serves
+  pub filled-is : (b : ℕ) (a : Answer) → 0 < b → b ≤ mostBudget p j → a ≡ checked (withBudget p j b) → a ≡ budgetsFit (withBudget p j b)
+  filled-is b a l m e = e ∙ with-checked p j o b l m
 
   cards-held : (b : ℕ) → heldAt (p .frame) (cardsWith b (p .frame)) ≡ heldFrom 0 b (p .frame)
   unfolding heldAt cardsWith heldFrom
@@ -88,33 +148,16 @@ module _ (p : Plan) (j : ℕ) (o : InOrderOpen p j) where
       (omega (arith, length-replicate {A = ℕ} 64 0, o .counts .frame-most)) ∙ rw (mod-mod s (p .frame)))
 
   module _ (i : ℕ) (l : i < p .kinds) where
-    pub workload-room : (w : ℕ) → w ≡ workload p i → w ≤ 65520
+    pub workload-room : (w : ℕ) → w ≡ workload p i → w < 4294967296
     workload-room w e = omega (arith, e, workload-most p (o .counts .kinds-most) (o .kind-at) i l)
 
-    pub workload-at : (works : List ℕ) (w : ℕ) → works ≡ workloadsOf p → w ≡ getD works i 0 → w ≡ workload p i
+    workload-at : (works : List ℕ) → works ≡ workloadsOf p → getD works i 0 ≡ workload p i
     unfolding workloadsOf
-    workload-at works w e q =
-        q ∙ rw e (written-at (p .kinds) (workload p) (replicate 16 0) 0 i l
+    workload-at works e =
+        rw e (written-at (p .kinds) (workload p) (replicate 16 0) 0 i l
         (omega (arith, length-replicate {A = ℕ} 16 0, o .counts .kinds-most)))
 
-    pub fit-is : (b : ℕ) (cards : List ℕ) (w q : ℕ) (r : Fit) → cards ≡ cardsWith b (p .frame) → w ≡ workload p i →
-        q ≡ projectOf p j .ceiling → r ≡ fitOf (p .frame) cards q (kindOf p i .length) w (kindOf p i .deadline) → r ≡ fitWith p j b i
-    unfolding widthWith excessWith
-    fit-is b cards w q r e f g h =
-        h ∙ rw (
-          e,
-          f,
-          g,
-          fit-framed (p .frame) (cardsWith b (p .frame)) (projectOf p j .ceiling) (kindOf p i .length) (workload p i)
-              (kindOf p i .deadline) (λ z. omega (arith, o .counts .some-slice)) (o .counts .frame-most),
-          cards-held b,
-          width-anywhere 0 (firstCell p j) b (p .frame) (kindOf p i .length) (workload p i) (kindOf p i .deadline)
-              (projectOf p j .ceiling),
-          excess-anywhere 0 (firstCell p j) b (p .frame) (kindOf p i .length) (workload p i) (kindOf p i .deadline)
-              (projectOf p j .ceiling),
-        )
-
-    pub with-room : (b : ℕ) (r : Fit) → r ≡ fitWith p j b i → r .excess ≤ 4294967295
+    pub with-room : (b : ℕ) (r : Fit) → r ≡ fitWith p j b i → r .excess < 4294967296
     unfolding excessWith
     with-room b r e =
         let a = o .kind-at i l in
@@ -122,8 +165,38 @@ module _ (p : Plan) (j : ℕ) (o : InOrderOpen p j) where
           arith,
           excess-most (p .frame) (heldFrom (firstCell p j) b (p .frame)) (kindOf p i .length) (workload p i) (kindOf p i .deadline)
               (projectOf p j .ceiling) 1 (omega arith) (o .some-ceiling j (o .its-place)),
-          workload-room (workload p i) refl,
+          workload-most p (o .counts .kinds-most) (o .kind-at) i l,
           a .length-most,
           a .deadline-most,
           a .separation-most,
         ))
+
+    -- what `least_fit` found of the cards from cell 0 on is the fit on the layout as it is
+    module _ (b : ℕ) (cards works : List ℕ) (r : Fit) (c : cards ≡ cardsWith b (p .frame)) (w : works ≡ workloadsOf p)
+        (f : r ≡ fitOf (p .frame) cards (projectOf p j .ceiling) (kindOf p i .length) (getD works i 0) (kindOf p i .deadline)) where
+      fit-is : r ≡ fitWith p j b i
+      unfolding widthWith excessWith
+      fit-is =
+          f ∙ rw (
+            c,
+            workload-at works w,
+            fit-framed (p .frame) (cardsWith b (p .frame)) (projectOf p j .ceiling) (kindOf p i .length) (workload p i)
+                (kindOf p i .deadline) (λ z. omega (arith, o .counts .some-slice)) (o .counts .frame-most),
+            cards-held b,
+            width-anywhere 0 (firstCell p j) b (p .frame) (kindOf p i .length) (workload p i) (kindOf p i .deadline)
+                (projectOf p j .ceiling),
+            excess-anywhere 0 (firstCell p j) b (p .frame) (kindOf p i .length) (workload p i) (kindOf p i .deadline)
+                (projectOf p j .ceiling),
+          )
+
+      pub excess-room : r .excess < 4294967296
+      excess-room = with-room b r fit-is
+
+      pub fit-lacks : (a : Answer) → kindOf p i .project ≡ j → r .width ≡ 0 → a ≡ notAdmitted i (r .excess) → a ≡ fittedWith p j b i
+      fit-lacks a e z q =
+          q ∙ kind-lacks p j b i (r .width) (r .excess) e (ap (λ (v : Fit). v .width) fit-is) (ap (λ (v : Fit). v .excess) fit-is) z
+
+      pub served-again : kindOf p i .project ≡ j → (r .width ≡ 0 → ⊥) → Good ≡ eachTo i (fittedWith p j b) →
+          Good ≡ eachTo (i + 1) (fittedWith p j b)
+      served-again e n so =
+          each-more i (fittedWith p j b) so (kind-fits p j b i (r .width) e (ap (λ (v : Fit). v .width) fit-is) n)

@@ -1,6 +1,6 @@
 -- `verdict::fit_on` meets its contract.
 -- Assumes nothing.
-use Rattle.verdict.specs.Steps.Properties.{project-place, fit-is}
+use Rattle.verdict.specs.Steps.Properties.{project-place, workload-room, fit-is}
 use borrow.Author.Needs.{needs}
 use Rattle.verdict.proofs.fit_on.Statement.{statement}
 use Rattle.verdict.proofs.fit_on.Tie as tie
@@ -23,6 +23,9 @@ element-copy-out-ceiling c = search project-place
 workload-requires : tie.Need-workload-requires
 workload-requires c κs = search needs
 
+cast-least-fit : tie.Need-cast-least-fit
+cast-least-fit c = search workload-room
+
 least-fit-requires : tie.Need-least-fit-requires
 least-fit-requires c κs = search needs
 
@@ -39,5 +42,6 @@ fit-on-spec =
     mul-ceiling
     element-copy-out-ceiling
     workload-requires
+    cast-least-fit
     least-fit-requires
     returns)

@@ -59,6 +59,7 @@ use Rattle.demands.specs.Uses.Figures.{oneSlice, running, longer, both, 
 pub mod Figures
 pub mod Worst
 pub mod Smallest
+pub mod Five
 
 -- ---- demand 1: one outcome, and a refusal that changes nothing
 

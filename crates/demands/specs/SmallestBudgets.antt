@@ -16,7 +16,8 @@ use Rattle.verdict.specs.Admission.{Fits}
 use Rattle.smallest_budget.specs.Smallest.{mostBudget, smallestOf}
 use Rattle.smallest_budget.specs.Rotation.{supply-anywhere}
 use Rattle.demands.specs.OpenBudget.{FitsWith, Serves, Least, NotServed}
-use Rattle.demands.specs.OpenBudget.Written.{fits-more, written-more, others-kept, stored-unread, alike-but-open}
+use Rattle.demands.specs.OpenBudget.Written.{written-fits, fits-written, fits-more, written-more, others-kept}
+use Rattle.demands.specs.OpenBudget.Written.{stored-unread, alike-but-open}
 use Rattle.demands.specs.OpenBudget.Exactly.{given-says, given-of, seven-says, seven-of, none-says, none-of, eight-says, eight-of}
 use Rattle.demands.specs.OpenBudget.Exactly.{absent-says, absent-of}
 use Rattle.demands.specs.OpenBudget.Believed.{given-in-order, given-fits, given-least, given-admitted}
@@ -32,7 +33,15 @@ first-cell-moved = supply-anywhere
 pub greater-budget : (p : Plan) (j small large i k : ℕ) → small ≤ large → FitsWith p j small i k → FitsWith p j large i k
 greater-budget = fits-more
 
--- and so on the layout of the plan with the budget written in, for every kind
+-- with a budget that leaves the plan in order, that is whether the kind fits on the plan with it written in, as it is really laid out
+pub as-laid-out : (p : Plan) (j b i k : ℕ) →
+    InOrder (withBudget p j b) →
+    i < p .kinds →
+    kindOf p i .project ≡ j →
+    (FitsWith p j b i k) ↔ (Fits (withBudget p j b) i k)
+as-laid-out p j b i k o l own = (written-fits p j b i k o l own, fits-written p j b i k o l own)
+
+-- and there a greater one takes no fit away from any kind, its own or another project's
 pub greater-written : (p : Plan) (j small large i k : ℕ) → small ≤ large →
     InOrder (withBudget p j small) →
     InOrder (withBudget p j large) →
@@ -98,7 +107,7 @@ module _ (p : Plan) (j : ℕ) (good : smallestOf p j .answer ≡ Good) where
       (judged q .answer ≡ Good) ↔ ((i : ℕ) → i < p .kinds → kindOf p i .project ≢ j → (k : ℕ) × Fits q i k)
   admitted-with-others = given-admitted p j good
 
--- which does not depend on the open budget, whatever it is
+-- and whether those fit does not depend on the open budget, whatever it is
 pub others-unmoved : (p : Plan) (j b c i k : ℕ) →
     InOrder (withBudget p j b) →
     InOrder (withBudget p j c) →
@@ -110,6 +119,7 @@ others-unmoved = others-kept
 
 -- ---- 5. The stored open budget has no say
 
+-- whatever it is, in range or not (a place at or beyond p is no project's: 3 looks at it, and then comes 27)
 pub stored-no-say : (p : Plan) (j b : ℕ) → j < p .projects → smallestOf (withBudget p j b) j ≡ smallestOf p j
 stored-no-say = stored-unread
 

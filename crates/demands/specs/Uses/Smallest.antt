@@ -39,9 +39,10 @@ use Rattle.smallest_budget.specs.Smallest.{widthWith, excessWith, serves, least
 use Rattle.demands.specs.Outcomes.{finding, finding-refused}
 use Rattle.demands.specs.Numbers.{check-open-numbers, smallest-numbers}
 use Rattle.demands.specs.OpenBudget.{givenWith, FitsWith, Serves, Least, NotServed}
-use Rattle.demands.specs.SmallestBudgets.{first-cell-moved, greater-budget, greater-written, given-when, no-project-when}
-use Rattle.demands.specs.SmallestBudgets.{none-serves-when, not-served-when, too-large-when, written-in-order, all-fit}
-use Rattle.demands.specs.SmallestBudgets.{none-smaller, admitted-with-others, others-unmoved, stored-no-say, differ-there-alone}
+use Rattle.demands.specs.SmallestBudgets.{first-cell-moved, greater-budget, as-laid-out, greater-written, given-when}
+use Rattle.demands.specs.SmallestBudgets.{no-project-when, none-serves-when, not-served-when, too-large-when}
+use Rattle.demands.specs.SmallestBudgets.{written-in-order, all-fit, none-smaller, admitted-with-others}
+use Rattle.demands.specs.SmallestBudgets.{others-unmoved, stored-no-say, differ-there-alone}
 
 -- ---- the plans
 
@@ -82,6 +83,7 @@ record Figures : Type 0 where
   order-A : checked planA ≡ Good
   order-four : checked (withBudget planA 1 4) ≡ Good
   order-one : checked (withBudget planA 0 1) ≡ Good
+  asked-laid : asked (withBudget planA 1 4) 1 1 ≡ 4
   room-four : asked (withBudget planA 1 4) 1 1 ≤ given (withBudget planA 1 4) 1 1
   room-one : asked (withBudget planA 0 1) 1 1 ≤ given (withBudget planA 0 1) 1 1
   room-other : asked (withBudget planA 1 4) 0 1 ≤ given (withBudget planA 1 4) 0 1
@@ -116,6 +118,7 @@ figures = record {
   order-A = refl;
   order-four = refl;
   order-one = refl;
+  asked-laid = refl;
   room-four = omega arith;
   room-one = omega arith;
   room-other = omega arith;
@@ -166,14 +169,29 @@ fits-four = record {
   room = omega (arith, figures .asked-four, figures .given-four);
 }
 
+laid-four : Fits (withBudget planA 1 4) 1 1
+laid-four = record { width = record { some = omega arith; most = omega arith }; room = figures .room-four }
+
 pub four-of-five : 4 ≤ givenWith planA 1 5 1 1
 four-of-five = omega (arith, greater-budget planA 1 4 5 1 1 (omega arith) fits-four .room, figures .asked-four)
+
+-- with 4 written in, on the layout, and back
+pub four-laid-out : 4 ≤ given (withBudget planA 1 4) 1 1
+four-laid-out =
+    let o = in-order (withBudget planA 1 4) (figures .order-four) in
+    omega (arith, as-laid-out planA 1 4 1 1 o (omega arith) refl .0 fits-four .room, figures .asked-laid)
+
+pub four-anywhere : 4 ≤ givenWith planA 1 4 1 1
+four-anywhere =
+    let o = in-order (withBudget planA 1 4) (figures .order-four) in
+    let f = as-laid-out planA 1 4 1 1 o (omega arith) refl .1 laid-four in
+    omega (arith, f .room, figures .asked-four)
 
 pub fits-five : Fits planA 1 1
 fits-five =
     greater-written planA 1 4 5 1 1 (omega arith) (in-order (withBudget planA 1 4) (figures .order-four))
     (in-order planA (figures .order-A)) (omega arith)
-    (record { width = record { some = omega arith; most = omega arith }; room = figures .room-four })
+    laid-four
 
 -- ---- the least
 

@@ -1,10 +1,12 @@
 -- What the steps of finding the least budget hand on. No statement to a caller cites these.
 -- Assumes nothing.
+use mathlib.Core.Path.{_≡_}
 use Prim.Native.Nat.{ℕ}
 use mathlib.Core.List.{List}
 use lib.ListN.{replicate}
 use Rattle.laws.specs.Written.{written}
 use Rattle.plan.specs.declared.Plan.{Plan}
+use Rattle.plan.specs.Open.{InOrderOpen}
 use Rattle.layout.specs.Cards.{heldFrom}
 use Rattle.supply.specs.declared.Fit.{Fit}
 use Rattle.workload.specs.Workload.{workload}
@@ -18,6 +20,10 @@ cardsWith budget frame = written frame (heldFrom 0 budget frame) (replicate 64 0
 -- the workload of each kind
 unfoldable pub workloadsOf : Plan → List ℕ
 workloadsOf p = written (p .kinds) (workload p) (replicate 16 0)
+
+-- what a judgement is handed: a plan in order but for project j's budget, and the workload of each kind
+abbrev pub Known : Plan → ℕ → List ℕ → Type 0
+Known p j workloads = InOrderOpen p j × (workloads ≡ workloadsOf p)
 
 -- the k and the excess of kind i with a budget of b
 abbrev pub fitWith : Plan → ℕ → ℕ → ℕ → Fit

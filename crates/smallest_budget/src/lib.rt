@@ -11,8 +11,9 @@ ghost use Rattle.answer.specs.declared.Answer.the-variants.{Good};
 ghost use Rattle.answer.specs.Answer.{_andThen_};
 ghost use Rattle.plan.specs.Order.{budgetsFit};
 ghost use Rattle.plan.specs.Open.{withBudget, InOrderOpen};
-ghost use Rattle.smallest_budget.specs.Smallest.{mostBudget, servedWith, leastBudget, servedAtMost, sumFits, smallestWith, smallestOf};
-ghost use Rattle.smallest_budget.specs.Steps.{cardsWith, workloadsOf};
+ghost use Rattle.smallest_budget.specs.Smallest.{mostBudget, servedWith, leastBudget, servedAtMost, sumFits};
+ghost use Rattle.smallest_budget.specs.Smallest.{smallestWith, smallestOf};
+ghost use Rattle.smallest_budget.specs.Steps.{cardsWith, workloadsOf, Known};
 use answer::Answer;
 use plan::Plan;
 
@@ -61,7 +62,7 @@ fn workloads(plan: Plan, project: u8) -> [u32; Plan::KINDS]
 
 // 8 at the first of the project's kinds that has no k with this budget.
 fn served_with(plan: Plan, project: u8, workloads: &[u32; Plan::KINDS], budget: u16) -> Answer
-    requires { ⌜ (InOrderOpen plan project) × (now workloads ≡ workloadsOf plan) × (budget ≤ mostBudget plan project) ⌝ }
+    requires { ⌜ (Known plan project (now workloads)) × (budget ≤ mostBudget plan project) ⌝ }
     ensures { λ r. ⌜ r ≡ servedWith plan project budget ⌝ }
 {
     let cards = cards_with(budget, plan.frame);
@@ -89,7 +90,7 @@ fn served_with(plan: Plan, project: u8, workloads: &[u32; Plan::KINDS], budget: 
 // The least budget that serves, where the most does: of a budget that does not serve and a greater
 // one that does, one of the two comes half way to the other.
 fn least_budget(plan: Plan, project: u8, workloads: &[u32; Plan::KINDS], most: u16) -> u16
-    requires { ⌜ (InOrderOpen plan project) × (now workloads ≡ workloadsOf plan) × (most ≡ mostBudget plan project) × (servedWith plan project most ≡ Good) ⌝ }
+    requires { ⌜ (Known plan project (now workloads)) × (most ≡ mostBudget plan project) × (servedWith plan project most ≡ Good) ⌝ }
     ensures { λ r. ⌜ r ≡ leastBudget plan project ⌝ }
 {
     let mut below: u16 = 0;

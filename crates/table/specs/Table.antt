@@ -1,4 +1,4 @@
--- Document 01, "Plan A, plan B and the numbers they give": the table P1 to P11 as one claim; and document 02 (i) on the same plans, S1 to S8.
+-- Document 01, "Plan A, plan B and the numbers they give": the table P1 to P11 as one claim; and document 02 (i) on these plans, S1 to S8.
 -- Assumes nothing.
 use mathlib.Core.Path.{_≡_}
 use mathlib.Core.List.{List, [], _∷_, map}

@@ -1,4 +1,5 @@
--- Laws of the record order with one budget open: what a good answer says, that nothing less is asked, and the plan with a budget written in.
+-- Laws of the record order with one budget open: what a good answer says, and that nothing less is asked; and of the plan with a budget
+-- written in.
 -- Assumes nothing.
 use mathlib.Core.Path.{_≡_, refl, sym, ap, _∙_}
 use mathlib.Core.Logic.{_≢_}
@@ -19,7 +20,8 @@ use Rattle.answer.specs.declared.Answer.the-variants.{Good}
 use Rattle.answer.specs.Answer.{_andThen_}
 use Rattle.answer.specs.Answer.Properties.{andThen-left, andThen-right, refuse-good, each-at, each-of}
 use Rattle.plan.specs.Record.{noProject}
-use Rattle.plan.specs.Order.{Sized, ProjectInRange, KindInRange, InOrder, within, emptyProject, tidyProject, tidyKind, tidyProjects, tidyKinds}
+use Rattle.plan.specs.Order.{Sized, ProjectInRange, KindInRange, InOrder, within, emptyProject, tidyProject, tidyKind}
+use Rattle.plan.specs.Order.{tidyProjects, tidyKinds}
 use Rattle.plan.specs.Order.{budgets, projectOf, kindOf, sizes, unused, projectInRange, projectsInRange, kindInRangeAt, kindsInRange}
 use Rattle.plan.specs.Order.{budgetsFit, ranges, checked}
 use Rattle.plan.specs.Order.Properties.{within-low, within-high, within-of, sizes-says, sizes-of, project-of, kind-says, kind-of}
@@ -52,7 +54,8 @@ module _ (p : Plan) (j : ℕ) where
       (not-false (inRangeOpen p j i) (refuse-good (not (inRangeOpen p j i)) _ e))
 
   -- and so is every other's budget
-  budget-says : (i : ℕ) → i ≢ j → projectInRangeOpen p j i ≡ Good → within (projectOf p i .ceiling * p .frame) (projectOf p i .budget) ≡ true
+  budget-says : (i : ℕ) → i ≢ j → projectInRangeOpen p j i ≡ Good →
+      within (projectOf p i .ceiling * p .frame) (projectOf p i .budget) ≡ true
   unfolding inRangeOpen
   budget-says i n e =
       let v = projectOf p i in

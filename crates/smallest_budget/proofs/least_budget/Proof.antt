@@ -30,7 +30,7 @@ add-middle : tie.Need-add-middle Inv-loop μ-loop
 add-middle c = search needs
 
 served-with-requires : tie.Need-served-with-requires Inv-loop μ-loop
-served-with-requires c κs = (search needs, search needs, search middle-room)
+served-with-requires c κs = ((search needs, search needs), search middle-room)
 
 enum-told : tie.Need-enum-told Inv-loop μ-loop
 enum-told c = search needs

@@ -82,15 +82,16 @@ loop-less-2 c = search needs
 
 loop-again-2 : tie.Need-loop-again-2 Inv-loop μ-loop
 loop-again-2 c =
-    let laid = c .before .before .before .before .before .before .before .before .before in
+    let here = c .before .before .before .before .before .before .before .before in
+    let laid = here .before in
     let given = laid .before .args in
     let found = c .before .before .least-fit .result in
     let some : found .width ≡ 0 → ⊥ = search in (
       omega arith,
       search,
       search,
-      served-again (given .t1) (given .project) (search) (c .before .before .before .before .before .before .before .before .loop .i) (search) (given .budget) (laid .cards-with .result) (now (given .workloads))
-          found (search) (search) (search) (search) some (search),
+      served-again (given .t1) (given .project) (search) (here .loop .i) (search) (given .budget) (laid .cards-with .result)
+          (now (given .workloads)) found (search) (search) (search) (search) some (search),
     )
 
 returns-2 : tie.Need-returns-2 Inv-loop μ-loop

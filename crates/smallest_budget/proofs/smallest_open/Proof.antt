@@ -39,7 +39,7 @@ returns : tie.Need-returns
 returns c = search eight
 
 least-budget-requires : tie.Need-least-budget-requires
-least-budget-requires c κs = (search needs, search needs, refl, search opened-is)
+least-budget-requires c κs = ((search needs, search needs), refl, search opened-is)
 
 sum-fits-requires : tie.Need-sum-fits-requires
 sum-fits-requires c κs = (search needs, search found-some, search found-room)

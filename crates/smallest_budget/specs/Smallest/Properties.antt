@@ -114,7 +114,7 @@ module _ (p : Plan) (j : ℕ) where
 pub found-most : (p : Plan) (j : ℕ) → smallestOf p j .answer ≡ Good → smallestOf p j .budget ≤ 512
 unfolding smallestOf smallestAnswer
 found-most p j e =
-    let o = open-order p j (andThen-left (checkedOpen p j) (servedAtMost p j andThen sumFits p j) e) in
+    let o = open-order p j (andThen-left (checkedOpen p j) _ e) in
     let q : projectOf p j .ceiling ≤ 8 = omega (arith, o .ceiling-most j (o .its-place), o .counts .cards-most) in
     rw e (omega (arith, least-most p j, mul-le-mul q (o .counts .frame-most)))
 
@@ -130,7 +130,7 @@ module _ (p : Plan) (j : ℕ) where
   -- 2 to 6 and 27
   pub order-refused : (a : Answer) (w : Refusal) → a ≡ No w → a ≡ checkedOpen p j → record { answer = a; budget = 0 } ≡ smallestOf p j
   unfolding smallestOf smallestAnswer
-  order-refused a w e q = answered-no a _ w e (opened-no a (checkedOpen p j) (servedAtMost p j andThen sumFits p j) w e q)
+  order-refused a w e q = answered-no a _ w e (opened-no a (checkedOpen p j) _ w e q)
 
   pub order-passed : (a : Answer) (v : Smallest) → a ≡ Good → a ≡ checkedOpen p j →
       v ≡ smallestWith p j (servedAtMost p j andThen sumFits p j) → v ≡ smallestOf p j

@@ -12,34 +12,38 @@ use Rattle.supply.specs.Workload.{wholeUnits, workloadPart}
 -- ---- the two equations
 
 -- a separation of 0 has no whole units
-pub part-none : (D C t : ℕ) → workloadPart 0 D C t ≡ min C t
+part-none : (D C t : ℕ) → workloadPart 0 D C t ≡ min C t
 unfolding workloadPart
-part-none D C t = rw (div-zero (t + (0 - D)), zero-mul C) (omega arith)
+part-none D C t = rw (div-zero _, zero-mul C) (omega arith)
 
 module _ (T D C t : ℕ) (some : 0 < T) where
+  whole : t / T * T + t % T ≡ t
+  whole = div-add-mod' t T
+
+  rest : t % T < T
+  rest = mod-lt t some
+
   -- the last unit is whole exactly where the time after the others has room for its deadline
   units-fewer : t % T < D → wholeUnits T D t ≡ t / T
   units-fewer l =
-      let low : t / T ≤ wholeUnits T D t = le-div-iff-mul-le some .1 (omega (arith, div-mul-le-self t T)) in
-      let room : t + (T - D) < (t / T + 1) * T = omega (arith, div-add-mod' t T, mod-lt t some, suc-mul (t / T) T) in
-      let high : wholeUnits T D t < t / T + 1 = div-lt-iff-lt-mul some .1 room in
+      let low : t / T ≤ wholeUnits T D t = le-div-iff-mul-le some .1 (omega (arith, whole)) in
+      let high : wholeUnits T D t < t / T + 1 = div-lt-iff-lt-mul some .1 (omega (arith, whole, rest, suc-mul (t / T) T)) in
       omega arith
 
   units-more : D ≤ t % T → wholeUnits T D t ≡ t / T + 1
   units-more l =
       let next = suc-mul (t / T) T in
-      let low : t / T + 1 ≤ wholeUnits T D t = le-div-iff-mul-le some .1 (omega (arith, div-add-mod' t T)) in
-      let room : t + (T - D) < (t / T + 2) * T = omega (arith, div-add-mod' t T, mod-lt t some, suc-mul (t / T + 1) T) in
-      let high : wholeUnits T D t < t / T + 2 = div-lt-iff-lt-mul some .1 room in
+      let low : t / T + 1 ≤ wholeUnits T D t = le-div-iff-mul-le some .1 (omega (arith, whole)) in
+      let high : wholeUnits T D t < t / T + 2 = div-lt-iff-lt-mul some .1 (omega (arith, whole, rest, suc-mul (t / T + 1) T)) in
       omega arith
 
   part-fewer : t % T < D → workloadPart T D C t ≡ t / T * C + min C (t % T)
   unfolding workloadPart
-  part-fewer l = rw (units-fewer l) (omega (arith, div-add-mod' t T))
+  part-fewer l = rw (units-fewer l) (omega (arith, whole))
 
   part-more : D ≤ t % T → workloadPart T D C t ≡ t / T * C + C
   unfolding workloadPart
-  part-more l = rw (units-more l) (omega (arith, div-add-mod' t T, mod-lt t some, suc-mul (t / T) T, suc-mul (t / T) C))
+  part-more l = rw (units-more l) (omega (arith, whole, rest, suc-mul (t / T) T, suc-mul (t / T) C))
 
 -- "For C <= D <= T the value is the same": document 001's equation 5, "floor(Di/Tj)Cj + min(Cj, Di mod Tj)", here at every t, and with
 -- no word on T, since a deadline beyond it counts as T

@@ -16,7 +16,9 @@ div-result : tie.Need-div-result
 div-result c = search needs
 
 returns : tie.Need-returns
-returns c = let first = c .before .args in units-of (first .separation) (first .deadline) (first .t) _ (omega arith) (omega arith) (search needs)
+returns c =
+    let first = c .before .args in
+    units-of (first .separation) (first .deadline) (first .t) _ (omega arith) (omega arith) (search needs)
 
 pub whole-units-spec : {M : Type 1} → statement M
 whole-units-spec = tie.close (tie.spec above-requires add-result div-result returns)

@@ -54,7 +54,8 @@ pub enum Fixed {
     Released(Plan, usize, u8),
 }
 
-/// Each refusal at each place, each boundary of a budget left open, each length of each buffer, each released byte, and all plans and states of a small size.
+/// Each refusal at each place, each boundary of a budget left open, each length of each buffer, each released byte, and all plans and
+/// states of a small size.
 pub fn fixed() -> Vec<Fixed> {
     let plans = fixed_plan_records().into_iter().chain(small_plans());
     let states = fixed_state_records().into_iter().chain(small_states());

@@ -5,20 +5,33 @@ use crate::layout::h;
 use crate::plan::{check, Plan};
 use crate::supply::supply_and_slice;
 
-/// W, "the sum over every other kind j of the same project of floor(Di/Tj)Cj + min(Cj, Di mod Tj)".
+/// Document 000's equation 3, with the separation T, deadline D and length C of a kind: "floor((t + (T - D))/T)C + CI(t), where
+/// CI(t) = min{C, max{0, t - floor((t + (T - D))/T)T}}".
+pub fn part(separation: u64, deadline: u64, length: u64, t: u64) -> u64 {
+    // Outside C <= D <= T, which only an unchecked plan has, a deadline beyond the separation counts as the separation, and a
+    // separation of 0 has no whole units.
+    let n = (t + separation.saturating_sub(deadline))
+        .checked_div(separation)
+        .unwrap_or(0);
+    let carry_in = length.min(t.saturating_sub(n * separation));
+    n * length + carry_in
+}
+
+/// W, "the sum over every other kind j of the same project" of "each kind's part of W by that equation, with t the judged kind's
+/// deadline".
 pub fn workload(plan: &Plan, i: usize) -> u64 {
     let kinds = plan.used_kinds();
     let Some(kind) = kinds.get(i) else { return 0 };
-    let d = u64::from(kind.deadline);
+    let t = u64::from(kind.deadline);
     let mut w = 0u64;
     for (j, other) in kinds.iter().enumerate() {
         if j != i && other.project == kind.project {
-            let t = u64::from(other.separation);
-            let c = u64::from(other.length);
-            // A separation of 0 is only met outside a checked plan; it then adds nothing.
-            let whole = d.checked_div(t).unwrap_or(0);
-            let cut_off = d.checked_rem(t).unwrap_or(0);
-            w += whole * c + c.min(cut_off);
+            w += part(
+                u64::from(other.separation),
+                u64::from(other.deadline),
+                u64::from(other.length),
+                t,
+            );
         }
     }
     w

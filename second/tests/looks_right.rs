@@ -76,7 +76,8 @@ fn not_only_k_equal_q_counts() {
 
 #[test]
 fn the_cut_off_unit_is_in_w() {
-    // floor(3/4)*2 is 0, and the cut-off unit adds min(2, 3) = 2.
+    // By equation 5, floor(3/4)*2 is 0, and the cut-off unit adds min(2, 3) = 2; by equation 3, floor((3 + 2)/4)*2 is 2, and no
+    // unit is carried in.
     let plan = Plan::of(1, 1, &[(1, 1)], &[(0, 10, 3, 2), (0, 4, 2, 2)]);
     assert_eq!(workload(&plan, 0), 2);
     assert_eq!(verdict(&plan).0, short_by_one(0));
@@ -88,7 +89,7 @@ fn the_cut_off_unit_is_in_w() {
 
 #[test]
 fn the_kinds_own_work_is_not_in_w() {
-    // Plan A's kind 0 is alone: W is 0; its own floor(8/8)*6 + min(6, 0) would refuse it.
+    // Plan A's kind 0 is alone: W is 0; its own floor((8 + 0)/8)*6 + min(6, 0) would refuse it.
     let plan = Plan::a();
     assert_eq!(workload(&plan, 0), 0);
     assert_eq!(asked_and_supplied(&plan, 0, 1), (6, 6));

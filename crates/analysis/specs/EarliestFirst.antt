@@ -15,6 +15,6 @@ pub mod Properties
 unfoldable pub noLater : Setup → Priority
 noLater S m j i = other S i j && leb (m .until j) (m .until i)
 
--- "let W be the sum over every other kind j of the same project of floor(Di/Tj)Cj + min(Cj, Di mod Tj)", with the reach for Di
+-- "let W be the sum over every other kind j of the same project" of its part by document 000's equation 3, with t the judged kind's reach
 unfoldable pub workload : Setup → ℕ → ℕ
-workload S i = sumWhere (S .kinds) (other S i) (λ j. workloadPart (S .separation j) (S .length j) (S .reach i))
+workload S i = sumWhere (S .kinds) (other S i) (λ j. workloadPart (S .separation j) (S .deadline j) (S .length j) (S .reach i))

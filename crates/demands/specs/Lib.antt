@@ -1,7 +1,7 @@
 -- The three demands: `Outcomes` (1), `Verdicts` (2) and `Deadlines` (3) state them, the last over `Run`, `Since`, `Named` and
--- `Shown`; `SmallestBudgets`, over `OpenBudget`, states what is promised of the smallest budget; `Showing` has what showing and
--- advancing owe a host; `Sufficient` has a refused plan that runs well, and `Uses` puts every statement to work. The other modules tie
--- the theory of one project (`analysis`) to the rack.
+-- `Shown`; `SmallestBudgets`, over `OpenBudget`, states what is promised of the smallest budget, and `EquationFive`, over `AnyWorkload`,
+-- that either paper's workload gives the same; `Showing` has what showing and advancing owe a host; `Sufficient` has a refused plan that
+-- runs well, and `Uses` puts every statement to work. The other modules tie the theory of one project (`analysis`) to the rack.
 -- Assumes nothing.
 -- ---- the statements
 pub mod Run
@@ -15,6 +15,8 @@ pub mod Deadlines
 pub mod OpenBudget
 pub mod SmallestBudgets
 pub mod Showing
+pub mod AnyWorkload
+pub mod EquationFive
 pub mod Sufficient
 -- ---- the statements at work
 pub mod Uses

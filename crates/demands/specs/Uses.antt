@@ -66,6 +66,7 @@ pub mod Worst
 pub mod BadSlices
 pub mod Advice
 pub mod Smallest
+pub mod Five
 
 -- ---- demand 1: one outcome, and a refusal that changes nothing
 

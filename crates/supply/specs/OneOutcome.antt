@@ -9,8 +9,8 @@ use Rattle.supply.specs.Workload.{workloadPart}
 use Rattle.supply.specs.Fit.{fitOf}
 
 -- `workload_part`
-pub workload-part-one-outcome : (separation length deadline : ℕ) → One (λ r. r ≡ workloadPart separation length deadline)
-workload-part-one-outcome separation length deadline = is-one _
+pub workload-part-one-outcome : (separation deadline length t : ℕ) → One (λ r. r ≡ workloadPart separation deadline length t)
+workload-part-one-outcome separation deadline length t = is-one _
 
 -- `least_fit`
 pub least-fit-one-outcome : (held : List ℕ) (frame ceiling length workload deadline : ℕ) →

@@ -2,10 +2,10 @@
 // unit fits, with the bad slice to arrive in. Document 01, "Supply and verdict". Every argument is
 // answered.
 ghost use mathlib.Core.Path.{_≡_};
-ghost use Prim.Native.Nat.{_+_, _*_, _≤_, _<_, min};
+ghost use Prim.Native.Nat.{_+_, _-_, _*_, _≤_, _<_, min};
 ghost use lib.ListN.{replicate};
 ghost use Rattle.laws.specs.Written.{written};
-ghost use Rattle.supply.specs.Workload.{workloadPart};
+ghost use Rattle.supply.specs.Workload.{wholeUnits, workloadPart};
 ghost use Rattle.supply.specs.Fit.{heldAt, leastWith, shortBy, fitOf};
 
 // The least k at which a unit fits, or 0 where there is none, and then the excess. Document 01's
@@ -38,25 +38,44 @@ fn lesser(a: usize, b: usize) -> usize
 }
 
 fn product(a: usize, b: usize) -> usize
-    requires { ⌜ (a ≤ 65535) × (b ≤ 65535) ⌝ }
-    ensures { λ r. ⌜ (r ≡ a * b) × (r ≤ 4294836225) ⌝ }
+    requires { ⌜ (a ≤ 65536) × (b ≤ 65535) ⌝ }
+    ensures { λ r. ⌜ (r ≡ a * b) × (r ≤ 4294901760) ⌝ }
 {
     a * b
 }
 
-// What another kind of the same project adds to the workload.
-pub fn workload_part(separation: u16, length: u16, deadline: u16) -> u32
-    ensures { λ r. ⌜ r ≡ workloadPart separation length deadline ⌝ }
+// The difference, and 0 where it would be less.
+fn above(a: usize, b: usize) -> usize
+    ensures { λ r. ⌜ r ≡ a - b ⌝ }
+{
+    if a < b {
+        return 0;
+    }
+    a - b
+}
+
+// The whole units of another kind in t slices.
+fn whole_units(separation: usize, deadline: usize, t: usize) -> usize
+    requires { ⌜ (0 < separation) × (separation ≤ 65535) × (t ≤ 65535) ⌝ }
+    ensures { λ r. ⌜ (r ≡ wholeUnits separation deadline t) × (r ≤ 65536) ⌝ }
+{
+    (t + above(separation, deadline)) / separation
+}
+
+// What another kind of the same project adds to the workload in t slices: its whole units, and the
+// carry-in of the one before them.
+pub fn workload_part(separation: u16, deadline: u16, length: u16, t: u16) -> u32
+    ensures { λ r. ⌜ r ≡ workloadPart separation deadline length t ⌝ }
 {
     let length = length as usize;
-    let deadline = deadline as usize;
+    let t = t as usize;
     if separation == 0 {
-        return lesser(length, deadline) as u32;
+        return lesser(length, t) as u32;
     }
     let separation = separation as usize;
-    let whole = product(deadline / separation, length);
-    let cut_off = lesser(length, deadline % separation);
-    (whole + cut_off) as u32
+    let units = whole_units(separation, deadline as usize, t);
+    let carry_in = lesser(length, above(t, product(units, separation)));
+    (product(units, length) + carry_in) as u32
 }
 
 // The cards of one slice that count at this width.

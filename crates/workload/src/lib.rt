@@ -2,7 +2,9 @@
 // is answered. A place that the record does not have holds zeros, and adds nothing.
 ghost use mathlib.Core.Path.{_≡_};
 ghost use Prim.Native.Nat.{_≤_, _<_, min};
+ghost use Rattle.plan.specs.Order.{kindOf};
 ghost use Rattle.workload.specs.Workload.{workload};
+use plan::Kind;
 use plan::Plan;
 
 // A kind's part, in 64 bits.
@@ -22,14 +24,26 @@ fn places(kinds: u8) -> usize
     Plan::KINDS
 }
 
+// The kind of this number. Beyond the record's places it is all zeros.
+fn kind_at(plan: Plan, kind: usize) -> Kind
+    ensures { λ r. ⌜ r ≡ kindOf plan kind ⌝ }
+{
+    if kind < Plan::KINDS {
+        return plan.kind[kind];
+    }
+    Kind {
+        project: 0,
+        separation: 0,
+        deadline: 0,
+        length: 0,
+    }
+}
+
 // What every other kind of the same project adds up to, against this kind's deadline.
 pub fn workload(plan: Plan, kind: usize) -> u64
     ensures { λ r. ⌜ r ≡ workload plan kind ⌝ }
 {
-    if Plan::KINDS <= kind {
-        return 0;
-    }
-    let judged = plan.kind[kind];
+    let judged = kind_at(plan, kind);
     let mut sum: u64 = 0;
     for j in 0..places(plan.kinds) {
         if j == kind {
@@ -39,7 +53,12 @@ pub fn workload(plan: Plan, kind: usize) -> u64
         if other.project != judged.project {
             continue;
         }
-        sum += wide(supply::workload_part(other.separation, other.length, judged.deadline));
+        sum += wide(supply::workload_part(
+            other.separation,
+            other.deadline,
+            other.length,
+            judged.deadline,
+        ));
     }
     sum
 }

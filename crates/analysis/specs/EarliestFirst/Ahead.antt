@@ -142,19 +142,19 @@ pair-kept S before after i j p q = rw (p .until, q .left, q .until, q .wait)
 module _ (S : Setup) (m : Moment) (i j : ℕ) (timed : Timed S j)
     (running : 0 < m .left j → Running S m j) (in-time : m .left j ≤ m .until j) where
   abbrev part : ℕ
-  part = workloadPart (S .separation j) (S .length j) (m .until i)
+  part = workloadPart (S .separation j) (S .deadline j) (S .length j) (m .until i)
 
   abbrev toCome : ℕ
   toCome = S .length j * coming (S .separation j) (S .reach j) (m .until i) (m .wait j)
 
   none-left : toCome ≤ part
   none-left =
-      part-coming (S .separation j) (S .reach j) (S .length j) (m .until i) (m .wait j)
+      part-coming (S .separation j) (S .deadline j) (S .reach j) (S .length j) (m .until i) (m .wait j)
       (timed .some-length) (timed .length-fits) (omega (arith, timed .reach-fits, timed .deadline-fits))
 
   some-left : Running S m j → m .until j ≤ m .until i → m .left j + toCome ≤ part
   some-left r =
-      part-left (S .separation j) (S .reach j) (S .length j) (m .until i) (m .wait j) (m .left j) (m .until j)
+      part-left (S .separation j) (S .deadline j) (S .reach j) (S .length j) (m .until i) (m .wait j) (m .left j) (m .until j)
       (omega (arith, timed .some-length, timed .length-fits, timed .reach-fits, timed .deadline-fits)) (r .left) in-time (r .wait)
 
   pub pair-start : aheadOf S m i j ≤ part

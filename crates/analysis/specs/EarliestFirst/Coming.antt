@@ -41,16 +41,17 @@ module _ (T R t u next : ℕ) (after : next + R ≡ u + T) where
 -- ---- what a window of t slices can bring
 
 -- where l is left, due in y of them, and the next comes a separation after the last
-pub part-left : (T R C t w l y : ℕ) → 0 < T → l ≤ C → l ≤ y → w + R ≡ y + T → y ≤ t → l + C * coming T R t w ≤ workloadPart T C t
+pub part-left : (T D R C t w l y : ℕ) → 0 < T → l ≤ C → l ≤ y → w + R ≡ y + T → y ≤ t → l + C * coming T R t w ≤ workloadPart T D C t
 unfolding coming
-part-left T R C t w l y a b c d e =
+part-left T D R C t w l y a b c d e =
     let h : t + T - (w + R) ≡ t - y = omega arith in
-    rw h (omega (arith, part-covers T C t y a e, mul-comm C ((t - y) / T)))
+    rw h (omega (arith, part-covers T D C t y a e, mul-comm C ((t - y) / T)))
 
 -- where nothing is left
-pub part-coming : (T R C t w : ℕ) → 1 ≤ C → C ≤ R → R ≤ T → C * coming T R t w ≤ workloadPart T C t
+pub part-coming : (T D R C t w : ℕ) → 1 ≤ C → C ≤ R → R ≤ T → C * coming T R t w ≤ workloadPart T D C t
 unfolding coming
-part-coming T R C t w a b c = elim (decLe R t) [ yes p ↦ omega (arith, sooner, some p) | no p ↦ omega (arith, sooner, none (omega arith)) ]
+part-coming T D R C t w a b c =
+    elim (decLe R t) [ yes p ↦ omega (arith, sooner, some p) | no p ↦ omega (arith, sooner, none (omega arith)) ]
   where
     positive : 0 < T
     positive = omega arith
@@ -58,10 +59,10 @@ part-coming T R C t w a b c = elim (decLe R t) [ yes p ↦ omega (arith, sooner,
     sooner : C * ((t + T - (w + R)) / T) ≤ C * ((t + T - R) / T)
     sooner = mul-le-mul-left C (div-mono T (t + T - (w + R)) (t + T - R) positive (omega arith))
 
-    some : R ≤ t → C * ((t + T - R) / T) ≤ workloadPart T C t
+    some : R ≤ t → C * ((t + T - R) / T) ≤ workloadPart T D C t
     some p =
         let e : t + T - R ≡ t - R + T = omega arith in
-        rw (e, add-div-right (t - R) positive) (omega (arith, part-covers T C t R positive p, mul-comm C ((t - R) / T)))
+        rw (e, add-div-right (t - R) positive) (omega (arith, part-covers T D C t R positive p, mul-comm C ((t - R) / T)))
 
     none : t < R → C * ((t + T - R) / T) ≤ 0
     none p = let e : (t + T - R) / T ≡ 0 = div-eq-of-lt (omega arith) in rw e (omega arith)

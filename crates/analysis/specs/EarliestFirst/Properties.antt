@@ -57,7 +57,7 @@ module _ (S : Setup) (timed : (i : ℕ) → Own S i → Timed S i) where
   unfolding ahead workload
   ahead-start m r t i o u =
       rw (← u)
-      (where-le (S .kinds) (other S i) (aheadOf S m i) (λ j. workloadPart (S .separation j) (S .length j) (m .until i))
+      (where-le (S .kinds) (other S i) (aheadOf S m i) (λ j. workloadPart (S .separation j) (S .deadline j) (S .length j) (m .until i))
       (λ j l e. let x = other-own S i j l e in pair-start S m i j (timed j x) (r j x) (t j x)))
 
   pub earliest-first : Policy S (noLater S) (workload S)

@@ -1,7 +1,5 @@
 -- `supply::workload_part` meets its contract.
 -- Assumes nothing.
-use native.Mathlib.Omega.{arith}
-use native.Mathlib.Nat.{div-le-self}
 use Rattle.supply.specs.Workload.Properties.{part-without, part-of}
 use borrow.Author.Needs.{needs}
 use Rattle.supply.proofs.workload_part.Statement.{statement}
@@ -16,17 +14,20 @@ cast-result c = search needs
 returns : tie.Need-returns
 returns c = search part-without
 
-div-product : tie.Need-div-product
-div-product c = search needs
+whole-units-requires : tie.Need-whole-units-requires
+whole-units-requires c κs = search needs
 
 product-requires : tie.Need-product-requires
-product-requires c κs = (omega (arith, div-le-self (c .before .args .deadline) (c .before .args .separation)), search needs)
+product-requires c κs = search needs
 
-rem-lesser : tie.Need-rem-lesser
-rem-lesser c = search needs
+above-requires : tie.Need-above-requires
+above-requires c κs = search needs
 
 lesser-requires-2 : tie.Need-lesser-requires-2
 lesser-requires-2 c κs = search needs
+
+product-requires-2 : tie.Need-product-requires-2
+product-requires-2 c κs = search needs
 
 add-result : tie.Need-add-result
 add-result c = search needs
@@ -44,10 +45,11 @@ workload-part-spec =
     lesser-requires
     cast-result
     returns
-    div-product
+    whole-units-requires
     product-requires
-    rem-lesser
+    above-requires
     lesser-requires-2
+    product-requires-2
     add-result
     cast-result-2
     returns-2)

@@ -17,8 +17,7 @@ use Rattle.plan.specs.Record.{noKind}
 use Rattle.plan.specs.Order.{projectOf, kindOf, InOrder}
 use Rattle.layout.specs.Layout.{firstCell, owns, held}
 use Rattle.supply.specs.Supply.{supply}
-use Rattle.supply.specs.Workload.{workloadPart}
-use Rattle.workload.specs.Workload.{besides, partOf, workload}
+use Rattle.workload.specs.Workload.{besides, partIn, partOf, workload}
 use Rattle.workload.specs.Workload.Properties.{part-own}
 use Rattle.verdict.specs.Verdict.{ceilingOn}
 use Rattle.verdict.specs.Admission.{asked, given, Width, Fits, Allows, NotAdmitted}
@@ -51,7 +50,7 @@ module _ (p : Plan) (i c : ℕ) (there : i < length (p .kind)) where
       other : j ≢ i → partOf (withLength p i c) i j ≡ partOf p i j
       other n =
           λ t. cond (not (eqb j i) && eqb (other-kind j n t .project) (its-kind t .project))
-          (workloadPart (other-kind j n t .separation) (other-kind j n t .length) (its-kind t .deadline)) 0
+          (partIn (other-kind j n t) (its-kind t .deadline)) 0
 
   workload-same : workload (withLength p i c) i ≡ workload p i
   unfolding workload

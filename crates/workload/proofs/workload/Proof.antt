@@ -9,36 +9,26 @@ use Rattle.laws.specs.Sum.{sumTo}
 use Rattle.laws.specs.Sum.Properties.{sum-none}
 use Rattle.plan.specs.Order.{kindOf}
 use Rattle.workload.specs.Workload.{partOf}
-use Rattle.workload.specs.Workload.Properties.{own-again, foreign-again, other-again, workload-beyond, workload-places}
+use Rattle.workload.specs.Workload.Properties.{own-again, foreign-again, other-again, workload-places}
 use Rattle.workload.proofs.workload.Statement.{statement}
 use Rattle.workload.proofs.workload.Tie as tie
 
 abbrev Inv-loop : tie.InvT-loop
 Inv-loop kind plan judged sum₀ j₀ j-end sum j =
-    (j ≤ j-end) × (j-end ≡ min (plan .kinds) 16) × (kind < 16) × (judged ≡ kindOf plan kind) × (sum ≡ sumTo j (partOf plan kind))
+    (j ≤ j-end) × (j-end ≡ min (plan .kinds) 16) × (judged ≡ kindOf plan kind) × (sum ≡ sumTo j (partOf plan kind))
     × (sum ≤ 4294967295 * j)
 
 abbrev μ-loop : tie.MeasureT-loop
 μ-loop kind plan judged sum₀ j₀ j-end sum j = j-end - j
 
-returns : tie.Need-returns Inv-loop μ-loop
-returns c =
-    let first = c .before in
-    let places : length (first .args .t1 .kind) ≡ 16 = sym (length-map (first .args .t1 .kind) _)
-    ∙ first .good .0 .1 .1 .1 .1 .1 .1 .1 .0 .1 .0 .1 in
-    workload-beyond (first .args .t1) 16 places (first .args .kind) (omega arith)
-
-mul-judged : tie.Need-mul-judged Inv-loop μ-loop
-mul-judged c = search needs
-
-element-copy-out-judged : tie.Need-element-copy-out-judged Inv-loop μ-loop
-element-copy-out-judged c = search needs
+kind-at-requires : tie.Need-kind-at-requires Inv-loop μ-loop
+kind-at-requires c κs = search needs
 
 places-requires : tie.Need-places-requires Inv-loop μ-loop
 places-requires c κs = search needs
 
 loop-holds : tie.Need-loop-holds Inv-loop μ-loop
-loop-holds c = (omega arith, search, omega arith, refl, sum-none _, omega arith)
+loop-holds c = (omega arith, search, search, sum-none _, omega arith)
 
 add-j : tie.Need-add-j Inv-loop μ-loop
 add-j c = search needs
@@ -47,7 +37,7 @@ loop-less : tie.Need-loop-less Inv-loop μ-loop
 loop-less c = search needs
 
 loop-again : tie.Need-loop-again Inv-loop μ-loop
-loop-again c = (omega arith, search, search, search, search own-again, omega arith)
+loop-again c = (omega arith, search, search, search own-again, omega arith)
 
 mul-other : tie.Need-mul-other Inv-loop μ-loop
 mul-other c = search needs
@@ -62,7 +52,7 @@ loop-less-2 : tie.Need-loop-less-2 Inv-loop μ-loop
 loop-less-2 c = search needs
 
 loop-again-2 : tie.Need-loop-again-2 Inv-loop μ-loop
-loop-again-2 c = (omega arith, search, search, search, search foreign-again, omega arith)
+loop-again-2 c = (omega arith, search, search, search foreign-again, omega arith)
 
 workload-part-requires : tie.Need-workload-part-requires Inv-loop μ-loop
 workload-part-requires c κs = search needs
@@ -80,11 +70,11 @@ loop-less-3 : tie.Need-loop-less-3 Inv-loop μ-loop
 loop-less-3 c = search needs
 
 loop-again-3 : tie.Need-loop-again-3 Inv-loop μ-loop
-loop-again-3 c = (omega arith, search, search, search, search other-again, omega arith)
+loop-again-3 c = (omega arith, search, search, search other-again, omega arith)
 
-returns-2 : tie.Need-returns-2 Inv-loop μ-loop
-returns-2 c =
-    let first = c .before .before .before .before .before in
+returns : tie.Need-returns Inv-loop μ-loop
+returns c =
+    let first = c .before .before .before .before in
     let places : length (first .args .t1 .kind) ≡ 16 = sym (length-map (first .args .t1 .kind) _)
     ∙ first .good .0 .1 .1 .1 .1 .1 .1 .1 .0 .1 .0 .1 in
     search workload-places
@@ -95,9 +85,7 @@ workload-spec =
     (tie.spec
     Inv-loop
     μ-loop
-    returns
-    mul-judged
-    element-copy-out-judged
+    kind-at-requires
     places-requires
     loop-holds
     add-j
@@ -114,4 +102,4 @@ workload-spec =
     add-j-3
     loop-less-3
     loop-again-3
-    returns-2)
+    returns)

@@ -3,18 +3,19 @@
 use mathlib.Core.Path.{_≡_, refl, sym, ap, _∙_}
 use mathlib.Core.Bool.{Bool, true, false, cond}
 use Prim.Native.Nat.{ℕ, _+_, _-_, _/_, _%_, _≤_, _<_, min}
-use native.Mathlib.Nat.{mul-zero, zero-mul, zero-min, min-zero, zero-div, zero-mod}
+use native.Mathlib.Nat.{mul-zero}
 use native.Mathlib.Omega.{arith}
 use lib.ListN.{length, List·getD-eq-default}
 use borrow.Author.Tests.{eq-eqb, ne-eqb}
 use Rattle.laws.specs.Sum.{sumTo}
 use Rattle.laws.specs.Sum.Properties.{sum-again, sum-bound, sum-zero, sum-split}
+use Rattle.plan.specs.declared.Kind.{Kind}
 use Rattle.plan.specs.declared.Plan.{Plan}
 use Rattle.plan.specs.Record.{noKind}
 use Rattle.plan.specs.Order.{kindOf, KindInRange}
-use Rattle.supply.specs.Workload.{workloadPart}
+use Rattle.supply.specs.Workload.{wholeUnits, workloadPart}
 use Rattle.supply.specs.Workload.Properties.{part-most}
-use Rattle.workload.specs.Workload.{besides, partOf, workload}
+use Rattle.workload.specs.Workload.{besides, partIn, partOf, workload}
 
 -- ---- who has a part
 
@@ -30,7 +31,7 @@ part-foreign p i j n m = rw (ne-eqb j i n, ne-eqb (kindOf p j .project) (kindOf 
 
 -- every other one of the same
 pub part-other : (p : Plan) (i j : ℕ) → (j ≡ i → ⊥) → kindOf p j .project ≡ kindOf p i .project →
-    partOf p i j ≡ workloadPart (kindOf p j .separation) (kindOf p j .length) (kindOf p i .deadline)
+    partOf p i j ≡ partIn (kindOf p j) (kindOf p i .deadline)
 unfolding partOf besides
 part-other p i j n e = rw (ne-eqb j i n, eq-eqb (kindOf p j .project) (kindOf p i .project) e)
 
@@ -41,12 +42,13 @@ module _ (p : Plan) (most : p .kinds ≤ 16) (at : (j : ℕ) → j < p .kinds �
   unfolding partOf
   part-high j m = go (besides p i j)
     where
-      go : (b : Bool) → cond b (workloadPart (kindOf p j .separation) (kindOf p j .length) (kindOf p i .deadline)) 0 ≤ 4095
+      go : (b : Bool) → cond b (partIn (kindOf p j) (kindOf p i .deadline)) 0 ≤ 4095
       go true =
           let a = at j m in
           let b = at i l in
           let c : kindOf p j .length ≤ kindOf p j .separation = omega arith in
-          omega (arith, part-most (kindOf p j .separation) (kindOf p j .length) (kindOf p i .deadline) c)
+          let d : kindOf p j .length ≤ kindOf p j .deadline = omega arith in
+          omega (arith, part-most (kindOf p j .separation) (kindOf p j .deadline) (kindOf p j .length) (kindOf p i .deadline) d c)
       go false = omega arith
 
   pub workload-most : workload p i ≤ 65520
@@ -55,35 +57,22 @@ module _ (p : Plan) (most : p .kinds ≤ 16) (at : (j : ℕ) → j < p .kinds �
 
 -- ---- places that the record does not have
 
-part-idle : (T z : ℕ) → workloadPart T 0 z ≡ 0
+part-idle : (T D t : ℕ) → workloadPart T D 0 t ≡ 0
 unfolding workloadPart
-part-idle T z = rw (mul-zero (z / T), zero-min (z % T))
-
-part-timeless : (T C : ℕ) → workloadPart T C 0 ≡ 0
-unfolding workloadPart
-part-timeless T C = rw (zero-div T, zero-mod T, zero-mul C, min-zero C)
+part-idle T D t = rw (mul-zero (wholeUnits T D t)) (omega arith)
 
 module _ (p : Plan) (n : ℕ) (long : length (p .kind) ≡ n) where
-  beyond : (i : ℕ) → n ≤ i → kindOf p i ≡ noKind
-  beyond i l = List·getD-eq-default (p .kind) noKind {n = i} (omega arith)
+  pub kind-beyond : (i : ℕ) → n ≤ i → kindOf p i ≡ noKind
+  kind-beyond i l = List·getD-eq-default (p .kind) noKind {n = i} (omega arith)
 
   -- a kind there has no part
   part-beyond : (i j : ℕ) → n ≤ j → partOf p i j ≡ 0
   unfolding partOf
   part-beyond i j l = go (besides p i j)
     where
-      go : (b : Bool) → cond b (workloadPart (kindOf p j .separation) (kindOf p j .length) (kindOf p i .deadline)) 0 ≡ 0
-      go true = rw (beyond j l) (part-idle 0 (kindOf p i .deadline))
+      go : (b : Bool) → cond b (partIn (kindOf p j) (kindOf p i .deadline)) 0 ≡ 0
+      go true = rw (kind-beyond j l) (part-idle 0 0 (kindOf p i .deadline))
       go false = refl
-
-  -- and no workload
-  pub workload-beyond : (i : ℕ) → n ≤ i → 0 ≡ workload p i
-  unfolding workload partOf
-  workload-beyond i l = sym (sum-zero (p .kinds) (partOf p i) (λ j m. go j (besides p i j)))
-    where
-      go : (j : ℕ) (b : Bool) → cond b (workloadPart (kindOf p j .separation) (kindOf p j .length) (kindOf p i .deadline)) 0 ≡ 0
-      go j true = rw (beyond i l) (part-timeless (kindOf p j .separation) (kindOf p j .length))
-      go j false = refl
 
   -- so that the sum ends with the record's places
   pub workload-places : (i s e m : ℕ) → s ≡ sumTo e (partOf p i) → m ≡ min (p .kinds) n → e ≤ m → m ≤ e → s ≡ workload p i
@@ -102,10 +91,11 @@ module _ (p : Plan) (i j s : ℕ) (so : s ≡ sumTo j (partOf p i)) where
   pub own-again : j ≡ i → s ≡ sumTo (j + 1) (partOf p i)
   own-again e = skipped (part-own p i j e)
 
-  pub foreign-again : (j ≡ i → ⊥) → (kindOf p j .project ≡ kindOf p i .project → ⊥) → s ≡ sumTo (j + 1) (partOf p i)
-  foreign-again n m = skipped (part-foreign p i j n m)
+  -- d is the judged kind
+  pub foreign-again : (d : Kind) → d ≡ kindOf p i → (j ≡ i → ⊥) → (kindOf p j .project ≡ d .project → ⊥) → s ≡ sumTo (j + 1) (partOf p i)
+  foreign-again d k n m = skipped (part-foreign p i j n (rw k at m))
 
   -- w is the part, and v the same in more bits
-  pub other-again : (v w : ℕ) → (j ≡ i → ⊥) → kindOf p j .project ≡ kindOf p i .project →
-      w ≡ workloadPart (kindOf p j .separation) (kindOf p j .length) (kindOf p i .deadline) → v ≡ w → s + v ≡ sumTo (j + 1) (partOf p i)
-  other-again v w n e q r = sum-again s j (partOf p i) v so (r ∙ q ∙ sym (part-other p i j n e))
+  pub other-again : (d : Kind) (v w : ℕ) → d ≡ kindOf p i → (j ≡ i → ⊥) → kindOf p j .project ≡ d .project →
+      w ≡ partIn (kindOf p j) (d .deadline) → v ≡ w → s + v ≡ sumTo (j + 1) (partOf p i)
+  other-again d v w k n e q r = sum-again s j (partOf p i) v so (r ∙ rw k at q ∙ sym (part-other p i j n (rw k at e)))

@@ -184,7 +184,7 @@ pub fn state_image(state: &State) -> [u8; STATE_IMAGE] {
     bytes
 }
 
-/// Which of the nine functions.
+/// Which of the ten functions.
 #[derive(Clone, Copy, Debug, PartialEq, Eq, PartialOrd, Ord)]
 #[allow(missing_docs)]
 pub enum Op {

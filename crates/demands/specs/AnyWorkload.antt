@@ -29,7 +29,7 @@ module _ (p : Plan) (W : ℕ → ℕ) where
   abbrev pub widthBy : ℕ → ℕ
   widthBy i = leastWidth (p .frame) (heldOn p i) (kindOf p i .length) (W i) (kindOf p i .deadline) (ceilingOn p i)
 
-  -- "the least, over k, of kCi + W - S(k,Di)"
+  -- "C minus the greatest C' of at least 0 with kC' + W <= S(k,D) for some k, or the whole C where there is none"
   abbrev pub excessBy : ℕ → ℕ
   excessBy i = leastExcess (p .frame) (heldOn p i) (kindOf p i .length) (W i) (kindOf p i .deadline) (ceilingOn p i)
 

@@ -69,12 +69,14 @@ static uint64_t called(unsigned function, uint8_t *a, size_t a_len, uint8_t *b, 
     case 5:
         return parchbeetle_smallest_budget(a, a_len, x);
     case 6:
-        return parchbeetle_fresh(a, a_len, b, b_len);
+        return parchbeetle_build(x, a, a_len, b, b_len);
     case 7:
-        return parchbeetle_release(a, a_len, x, y);
+        return parchbeetle_fresh(a, a_len, b, b_len);
     case 8:
-        return parchbeetle_show(a, a_len, b, b_len);
+        return parchbeetle_release(a, a_len, x, y);
     case 9:
+        return parchbeetle_show(a, a_len, b, b_len);
+    case 10:
         return parchbeetle_advance(a, a_len);
     default:
         fprintf(stderr, "bridge: no function %u\n", function);

@@ -30,9 +30,9 @@ extern "C" {
  * change them; an image belongs to the version that made it. Plan bytes are read by
  * every later version.
  */
-#define PARCHBEETLE_VERSION "0.5.0"
+#define PARCHBEETLE_VERSION "0.6.0"
 #define PARCHBEETLE_VERSION_MAJOR 0
-#define PARCHBEETLE_VERSION_MINOR 5
+#define PARCHBEETLE_VERSION_MINOR 6
 #define PARCHBEETLE_VERSION_PATCH 0
 
 /* ---- Images */
@@ -150,6 +150,9 @@ extern "C" {
     number(13, "the unit's length is 0 or above its kind's")                    \
     number(14, "the kind's last release was less than its separation ago")      \
     number(15, "slices of the kind's earlier unit are left")                    \
+    number(17, "cards out of range, or no list of kinds")                       \
+    number(18, "more than eight kinds are listed")                              \
+    number(19, "the separations' greatest common divisor exceeds 64")           \
     number(27, "there is no such project")
 
 /* A number in words, as above. */
@@ -200,6 +203,19 @@ uint64_t parchbeetle_verdict(const uint8_t *plan, size_t plan_len, uint8_t *k, s
  * excess and slice are those at qF); 7 (the least budget makes the sum too large).
  */
 uint64_t parchbeetle_smallest_budget(const uint8_t *plan, size_t plan_len, uint64_t project);
+
+/*
+ * Builds a finished plan in which each kind is a project of its own, with ceiling 1
+ * and its separation as its deadline, into the first 140 bytes at `plan`. `list` has
+ * four bytes for each kind: its separation and then its length, high byte first; a
+ * list_len that is no multiple of four is no list. The frame is the greatest common
+ * divisor F of all separations T, and each budget the least that serves, F times the
+ * length over T rounded up. Every plan that is built is admitted.
+ * Refusals, in order: 17 (cards not 1..8, or no kind), 18 (more than eight kinds), 6,
+ * 19 (F exceeds 64), 7; then 9 (plan_len below 140).
+ */
+uint64_t parchbeetle_build(uint64_t cards, const uint8_t *list, size_t list_len, uint8_t *plan,
+                           size_t plan_len);
 
 /* ---- Running */
 

@@ -127,18 +127,22 @@ pub fn smallest_budget(plan: &[u8], project: u64) -> u64 {
     reading(5, plan, &mut [], project)
 }
 
+pub fn build(cards: u64, list: &[u8], plan: &mut [u8]) -> u64 {
+    reading(6, list, plan, cards)
+}
+
 pub fn fresh(plan: &[u8], state: &mut [u8]) -> u64 {
-    reading(6, plan, state, 0)
+    reading(7, plan, state, 0)
 }
 
 pub fn release(state: &mut [u8], kind: u64, e: u64) -> u64 {
-    changing(7, state, [kind, e])
+    changing(8, state, [kind, e])
 }
 
 pub fn show(state: &[u8], row: &mut [u8]) -> u64 {
-    reading(8, state, row, 0)
+    reading(9, state, row, 0)
 }
 
 pub fn advance(state: &mut [u8]) -> u64 {
-    changing(9, state, [0; 2])
+    changing(10, state, [0; 2])
 }

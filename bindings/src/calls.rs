@@ -37,6 +37,11 @@ pub fn smallest_budget(plan: &[u8], project: u64) -> Answer {
     Answer::of_word(library::smallest_budget(plan, project))
 }
 
+/// Builds a plan of one-kind projects from a list of four bytes a kind: writes a plan image.
+pub fn build(cards: u64, list: &[u8], plan: &mut [u8]) -> Answer {
+    Answer::of_word(library::build(cards, list, plan))
+}
+
 /// Starts fresh on an image's plan: writes a state image.
 pub fn fresh(plan: &[u8], state: &mut [u8]) -> Answer {
     Answer::of_word(library::fresh(plan, state))

@@ -17,7 +17,7 @@ mod record;
 
 pub use answer::{in_words, Answer, NUMBERS};
 pub use calls::{
-    advance, check, fresh, read, release, show, slot_table, smallest_budget, verdict, write,
+    advance, build, check, fresh, read, release, show, slot_table, smallest_budget, verdict, write,
 };
 pub use record::{Kind, Plan, Project, State, Unit, Verdict};
 

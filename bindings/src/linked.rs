@@ -16,6 +16,13 @@ extern "C" {
     ) -> u64;
     fn parchbeetle_verdict(plan: *const u8, plan_len: usize, k: *mut u8, k_len: usize) -> u64;
     fn parchbeetle_smallest_budget(plan: *const u8, plan_len: usize, project: u64) -> u64;
+    fn parchbeetle_build(
+        cards: u64,
+        list: *const u8,
+        list_len: usize,
+        plan: *mut u8,
+        plan_len: usize,
+    ) -> u64;
     fn parchbeetle_fresh(plan: *const u8, plan_len: usize, state: *mut u8, state_len: usize)
         -> u64;
     fn parchbeetle_release(state: *mut u8, state_len: usize, kind: u64, e: u64) -> u64;
@@ -45,6 +52,18 @@ pub fn verdict(plan: &[u8], k: &mut [u8]) -> u64 {
 
 pub fn smallest_budget(plan: &[u8], project: u64) -> u64 {
     unsafe { parchbeetle_smallest_budget(plan.as_ptr(), plan.len(), project) }
+}
+
+pub fn build(cards: u64, list: &[u8], plan: &mut [u8]) -> u64 {
+    unsafe {
+        parchbeetle_build(
+            cards,
+            list.as_ptr(),
+            list.len(),
+            plan.as_mut_ptr(),
+            plan.len(),
+        )
+    }
 }
 
 pub fn fresh(plan: &[u8], state: &mut [u8]) -> u64 {

@@ -195,6 +195,18 @@ impl Plan {
         given(answer, (Plan::of_image(&image), usize::from(answer.count)))
     }
 
+    /// The plan of one-kind projects for so many cards and kinds of these separations and lengths.
+    pub fn build(cards: u64, kinds: &[(u16, u16)]) -> Given<Plan> {
+        let mut list = Vec::with_capacity(4 * kinds.len());
+        for (separation, length) in kinds {
+            list.extend(separation.to_be_bytes());
+            list.extend(length.to_be_bytes());
+        }
+        let mut image = [0; PLAN_IMAGE];
+        let answer = calls::build(cards, &list, &mut image);
+        given(answer, Plan::of_image(&image))
+    }
+
     /// Whether it is in order.
     pub fn check(&self) -> Given<()> {
         given(calls::check(&self.image()), ())

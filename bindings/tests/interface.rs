@@ -556,7 +556,7 @@ fn the_header_the_bindings_and_the_exported_functions_agree() {
     let texts = texts();
     let found = differences(&texts);
     assert!(found.is_empty(), "{}", found.join("\n"));
-    assert!(declared(&texts.header).len() >= 9);
+    assert!(declared(&texts.header).len() >= 10);
 }
 
 #[test]
@@ -584,6 +584,9 @@ fn one_thing_changed_on_one_side_is_found() {
         (exported, "kind: u64, e: u64", "e: u64, kind: u64"),
         (header, "uint64_t project)", "uint8_t project)"),
         (exported, "plan: &[u8], project: u64", "plan: &[u8], place: u64"),
+        (header, "uint64_t cards, const", "uint64_t m, const"),
+        (bindings, "list: *const u8", "list: *mut u8"),
+        (exported, "cards: u64, list: &[u8]", "cards: u64, kinds: &[u8]"),
         (header, "uint8_t *k,", "const uint8_t *k,"),
         (header, "show(const uint8_t *state", "show(uint8_t *state"),
         (bindings, "k: *mut u8", "k: *const u8"),
@@ -594,7 +597,7 @@ fn one_thing_changed_on_one_side_is_found() {
         (exported, "#[no_mangle]\npub extern \"C\" fn parchbeetle_advance", "pub fn parchbeetle_advance"),
         // A function that the bridge has under another number or not at all.
         (bridge, "return parchbeetle_verdict(", "return parchbeetle_fresh("),
-        (bridged, "changing(9", "changing(8"),
+        (bridged, "changing(10", "changing(9"),
         (bridged, "pub fn verdict(plan: &[u8], k", "pub fn verdict(k: &[u8], plan"),
         // A field's name, width and order, and how many places.
         (header, "field(budget, 2)", "field(budget, 4)"),
@@ -619,6 +622,7 @@ fn one_thing_changed_on_one_side_is_found() {
         (code, "struct Plan {", "bare(16) struct Plan {"),
         (header, "12, 13, 14, 15.", "12, 13, 14."),
         (header, "2, 3, 27, 4", "2, 3, 4"),
+        (header, "17 (cards", "16 (cards"),
         (version, ".", ".1."),
         (header, "VERSION_MINOR ", "VERSION_MINOR 9"),
     ] {
@@ -692,6 +696,18 @@ fn the_records_are_what_the_library_reads_and_writes() {
         Err(27)
     );
 
+    let alone = Plan::build(2, &[(3, 2), (6, 4), (6, 3)]).unwrap();
+    assert_eq!((alone.frame, alone.kinds), (3, 3));
+    assert_eq!(
+        alone.project.map(|project| project.budget)[..4],
+        [2, 2, 2, 0]
+    );
+    assert_eq!(
+        alone.verdict().map(|verdict| verdict.k[..4].to_vec()),
+        Ok(vec![1, 1, 1, 0])
+    );
+    assert_eq!(Plan::build(9, &[]).map_err(|answer| answer.number), Err(17));
+
     let mut state = plan.fresh().unwrap();
     let fresh = State {
         plan,
@@ -734,7 +750,7 @@ fn the_sizes_are_the_librarys() {
     let state = plan_a().fresh().unwrap().image();
     let copy = |size: usize| state[..size].to_vec();
     type Call<'a> = &'a dyn Fn(usize) -> Answer;
-    let calls: [(usize, Call); 12] = [
+    let calls: [(usize, Call); 13] = [
         (PLAN_IMAGE, &|size| check(&plan[..size])),
         (PLAN_IMAGE, &|size| read(&PLAN_A, &mut vec![0; size])),
         (PLAN_IMAGE, &|size| write(&plan[..size], &mut [0; 99])),
@@ -742,6 +758,9 @@ fn the_sizes_are_the_librarys() {
         (PLAN_IMAGE, &|size| verdict(&plan[..size], &mut [0; 32])),
         (VERDICT_BYTES, &|size| verdict(&plan, &mut vec![0; size])),
         (PLAN_IMAGE, &|size| smallest_budget(&plan[..size], 0)),
+        (PLAN_IMAGE, &|size| {
+            build(1, &[0, 2, 0, 1], &mut vec![0; size])
+        }),
         (PLAN_IMAGE, &|size| fresh(&plan[..size], &mut [0; 256])),
         (STATE_IMAGE, &|size| fresh(&plan, &mut vec![0; size])),
         (STATE_IMAGE, &|size| release(&mut copy(size), 0, 1)),

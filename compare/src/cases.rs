@@ -9,8 +9,8 @@ use crate::interface::{
     plan_image, plan_of, state_image, state_of, Case, Op, PLAN_IMAGE, STATE_IMAGE, VERDICT_BYTES,
 };
 use generate::{
-    fixed_open_budgets, fixed_plan_records, fixed_state_records, fixed_streams, spare_bits,
-    Generator,
+    fixed_lists, fixed_open_budgets, fixed_plan_records, fixed_state_records, fixed_streams,
+    list_bytes, spare_bits, Generator,
 };
 use second::bytes::{pack, plan_bytes};
 use second::play::{command, Command};
@@ -27,7 +27,7 @@ const ON_PLANS: [Op; 5] = [Op::Check, Op::Write, Op::SlotTable, Op::Verdict, Op:
 fn needed(op: Op, plan: &Plan) -> usize {
     match op {
         Op::Check | Op::SmallestBudget | Op::Release | Op::Advance => 0,
-        Op::Read => PLAN_IMAGE,
+        Op::Read | Op::Build => PLAN_IMAGE,
         Op::Write => plan_bytes(plan.p, plan.n),
         Op::SlotTable => usize::from(plan.m) * usize::from(plan.frame),
         Op::Verdict => VERDICT_BYTES,
@@ -54,15 +54,21 @@ pub enum Fixed {
     Released(Plan, usize, u8),
 }
 
-/// Each refusal at each place, each boundary of a budget left open, each length of each buffer, each released byte, and all plans and
-/// states of a small size.
+/// Each refusal at each place, each boundary of a budget left open and of a list, each length of each buffer, each released
+/// byte, and all plans and states of a small size.
 pub fn fixed() -> Vec<Fixed> {
     let plans = fixed_plan_records().into_iter().chain(small_plans());
     let states = fixed_state_records().into_iter().chain(small_states());
     let bytes = fixed_streams().into_iter().map(|stream| stream.bytes);
     let open = fixed_open_budgets().into_iter();
+    let lists = fixed_lists().into_iter();
     plans
         .map(Fixed::Plan)
+        .chain(
+            lists
+                .flat_map(|(cards, list)| built(cards, &list))
+                .map(Fixed::Call),
+        )
         .chain(open.map(|(plan, project)| Fixed::Call(open_budget(&plan, project))))
         .chain(states.map(Fixed::State))
         .chain(bytes.map(Fixed::Bytes))
@@ -107,6 +113,11 @@ fn on_plan(plan: &Plan) -> Record {
         }
     }
     record
+}
+
+/// A plan of one-kind projects, with enough room and with one byte less.
+fn built(cards: u64, list: &[u8]) -> [Case; 2] {
+    [PLAN_IMAGE, PLAN_IMAGE - 1].map(|room| Case::build(cards, list.to_vec(), vec![0xEE; room]))
 }
 
 /// The smallest budget of a project.
@@ -167,6 +178,13 @@ fn lengths() -> Vec<Case> {
         for count in 0..=room + 2 {
             cases.push(Case::new(op, given.clone(), vec![0xEE; count]));
         }
+    }
+    for count in 0..=PLAN_IMAGE + 2 {
+        cases.push(Case::build(
+            2,
+            list_bytes(&[(3, 2), (6, 4), (6, 3)]),
+            vec![0xEE; count],
+        ));
     }
     for count in 0..=running.len() {
         cases.push(Case::release(running[..count].to_vec(), 0, 1));
@@ -305,6 +323,12 @@ impl Rounds {
             state_records(&mut g, &mut state, &mut records);
         }
         run_records(&mut g, &plan, &mut records);
+
+        for _ in 0..6 {
+            let (cards, list) = g.cards_and_list();
+            let lent = lent(&mut g, PLAN_IMAGE);
+            records.push(vec![Case::build(cards, list, lent)]);
+        }
 
         // Small plans, where ties and exact fits are common, and a state on each.
         for turn in 0..12 {

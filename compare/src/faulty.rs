@@ -10,6 +10,7 @@ use crate::interface::{
 };
 use crate::second_side::{state_or_refuse, Second};
 use second::layout::{cards_held, cells, h, h_of_cells};
+use second::one_kind::listed;
 use second::plan::budgets_sum_above;
 use second::play::{command, Command};
 use second::rack::{in_form, LAST_CLOCK};
@@ -79,6 +80,19 @@ pub enum Fault {
     ExcessGreatest,
     ExcessZeroAsNone,
     ExcessNoneLess,
+    BuildRoundsDown,
+    BuildCeiling,
+    BuildLeastSeparation,
+    BuildFirstTwo,
+    BuildSixtyFour,
+    BuildEight,
+    BuildSevenFirst,
+    BuildDeadline,
+    BuildLastProject,
+    BuildLowByte,
+    BuildCutOff,
+    BuildSixPlace,
+    BuildNineFirst,
     PlayEnd,
     PlayLeftOver,
     PlayClock,
@@ -98,7 +112,7 @@ pub enum Fault {
 use Fault::*;
 
 /// Each fault that records must show: its name and what it is.
-pub const RECORD_FAULTS: [(Fault, &str, &str); 58] = [
+pub const RECORD_FAULTS: [(Fault, &str, &str); 71] = [
     (SumFirst, "sum-first", "7 is told before 4"),
     (FiveFirst, "five-first", "all kinds for 5 before any 6"),
     (
@@ -316,6 +330,55 @@ pub const RECORD_FAULTS: [(Fault, &str, &str); 58] = [
         AdvanceRemembers,
         "remembers",
         "an advance runs what was shown last",
+    ),
+    (
+        BuildRoundsDown,
+        "build-rounds-down",
+        "a built budget is rounded down",
+    ),
+    (
+        BuildCeiling,
+        "build-ceiling",
+        "a built project has ceiling 2",
+    ),
+    (
+        BuildLeastSeparation,
+        "build-least-separation",
+        "the built frame is the least separation",
+    ),
+    (
+        BuildFirstTwo,
+        "build-first-two",
+        "the divisor of the first two separations only",
+    ),
+    (BuildSixtyFour, "build-64", "19 is told for 64"),
+    (BuildEight, "build-eight", "18 is told for eight kinds"),
+    (BuildSevenFirst, "build-seven-first", "7 is told before 19"),
+    (
+        BuildDeadline,
+        "build-deadline",
+        "a built kind's deadline is one below its separation",
+    ),
+    (
+        BuildLastProject,
+        "build-last-project",
+        "the last kind built is of the project before it",
+    ),
+    (
+        BuildLowByte,
+        "build-low-byte",
+        "only the low byte of the cards is looked at",
+    ),
+    (
+        BuildCutOff,
+        "build-cut-off",
+        "bytes behind the last whole kind are passed by",
+    ),
+    (BuildSixPlace, "build-six-place", "6 has no place"),
+    (
+        BuildNineFirst,
+        "build-nine-first",
+        "a short plan is told before 7",
     ),
 ];
 
@@ -665,6 +728,77 @@ impl Faulty {
         (Answer::GOOD, told)
     }
 
+    /// A plan of one-kind projects, its divisor by remainders.
+    fn built(&self, cards: u64, bytes: &[u8]) -> (Answer, Plan) {
+        let refused = |number| (Answer::refused(number), Plan::default());
+        let m = match self.0 {
+            BuildLowByte => cards % 256,
+            _ => cards,
+        };
+        let whole = match self.0 {
+            BuildCutOff => bytes.len() - bytes.len() % 4,
+            _ => bytes.len(),
+        };
+        let list = listed(&bytes[..whole]);
+        if !(1..=8).contains(&m) || list.is_empty() {
+            return refused(17);
+        }
+        let most = if self.is(BuildEight) { 7 } else { 8 };
+        if list.len() > most {
+            return refused(18);
+        }
+        let untimed = |&(t, c): &(u16, u16)| c == 0 || c > t || t > 4095;
+        if let Some(place) = list.iter().position(untimed) {
+            let place = if self.is(BuildSixPlace) { 0 } else { place };
+            return (Answer::refused_at(6, place), Plan::default());
+        }
+        let counted = if self.is(BuildFirstTwo) { 2 } else { 8 };
+        let divisor = |mut a: u64, mut b: u64| {
+            while b > 0 {
+                (a, b) = (b, a % b);
+            }
+            a
+        };
+        let separations = list.iter().take(counted).map(|&(t, _)| u64::from(t));
+        let frame = match self.0 {
+            BuildLeastSeparation => separations.min().unwrap_or(0),
+            _ => separations.fold(0, divisor),
+        };
+        let up = |t: u64| if self.is(BuildRoundsDown) { 0 } else { t - 1 };
+        let budget = |&(t, c): &(u16, u16)| {
+            let (t, c) = (u64::from(t), u64::from(c));
+            ((frame * c + up(t)) / t).max(1)
+        };
+        let above = list.iter().map(budget).sum::<u64>() > m * frame;
+        if above && self.is(BuildSevenFirst) {
+            return refused(7);
+        }
+        let most = if self.is(BuildSixtyFour) { 63 } else { 64 };
+        if frame > most {
+            return refused(19);
+        }
+        if above {
+            return refused(7);
+        }
+        let q = if self.is(BuildCeiling) { 2 } else { 1 };
+        let projects: Vec<_> = list.iter().map(|kind| (q, budget(kind) as u16)).collect();
+        let last = list.len() - 1;
+        let kind = |(place, &(t, c)): (usize, &(u16, u16))| {
+            let project = match self.0 {
+                BuildLastProject if place == last => place.max(1) - 1,
+                _ => place,
+            };
+            let d = match self.0 {
+                BuildDeadline => (t - 1).max(c),
+                _ => t,
+            };
+            (project as u8, t, d, c)
+        };
+        let kinds: Vec<_> = list.iter().enumerate().map(kind).collect();
+        let plan = Plan::of(m as u8, frame as u8, &projects, &kinds);
+        (Answer::GOOD, plan)
+    }
+
     fn start(&self, plan: &Plan) -> (Answer, State) {
         let (answer, _) = self.judge(plan);
         let mut state = State::default();
@@ -853,6 +987,19 @@ impl Side for Faulty {
             let (answer, budget) = self.opened(&plan_of(plan), project);
             word(answer, budget as usize)
         })
+    }
+
+    fn build(&self, cards: u64, list: &[u8], plan: &mut [u8]) -> u64 {
+        let (answer, built) = self.built(cards, list);
+        let told = answer.is_good() || self.is(BuildNineFirst) && answer.number == 7;
+        let word = match told && plan.len() < PLAN_IMAGE {
+            true => refused(9),
+            false => word(answer, 0),
+        };
+        if number(word) == 0 {
+            plan[..PLAN_IMAGE].copy_from_slice(&plan_image(&built));
+        }
+        self.after(word, plan, PLAN_IMAGE)
     }
 
     fn fresh(&self, plan: &[u8], state: &mut [u8]) -> u64 {

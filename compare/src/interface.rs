@@ -10,7 +10,7 @@ pub const STATE_IMAGE: usize = 256;
 /// Bytes of a verdict: the k of each kind, then the slice of each.
 pub const VERDICT_BYTES: usize = 32;
 
-/// The ten functions on bytes. The word: number in bits 0-7, place 8-15, count 16-31, excess 32-55, slice 56-63.
+/// The eleven functions on bytes. The word: number in bits 0-7, place 8-15, count 16-31, excess 32-55, slice 56-63.
 pub trait Side {
     /// Is the plan in order?
     fn check(&self, plan: &[u8]) -> u64;
@@ -24,6 +24,8 @@ pub trait Side {
     fn verdict(&self, plan: &[u8], k: &mut [u8]) -> u64;
     /// Gives the smallest budget of a project.
     fn smallest_budget(&self, plan: &[u8], project: u64) -> u64;
+    /// Builds a plan of one-kind projects.
+    fn build(&self, cards: u64, list: &[u8], plan: &mut [u8]) -> u64;
     /// Starts fresh: writes a state image.
     fn fresh(&self, plan: &[u8], state: &mut [u8]) -> u64;
     /// Releases a unit.
@@ -184,7 +186,7 @@ pub fn state_image(state: &State) -> [u8; STATE_IMAGE] {
     bytes
 }
 
-/// Which of the ten functions.
+/// Which of the eleven functions.
 #[derive(Clone, Copy, Debug, PartialEq, Eq, PartialOrd, Ord)]
 #[allow(missing_docs)]
 pub enum Op {
@@ -194,6 +196,7 @@ pub enum Op {
     SlotTable,
     Verdict,
     SmallestBudget,
+    Build,
     Fresh,
     Release,
     Show,
@@ -201,13 +204,14 @@ pub enum Op {
 }
 
 /// Each function with its name.
-pub const OPS: [(Op, &str); 10] = [
+pub const OPS: [(Op, &str); 11] = [
     (Op::Check, "check"),
     (Op::Read, "read"),
     (Op::Write, "write"),
     (Op::SlotTable, "slot_table"),
     (Op::Verdict, "verdict"),
     (Op::SmallestBudget, "smallest_budget"),
+    (Op::Build, "build"),
     (Op::Fresh, "fresh"),
     (Op::Release, "release"),
     (Op::Show, "show"),
@@ -221,16 +225,16 @@ impl Op {
     }
 }
 
-/// One call: what is given (a plan image, plan bytes or a state image) and what else is lent.
+/// One call: what is given (a plan image, plan bytes, a list or a state image) and what else is lent.
 #[derive(Clone, Debug, PartialEq, Eq)]
 pub struct Case {
     /// The function called.
     pub op: Op,
-    /// The first buffer: a plan image, plan bytes or a state image.
+    /// The first buffer: a plan image, plan bytes, a list or a state image.
     pub given: Vec<u8>,
     /// The second buffer, as it is lent; empty for `check`, `smallest_budget`, `release` and `advance`.
     pub lent: Vec<u8>,
-    /// The kind and the length e of `release`, the project of `smallest_budget`.
+    /// The kind and the length e of `release`, the project of `smallest_budget`, the cards of `build`.
     pub numbers: [u64; 2],
 }
 
@@ -300,6 +304,14 @@ impl Case {
         }
     }
 
+    /// A plan of one-kind projects.
+    pub fn build(cards: u64, list: Vec<u8>, lent: Vec<u8>) -> Case {
+        Case {
+            numbers: [cards, 0],
+            ..Case::new(Op::Build, list, lent)
+        }
+    }
+
     /// The call on one side, with buffers of its own.
     pub fn run(&self, side: &impl Side) -> Outcome {
         let (mut given, mut lent) = (Fenced::new(&self.given), Fenced::new(&self.lent));
@@ -312,6 +324,7 @@ impl Case {
             Op::SlotTable => side.slot_table(first, second),
             Op::Verdict => side.verdict(first, second),
             Op::SmallestBudget => side.smallest_budget(first, number),
+            Op::Build => side.build(number, first, second),
             Op::Fresh => side.fresh(first, second),
             Op::Release => side.release(first, number, e),
             Op::Show => side.show(first, second),
@@ -386,10 +399,10 @@ pub fn outcome_in_words(own: &Outcome, other: &Outcome) -> String {
     line
 }
 
-/// The image that a call is given, read aloud; nothing for plan bytes and short images.
+/// The image that a call is given, read aloud; nothing for plan bytes, lists and short images.
 pub fn image_in_words(case: &Case) -> Option<String> {
     let (image, running) = match case.op {
-        Op::Read => return None,
+        Op::Read | Op::Build => return None,
         Op::Release | Op::Show | Op::Advance => (case.given.get(..STATE_IMAGE)?, true),
         _ => (case.given.get(..PLAN_IMAGE)?, false),
     };

@@ -31,6 +31,10 @@ impl Side for Proved {
         bindings::smallest_budget(plan, project).word()
     }
 
+    fn build(&self, cards: u64, list: &[u8], plan: &mut [u8]) -> u64 {
+        bindings::build(cards, list, plan).word()
+    }
+
     fn fresh(&self, plan: &[u8], state: &mut [u8]) -> u64 {
         bindings::fresh(plan, state).word()
     }

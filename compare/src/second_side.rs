@@ -81,6 +81,18 @@ impl Side for Second {
         word(answer, budget as usize)
     }
 
+    fn build(&self, cards: u64, list: &[u8], plan: &mut [u8]) -> u64 {
+        let (answer, built) = second::build(cards, &second::one_kind::listed(list));
+        if !answer.is_good() {
+            return word(answer, 0);
+        }
+        if plan.len() < PLAN_IMAGE {
+            return refused(9);
+        }
+        plan[..PLAN_IMAGE].copy_from_slice(&plan_image(&built));
+        word(answer, 0)
+    }
+
     fn fresh(&self, plan: &[u8], state: &mut [u8]) -> u64 {
         if plan.len() < PLAN_IMAGE {
             return refused(9);

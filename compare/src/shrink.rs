@@ -99,7 +99,10 @@ fn lower_byte(
 fn without_kind(case: &Case, kind: usize) -> Case {
     let mut tried = case.clone();
     let image = &mut tried.given;
-    if case.op == Op::Read || image.len() < PLAN_IMAGE || kind >= usize::from(image[2]) {
+    if matches!(case.op, Op::Read | Op::Build)
+        || image.len() < PLAN_IMAGE
+        || kind >= usize::from(image[2])
+    {
         return tried;
     }
     image[2] -= 1;

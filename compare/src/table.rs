@@ -7,7 +7,7 @@
 use crate::interface::{
     plan_image, state_image, word, Case, Op, Outcome, PLAN_IMAGE, STATE_IMAGE, VERDICT_BYTES,
 };
-use generate::{release_bytes, SLICE};
+use generate::{list_bytes, release_bytes, SLICE};
 use second::bytes::pack;
 use second::rack::LAST_CLOCK;
 use second::{Answer, Kind, KindState, Plan, State};
@@ -185,6 +185,33 @@ pub fn table() -> Vec<Named> {
     table.refused_by_8("(i), a guess too small", &smaller, 1, 0);
     table.good("(i), a guess too small", open(&smaller, 0), 7, &[]);
     table.refused("(i), none serves", open(&opening, 0), 8, 0, 2);
+
+    // (vi): 000's opening kinds, each a project of its own; sums of exactly m; within m and not of multiples.
+    let build =
+        |m: u64, list: &[(u16, u16)]| Case::build(m, list_bytes(list), lent(PLAN_IMAGE + 2));
+    let kinds = [(0, 3, 3, 2), (1, 6, 6, 4), (2, 6, 6, 3)];
+    let alone = plan_image(&Plan::of(2, 3, &[(1, 2); 3], &kinds));
+    table.good("(vi)", build(2, &[(3, 2), (6, 4), (6, 3)]), 0, &alone);
+    let kinds = [(0, 4, 4, 3), (1, 4, 4, 3), (2, 8, 8, 4)];
+    let filled = plan_image(&Plan::of(2, 4, &[(1, 3), (1, 3), (1, 2)], &kinds));
+    table.good(
+        "(vi), exactly m",
+        build(2, &[(4, 3), (4, 3), (8, 4)]),
+        0,
+        &filled,
+    );
+    let uneven = build(1, &[(2, 1), (3, 1)]);
+    table.refused("(vi), not of multiples", uneven, 7, 0, 0);
+    table.refused("(vi), no cards", build(0, &[(2, 1)]), 17, 0, 0);
+    table.refused("(vi), an empty list", build(1, &[]), 17, 0, 0);
+    table.refused("(vi), nine kinds", build(8, &[(1, 1); 9]), 18, 0, 0);
+    table.refused("(vi), kind 1", build(1, &[(2, 1), (2, 3)]), 6, 1, 0);
+    table.refused("(vi), 65", build(1, &[(65, 1)]), 19, 0, 0);
+    let mut cut = build(1, &[(2, 1), (2, 1)]);
+    cut.given.pop();
+    table.refused("(vi), no list", cut, 17, 0, 0);
+    let short = Case::build(1, list_bytes(&[(2, 1)]), lent(PLAN_IMAGE - 1));
+    table.refused("(vi), one byte short", short, 9, 0, 0);
 
     let none = Plan {
         n: 0,

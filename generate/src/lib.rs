@@ -7,6 +7,7 @@
 #![forbid(unsafe_code)]
 
 mod fixed;
+mod lists;
 mod plans;
 mod records;
 mod streams;
@@ -14,6 +15,7 @@ mod streams;
 pub use fixed::{
     fixed_open_budgets, fixed_plan_records, fixed_state_records, fixed_streams, limit_plans,
 };
+pub use lists::{fixed_lists, list_bytes};
 pub use streams::{long_stream, spare_bits};
 
 /// "a slice has zeros throughout".

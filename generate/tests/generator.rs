@@ -1,8 +1,8 @@
 //! The generator: the same seed gives the same input, and what it reaches.
 
 use generate::{
-    fixed_open_budgets, fixed_plan_records, fixed_state_records, fixed_streams, limit_plans,
-    Generator,
+    fixed_lists, fixed_open_budgets, fixed_plan_records, fixed_state_records, fixed_streams,
+    limit_plans, Generator,
 };
 use second::*;
 use std::collections::{BTreeMap, BTreeSet};
@@ -189,6 +189,49 @@ fn fixed_open_budgets_reach_each_number_at_each_place_and_each_boundary() {
             assert!(reached.contains(&(number, place)), "{number} at {place}");
         }
     }
+}
+
+#[test]
+fn fixed_lists_reach_each_number_at_each_place_and_each_boundary() {
+    let lists = fixed_lists();
+    let mut reached = BTreeSet::new();
+    let mut frames = BTreeSet::new();
+    let (mut exact, mut whole) = (0, 0);
+    for (m, bytes) in &lists {
+        let list = one_kind::listed(bytes);
+        let (answer, plan) = build(*m, &list);
+        reached.insert((answer.number, answer.place));
+        if answer.is_good() {
+            frames.insert(plan.frame);
+            let cells: u64 = plan.projects.iter().map(|one| u64::from(one.budget)).sum();
+            exact += u64::from(cells == m * u64::from(plan.frame));
+            whole += u64::from(plan.projects.iter().any(|one| one.budget == 64));
+        }
+    }
+    println!("lists {}: sum mF {exact}, B 64 {whole}", lists.len());
+    assert!(exact > 50 && whole > 20 && frames.contains(&1) && frames.contains(&64));
+    for number in [0, 7, 17, 18, 19] {
+        assert!(reached.contains(&(number, 0)), "{number}");
+    }
+    for place in 0..8 {
+        assert!(reached.contains(&(6, place)), "6 at {place}");
+    }
+}
+
+#[test]
+fn random_lists_reach_each_number() {
+    let mut generator = Generator::new(34);
+    let mut reached: BTreeMap<u64, u64> = BTreeMap::new();
+    for _ in 0..RUNS {
+        let (m, bytes) = generator.cards_and_list();
+        let (answer, _) = build(m, &one_kind::listed(&bytes));
+        *reached.entry(answer.number).or_default() += 1;
+    }
+    println!("lists {RUNS}, {reached:?}");
+    for number in [0, 6, 7, 17, 18, 19] {
+        assert!(reached.contains_key(&number), "{number}");
+    }
+    assert!(reached[&0] > RUNS / 8);
 }
 
 #[test]

@@ -11,6 +11,7 @@
 pub mod answer;
 pub mod bytes;
 pub mod layout;
+pub mod one_kind;
 pub mod plan;
 pub mod play;
 pub mod rack;
@@ -21,6 +22,7 @@ pub mod verdict;
 pub use answer::Answer;
 pub use bytes::{read, write};
 pub use layout::slot_table;
+pub use one_kind::build;
 pub use plan::{check, Kind, Plan, Project};
 pub use play::play;
 pub use rack::{advance, fresh, release, show, slice, KindState, State};

@@ -5,10 +5,10 @@ use mathlib.Core.Bool.{not}
 use mathlib.Core.List.{List, [], _∷_}
 use Prim.Native.Nat.{ℕ, _≤_}
 use native.Mathlib.Omega.{arith}
-use lib.Dec.{ltb, eqb}
+use lib.Dec.{leb, ltb, eqb}
 use lib.ListN.{length}
 use Rattle.answer.specs.Numbers.{among, covers, Numbered}
-use Rattle.answer.specs.Numbers.Properties.{bare-numbered, eight-numbered}
+use Rattle.answer.specs.Numbers.Properties.{bare-numbered, kind-numbered, eight-numbered}
 use Rattle.answer.specs.Numbers.Properties.{refuse-numbered, andThen-numbered, each-numbered, wider}
 use Rattle.plan.specs.declared.Plan.{Plan}
 use Rattle.plan.specs.Order.{within, InOrder, ranges, checked}
@@ -26,6 +26,9 @@ use Rattle.smallest_budget.specs.Smallest.{excessWith, sliceWith, lacks, mostBu
 use Rattle.smallest_budget.specs.Smallest.{smallestOf}
 use Rattle.smallest_budget.specs.Steps.{fitWith}
 use Rattle.smallest_budget.specs.Steps.Properties.{with-room, with-slice}
+use Rattle.one_kind.specs.Wanted.{kindsIn, separationIn, lengthIn}
+use Rattle.one_kind.specs.Built.{offered, counts, frameFor, frameFits, timedAlone, kindTimed, kindsTimed, planFor, answerFor, builtOf}
+use Rattle.one_kind.specs.Built.Properties.{counts-say}
 use Rattle.unit.specs.Start.{early, startable}
 use Rattle.rack.specs.declared.State.{State}
 use Rattle.rack.specs.State.{lastClock, unitOf, kindAt, used}
@@ -64,6 +67,10 @@ openOrder = 2 ∷ 3 ∷ 27 ∷ 4 ∷ 5 ∷ 6 ∷ []
 -- "then 8 exactly when no B up to qF serves ..; then 7"
 abbrev pub smallestOrder : List ℕ
 smallestOrder = 8 ∷ 7 ∷ openOrder
+
+-- "Refusals, in order: 17 ..; 18 ..; 6 by kind; 19 ..; 7"
+abbrev pub buildOrder : List ℕ
+buildOrder = 17 ∷ 18 ∷ 6 ∷ 19 ∷ 7 ∷ []
 
 -- "the record order, 10": what every call on a state begins with
 abbrev pub stateOrder : List ℕ
@@ -168,6 +175,28 @@ smallest-numbers p j =
     andThen-numbered _ _ _ (wider _ openOrder _ refl (check-open-numbers p j))
     (λ e. andThen-numbered _ _ _ (served-numbers p j (open-order p j e) (mostBudget p j))
     (λ f. sum-numbers _ (withBudget p j (leastBudget p j)) refl))
+
+-- ---- a plan of one-kind projects
+
+-- `build`
+pub build-numbers : (m : ℕ) (list : List ℕ) → Numbered buildOrder (builtOf m list .answer)
+unfolding builtOf answerFor counts kindsTimed frameFits among
+build-numbers m list =
+    let n = kindsIn list in
+    let T = separationIn list in
+    let C = lengthIn list in
+    andThen-numbered _ _ _ (build-counts m n)
+    (λ e. andThen-numbered _ _ _
+    (each-numbered _ n (kindTimed T C)
+    (λ i l. refuse-numbered _ (not (timedAlone (T i) (C i))) _
+    (kind-numbered _ 6 i refl refl (omega (arith, counts-say m n e .1)))))
+    (λ f. andThen-numbered _ _ _ (refuse-numbered _ (not (leb (frameFor n T) 64)) _ (bare-numbered _ 19 (λ z. omega arith) refl))
+    (λ g. sum-numbers _ (planFor m n T C) refl)))
+  where
+    build-counts : (k n : ℕ) → Numbered buildOrder (counts k n)
+    build-counts k n =
+        andThen-numbered _ _ _ (refuse-numbered _ (not (offered k n)) _ (bare-numbered _ 17 (λ z. omega arith) refl))
+        (λ e. refuse-numbered _ (not (leb n 8)) _ (bare-numbered _ 18 (λ z. omega arith) refl))
 
 -- `State::start`
 pub start-numbers : (p : Plan) → Numbered verdictOrder (startAnswer p)

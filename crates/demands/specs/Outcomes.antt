@@ -26,6 +26,9 @@ use Rattle.verdict.specs.OneOutcome.{judge-one-outcome}
 use Rattle.verdict.specs.Admission.Properties.{none-refused, no-slice-refused}
 use Rattle.smallest_budget.specs.Smallest.{smallestAnswer, smallestOf}
 use Rattle.smallest_budget.specs.OneOutcome.{smallest-budget-one-outcome}
+use Rattle.one_kind.specs.Wanted.{kindsIn, separationIn, lengthIn}
+use Rattle.one_kind.specs.Built.{answerFor, builtOf}
+use Rattle.one_kind.specs.OneOutcome.{build-one-outcome}
 use Rattle.rack.specs.declared.State.{State}
 use Rattle.rack.specs.State.{noState}
 use Rattle.rack.specs.Start.{startOf}
@@ -98,6 +101,17 @@ finding = smallest-budget-one-outcome
 pub finding-refused : (p : Plan) (j : ℕ) → number (smallestOf p j .answer) ≢ 0 → smallestOf p j .budget ≡ 0
 unfolding smallestOf
 finding-refused p j h = let t = refusal (smallestAnswer p j) h in rw (t .1)
+
+-- ---- a plan of one-kind projects
+
+pub building : (cards : ℕ) (list : List ℕ) → One (λ r. r ≡ builtOf cards list)
+building = build-one-outcome
+
+-- "any plan .. that its answer carries is zero when refused"
+pub building-refused : (cards : ℕ) (list : List ℕ) → number (builtOf cards list .answer) ≢ 0 → builtOf cards list .plan ≡ noPlan
+unfolding builtOf
+building-refused cards list h =
+    let t = refusal (answerFor cards (kindsIn list) (separationIn list) (lengthIn list)) h in rw (t .1)
 
 -- ---- a fresh start
 

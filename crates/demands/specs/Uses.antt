@@ -67,6 +67,7 @@ pub mod BadSlices
 pub mod Advice
 pub mod Smallest
 pub mod Five
+pub mod OneKind
 
 -- ---- demand 1: one outcome, and a refusal that changes nothing
 

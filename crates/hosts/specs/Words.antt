@@ -27,11 +27,13 @@ use Rattle.images.specs.Lent.{room}
 use Rattle.demands.specs.Numbers.{recordOrder, bytesOrder, writeOrder, verdictOrder, smallestOrder, stateOrder, releaseOrder}
 use Rattle.demands.specs.Numbers.{showOrder, advanceOrder}
 use Rattle.demands.specs.Numbers.{check-numbers, read-numbers, write-numbers, slot-table-numbers, judge-numbers, smallest-numbers}
-use Rattle.demands.specs.Numbers.{start-numbers, release-numbers, show-numbers, advance-numbers}
+use Rattle.demands.specs.Numbers.{buildOrder, build-numbers, start-numbers, release-numbers, show-numbers, advance-numbers}
 use Rattle.parchbeetle.specs.Outcome.{Outcome}
-use Rattle.parchbeetle.specs.Exports.{checkAnswer, readsAnswer, writesAnswer, slotsAnswer, verdictAnswer, budgetAnswer, freshAnswer}
-use Rattle.parchbeetle.specs.Exports.{stateAnswer, releasesAnswer, showsAnswer, advancesAnswer, Reads, WritesBytes, WritesSlots, Judges, budgetTold}
-use Rattle.parchbeetle.specs.Exports.{Starts, Releases, ShowsRow, Advances}
+use Rattle.parchbeetle.specs.Exports.{checkAnswer, readsAnswer, writesAnswer, slotsAnswer, verdictAnswer, budgetAnswer, buildsAnswer}
+use Rattle.parchbeetle.specs.Exports.{freshAnswer}
+use Rattle.parchbeetle.specs.Exports.{stateAnswer, releasesAnswer, showsAnswer, advancesAnswer}
+use Rattle.parchbeetle.specs.Exports.{Reads, WritesBytes, WritesSlots, Judges, budgetTold}
+use Rattle.parchbeetle.specs.Exports.{Builds, Starts, Releases, ShowsRow, Advances}
 use Rattle.parchbeetle.specs.Exports.Properties.{read-count, good-size, good-table, budget-most}
 
 -- ---- the numbers that each function lists
@@ -74,6 +76,12 @@ unfolding budgetAnswer among covers
 smallest-listed plan project =
     andThen-numbered _ _ _ (room-numbers _ refl plan planSize)
     (λ e. wider _ smallestOrder _ refl (smallest-numbers (planFrom plan) project))
+
+-- `parchbeetle_build`
+pub build-listed : (cards : ℕ) (list plan : List ℕ) → Numbered (9 ∷ buildOrder) (buildsAnswer cards list plan)
+unfolding buildsAnswer among covers
+build-listed cards list plan =
+    andThen-numbered _ _ _ (wider _ buildOrder _ refl (build-numbers cards list)) (λ e. room-numbers _ refl plan planSize)
 
 -- `parchbeetle_fresh`
 pub fresh-listed : (plan state : List ℕ) → Numbered (9 ∷ verdictOrder) (freshAnswer plan state)
@@ -174,6 +182,12 @@ unfolding small
 smallest-decodes plan project r e =
     rw e (told-decodes (budgetAnswer plan project) _ (numbered-holds (9 ∷ smallestOrder) _ refl (smallest-listed plan project))
     (counted (budgetAnswer plan project) _ (λ g. budget-most plan project g)))
+
+-- `parchbeetle_build`
+pub build-decodes : (cards : ℕ) (list plan : List ℕ) (r : ℕ) (after : List ℕ) → Builds cards list plan r after →
+    Decodes (buildsAnswer cards list plan) 0 r
+unfolding small
+build-decodes cards list plan r after = read-again-none (9 ∷ buildOrder) _ _ _ r after refl (build-listed cards list plan)
 
 -- `parchbeetle_fresh`
 pub fresh-decodes : (plan state : List ℕ) (r : ℕ) (after : List ℕ) → Starts plan state r after → Decodes (freshAnswer plan state) 0 r

@@ -16,6 +16,7 @@ use Rattle.plan_bytes.specs.Writing.{writeAnswer}
 use Rattle.layout.specs.Table.{tableAnswer, tableLength, tableOver}
 use Rattle.verdict.specs.Verdict.{judged}
 use Rattle.smallest_budget.specs.Smallest.{smallestOf}
+use Rattle.one_kind.specs.Built.{builtOf}
 use Rattle.rack.specs.State.{freshOf}
 use Rattle.rack.specs.Start.{startAnswer}
 use Rattle.rack.specs.Release.{releaseAnswer, released}
@@ -81,6 +82,15 @@ budgetAnswer plan project = room plan planSize andThen smallestOf (planFrom plan
 abbrev pub budgetTold : List ℕ → ℕ → ℕ
 budgetTold plan project =
     let a = budgetAnswer plan project in told a (ifGood a (smallestOf (planFrom plan) project .budget) 0)
+
+-- `parchbeetle_build`: the order of building, then 9 for the lent image
+unfoldable pub buildsAnswer : ℕ → List ℕ → List ℕ → Answer
+buildsAnswer cards list plan = builtOf cards list .answer andThen room plan planSize
+
+-- the plan that was built, as an image
+abbrev pub Builds : ℕ → List ℕ → List ℕ → ℕ → List ℕ → Type 0
+Builds cards list plan r after =
+    Outcome (buildsAnswer cards list plan) 0 (planImage (builtOf cards list .plan) ++ drop planSize plan) plan r after
 
 -- ---- a state's image
 

@@ -6,7 +6,7 @@ use Prim.Native.Nat.{ℕ}
 use Rattle.answer.specs.Outcome.{One, Lent}
 use Rattle.answer.specs.Outcome.Properties.{is-one, leaves-one}
 use Rattle.answer.specs.Word.{told}
-use Rattle.parchbeetle.specs.Exports.{checkAnswer, Reads, WritesBytes, WritesSlots, Judges, budgetTold, Starts, Releases}
+use Rattle.parchbeetle.specs.Exports.{checkAnswer, Reads, WritesBytes, WritesSlots, Judges, budgetTold, Builds, Starts, Releases}
 use Rattle.parchbeetle.specs.Exports.{ShowsRow, Advances}
 
 -- `parchbeetle_check`
@@ -32,6 +32,11 @@ parchbeetle-verdict-one-outcome plan k = leaves-one _ _
 -- `parchbeetle_smallest_budget`
 pub parchbeetle-smallest-budget-one-outcome : (plan : List ℕ) (project : ℕ) → One (λ r. r ≡ budgetTold plan project)
 parchbeetle-smallest-budget-one-outcome plan project = is-one _
+
+-- `parchbeetle_build`
+pub parchbeetle-build-one-outcome : (cards : ℕ) (list plan : List ℕ) →
+    One (λ (o : Lent ℕ). Builds cards list plan (o .result) (o .buffer))
+parchbeetle-build-one-outcome cards list plan = leaves-one _ _
 
 -- `parchbeetle_fresh`
 pub parchbeetle-fresh-one-outcome : (plan state : List ℕ) → One (λ (o : Lent ℕ). Starts plan state (o .result) (o .buffer))

@@ -6,7 +6,7 @@ ghost use lib.ListN.{length};
 ghost use Rattle.laws.specs.Written.{written};
 ghost use Rattle.answer.specs.Word.{told};
 ghost use Rattle.parchbeetle.specs.Exports.{checkAnswer, Reads, WritesBytes, WritesSlots, verdictByte, Judges, budgetTold};
-ghost use Rattle.parchbeetle.specs.Exports.{Starts, Releases, ShowsRow, Advances};
+ghost use Rattle.parchbeetle.specs.Exports.{Builds, Starts, Releases, ShowsRow, Advances};
 use answer::Answer;
 use plan::Plan;
 use rack::State;
@@ -136,6 +136,19 @@ pub extern "C" fn parchbeetle_smallest_budget(plan: &[u8], project: u64) -> u64
     let smallest = smallest_budget::smallest_budget(found.plan, project as usize);
     let answer = smallest.answer;
     answer.told(smallest.budget)
+}
+
+// Builds a plan of one-kind projects as an image, for so many cards and a list of four bytes a kind.
+#[no_mangle]
+pub extern "C" fn parchbeetle_build(cards: u64, list: &[u8], plan: &mut [u8]) -> u64
+    ensures { λ r. ⌜ Builds cards (now (list .entry)) (now (plan .entry)) r (now (plan .exit)) ⌝ }
+{
+    let built = one_kind::build(cards, list);
+    let answer = built.answer;
+    let Answer::Good = answer else {
+        return answer.told(0);
+    };
+    image_writer::put_plan(built.plan, plan).told(0)
 }
 
 // The fresh state of an image's plan, as an image.

@@ -1,10 +1,11 @@
--- Document 01, "Plan A, plan B and the numbers they give": the table P1 to P11 as one claim, with document 02's bad slices beside them; and
--- document 02 (i) on the same plans, S1 to S8.
+-- Document 01, "Plan A, plan B and the numbers they give": the table P1 to P11 as one claim, with document 02's bad slices beside them;
+-- document 02 (i) on the same plans, S1 to S8; and document 02 (vi), K1 to K8.
 -- Assumes nothing.
 use mathlib.Core.Path.{_≡_}
 use mathlib.Core.List.{List, [], _∷_, map}
 use Prim.Native.Nat.{ℕ}
 use lib.ListN.{replicate}
+use Rattle.plan.specs.declared.Project.{Project}
 use Rattle.plan.specs.declared.Plan.{Plan}
 use Rattle.plan.specs.Open.{withBudget}
 use Rattle.plan.specs.Example.{kind, likeA, planA, planB, opening, bytesA}
@@ -20,6 +21,8 @@ use Rattle.verdict.specs.Verdict.{judged}
 use Rattle.verdict.specs.Advice.{withLength}
 use Rattle.smallest_budget.specs.declared.Smallest.{Smallest}
 use Rattle.smallest_budget.specs.Smallest.{smallestOf}
+use Rattle.one_kind.specs.declared.Built.{Built}
+use Rattle.one_kind.specs.Built.{builtOf}
 use Rattle.answer.specs.declared.Answer.the-variants.{Good}
 pub mod Properties
 
@@ -64,9 +67,31 @@ unfound n at x = n ∷ at ∷ x ∷ 0 ∷ []
 abbrev pub guessed : ℕ → Plan
 guessed B = likeA 3 B (kind 0 8 8 6)
 
+-- what was built: number, place, the frame and the eight budgets
+abbrev pub alone : Built → List ℕ
+alone b = number (b .answer) ∷ place (b .answer) ∷ b .plan .frame ∷ map (λ (v : Project). v .budget) (b .plan .project)
+
+-- a frame and three budgets
+abbrev pub framed : ℕ → ℕ → ℕ → ℕ → List ℕ
+framed F a b c = 0 ∷ 0 ∷ F ∷ a ∷ b ∷ c ∷ replicate 5 0
+
+-- refused: frame and budgets 0
+abbrev pub unbuilt : ℕ → ℕ → List ℕ
+unbuilt n at = n ∷ at ∷ 0 ∷ replicate 8 0
+
+-- a list of one, two and three (T, C), each below 256
+abbrev pub oneOf : ℕ → ℕ → List ℕ
+oneOf T C = 0 ∷ T ∷ 0 ∷ C ∷ []
+
+abbrev pub twoOf : ℕ → ℕ → ℕ → ℕ → List ℕ
+twoOf T C U E = 0 ∷ T ∷ 0 ∷ C ∷ oneOf U E
+
+abbrev pub threeOf : ℕ → ℕ → ℕ → ℕ → ℕ → ℕ → List ℕ
+threeOf T C U E X G = 0 ∷ T ∷ 0 ∷ C ∷ twoOf U E X G
+
 -- ---- the table
 
--- "The proved table is P1 to P11.", and S1 to S8
+-- "The proved table is P1 to P11.", S1 to S8, and K1 to K8
 pub record Table : Type 0 where
   -- "P1 A is .., read and written."
   pub P1-read : readOf bytesA ≡ record { answer = Good; plan = planA; taken = 22 }
@@ -125,3 +150,24 @@ pub record Table : Type 0 where
   pub S7 : least (smallestOf (likeA 2 5 (kind 1 8 8 1)) 1) ≡ unfound 7 0 0
   -- S8 Project 0 then has no kinds: 1.
   pub S8 : least (smallestOf (likeA 2 5 (kind 1 8 8 1)) 0) ≡ found 1
+  -- Document 02 (vi). K1 000's opening kinds, each its own project: F is 3, and three budgets of 2 fill both cards.
+  pub K1 : alone (builtOf 2 (threeOf 3 2 6 4 6 3)) ≡ framed 3 2 2 2
+  pub K1-judged : figures (judged (builtOf 2 (threeOf 3 2 6 4 6 3) .plan)) ≡ admittedWith 1 1 1
+  -- K2 The smallest budget of the last of them is that very B.
+  pub K2 : least (smallestOf (builtOf 2 (threeOf 3 2 6 4 6 3) .plan) 2) ≡ found 2
+  -- K3 3/4, 3/4 and 4/8 are exactly two cards; with 6/8 they are more: 7.
+  pub K3 : alone (builtOf 2 (threeOf 4 3 4 3 8 4)) ≡ framed 4 3 3 2
+  pub K3-more : alone (builtOf 2 (threeOf 4 3 4 3 8 6)) ≡ unbuilt 7 0
+  -- K4 1/2 and 1/3 are within one card, F is 1, and each is rounded up: 7.
+  pub K4 : alone (builtOf 1 (twoOf 2 1 3 1)) ≡ unbuilt 7 0
+  -- K5 The divisor is 64, and 65: 19, though the sum is too large as well.
+  pub K5 : alone (builtOf 1 (oneOf 64 1)) ≡ framed 64 1 0 0
+  pub K5-more : alone (builtOf 1 (twoOf 65 65 65 65)) ≡ unbuilt 19 0
+  -- K6 A unit longer than its separation: 6, place 1.
+  pub K6 : alone (builtOf 1 (twoOf 2 1 2 3)) ≡ unbuilt 6 1
+  -- K7 No cards, nine cards, and bytes that are no list: 17.
+  pub K7-none : alone (builtOf 0 (oneOf 2 1)) ≡ unbuilt 17 0
+  pub K7-nine : alone (builtOf 9 (oneOf 2 1)) ≡ unbuilt 17 0
+  pub K7-list : alone (builtOf 1 (0 ∷ oneOf 2 1)) ≡ unbuilt 17 0
+  -- K8 Nine kinds: 18.
+  pub K8 : alone (builtOf 8 (replicate 36 1)) ≡ unbuilt 18 0

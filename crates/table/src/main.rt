@@ -1,5 +1,5 @@
-// Runs document 01's table P1 to P11 and document 02 (i)'s rows S1 to S8 and prints what comes out;
-// the gate compares. The same table is one proved claim, specs/Table.antt.
+// Runs document 01's table P1 to P11 and document 02's rows S1 to S8 and K1 to K8 and prints what
+// comes out; the gate compares. The same table is one proved claim, specs/Table.antt.
 ghost use Prim.Native.Nat.{_≤_};
 use answer::Answer;
 use plan::Kind;
@@ -113,6 +113,30 @@ fn smallest(case: &[u8], plan: Plan, project: usize) {
     io::write_all(1, b" B");
     space(smallest.budget as u64);
     end_line();
+}
+
+fn print_budget(budget: u16) {
+    space(budget as u64);
+}
+
+fn print_budgets(plan: Plan) {
+    for j in 0..Plan::PROJECTS {
+        print_budget(plan.project[j].budget);
+    }
+    end_line();
+}
+
+// What is built: number, place and excess, the frame and the eight budgets.
+fn alone(case: &[u8], cards: u64, list: &[u8]) {
+    let built = one_kind::build(cards, list);
+    let answer = built.answer;
+    let plan = built.plan;
+    io::write_all(1, case);
+    print_answer(answer);
+    io::write_all(1, b" F");
+    print_small(plan.frame);
+    io::write_all(1, b" B");
+    print_budgets(plan);
 }
 
 // 1 where the supply at k cards and a length meets a workload, and else 0: then a unit of no length
@@ -237,6 +261,33 @@ fn smallest_budgets() {
     smallest(b"S8", like_a(2, 5, kind(1, 8, 8, 1)), 0);
 }
 
+fn one_kind_projects() {
+    let opening = b"\x00\x03\x00\x02\x00\x06\x00\x04\x00\x06\x00\x03";
+    alone(b"K1", 2, opening);
+    let built = one_kind::build(2, opening);
+    verdict(b"K1 judged", built.plan);
+    smallest(b"K2", built.plan, 2);
+    alone(
+        b"K3",
+        2,
+        b"\x00\x04\x00\x03\x00\x04\x00\x03\x00\x08\x00\x04",
+    );
+    alone(
+        b"K3 more",
+        2,
+        b"\x00\x04\x00\x03\x00\x04\x00\x03\x00\x08\x00\x06",
+    );
+    alone(b"K4", 1, b"\x00\x02\x00\x01\x00\x03\x00\x01");
+    alone(b"K5", 1, b"\x00\x40\x00\x01");
+    alone(b"K5 more", 1, b"\x00\x41\x00\x41\x00\x41\x00\x41");
+    alone(b"K6", 1, b"\x00\x02\x00\x01\x00\x02\x00\x03");
+    alone(b"K7 none", 0, b"\x00\x02\x00\x01");
+    alone(b"K7 nine", 9, b"\x00\x02\x00\x01");
+    alone(b"K7 list", 1, b"\x00\x00\x02\x00\x01");
+    let nine = [1u8; 36];
+    alone(b"K8", 8, &nine);
+}
+
 fn main() {
     bytes_of_a();
     layout_of_a();
@@ -259,4 +310,5 @@ fn main() {
     verdict(b"P10", like_a(3, 6, kind(0, 8, 8, 6)));
     verdict(b"P11", like_a(5, 5, kind(0, 8, 8, 6)));
     smallest_budgets();
+    one_kind_projects();
 }

@@ -32,6 +32,8 @@ use Rattle.verdict.specs.Verdict.{judged}
 use Rattle.smallest_budget.specs.declared.Smallest.{Smallest}
 use Rattle.smallest_budget.specs.Smallest.{smallestOf}
 use Rattle.smallest_budget.specs.Smallest.Properties.{found-most}
+use Rattle.one_kind.specs.declared.Built.{Built}
+use Rattle.one_kind.specs.Built.{builtOf}
 use Rattle.rack.specs.declared.State.{State}
 use Rattle.rack.specs.declared.Next.{Next}
 use Rattle.rack.specs.State.{freshOf, noState, nextOf, kindAt, unitOf}
@@ -52,7 +54,8 @@ use Rattle.images.specs.Lent.Properties.{state-on}
 use Rattle.answer.specs.Word.{told}
 use Rattle.parchbeetle.specs.Outcome.Properties.{refused-outcome, good-outcome, stored-outcome, uncounted}
 use Rattle.parchbeetle.specs.Exports.{checkAnswer, readsAnswer, Reads, writesAnswer, WritesBytes, slotsAnswer, WritesSlots}
-use Rattle.parchbeetle.specs.Exports.{verdictAnswer, verdictByte, Judges, budgetAnswer, budgetTold, freshAnswer, Starts, stateAnswer}
+use Rattle.parchbeetle.specs.Exports.{verdictAnswer, verdictByte, Judges, budgetAnswer, budgetTold, buildsAnswer, Builds}
+use Rattle.parchbeetle.specs.Exports.{freshAnswer, Starts, stateAnswer}
 use Rattle.parchbeetle.specs.Exports.{releasesAnswer, Releases, showsAnswer, ShowsRow, advancesAnswer, Advances}
 
 -- ---- `parchbeetle_check`
@@ -229,6 +232,22 @@ budget-told plan project f v r e g h t =
     let a : s .answer ≡ (room plan planSize andThen s .answer) = plan-on plan f (s .answer) (s .answer) e g refl in
     t ∙ ap (λ (x : Smallest). told (x .answer) (x .budget)) q ∙ ap (told (s .answer)) (budget-is (planFrom plan) project (s .answer) refl)
     ∙ ap (λ (x : Answer). told x (ifGood x (s .budget) 0)) a
+
+-- ---- `parchbeetle_build`: v is what was built
+
+pub build-refused : (cards : ℕ) (list plan : List ℕ) (v : Built) (w : Refusal) (r : ℕ) → v ≡ builtOf cards list → v .answer ≡ No w →
+    r ≡ told (v .answer) 0 → Builds cards list plan r plan
+unfolding buildsAnswer
+build-refused cards list plan v w r e g h =
+    refused-outcome (buildsAnswer cards list plan) (v .answer) w _ _ plan r g h
+    (opened-no (v .answer) (builtOf cards list .answer) (room plan planSize) w g (ap (λ (x : Built). x .answer) e))
+
+pub build-stored : (cards : ℕ) (list plan after : List ℕ) (v : Built) (b : Answer) (r : ℕ) → v ≡ builtOf cards list → v .answer ≡ Good →
+    StoresPlan (v .plan) plan b after → r ≡ told b 0 → Builds cards list plan r after
+unfolding buildsAnswer
+build-stored cards list plan after v b r e g t h =
+    rw (← e) (stored-outcome (v .answer andThen room plan planSize) b 0 planSize (planImage (v .plan)) plan after r t
+    (opened-on (v .answer) (v .answer) (room plan planSize) b g refl (t .result)) (uncounted b r h))
 
 -- ---- `parchbeetle_fresh`: v is what the start handed back
 

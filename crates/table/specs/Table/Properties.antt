@@ -1,4 +1,4 @@
--- The proved table: document 01's P1 to P11 and document 02 (i)'s S1 to S8, computed from the definitions.
+-- The proved table: document 01's P1 to P11 and document 02's S1 to S8 and K1 to K8, computed from the definitions.
 -- Assumes nothing.
 use mathlib.Core.Path.{refl}
 use Rattle.laws.specs.Sum.{sumTo}
@@ -28,6 +28,9 @@ use Rattle.plan_bytes.specs.Reading.{bodyAnswer, readAnswer, readOf}
 use Rattle.workload.specs.Workload.{besides, partOf, workload}
 use Rattle.verdict.specs.Verdict.{widthOf, excessOf, badSliceOf, fitted, admitted, judged}
 use Rattle.smallest_budget.specs.Smallest.{widthWith, excessWith, sliceWith, serves, leastBudget, servedWith, smallestAnswer, smallestOf}
+use Rattle.one_kind.specs.Divisor.{repeated, divisor, divisorTo}
+use Rattle.one_kind.specs.Wanted.{kindsIn, fieldAt}
+use Rattle.one_kind.specs.Built.{roundedUp, offered, counts, frameFits, timedAlone, kindsTimed, answerFor, builtOf}
 use Rattle.table.specs.Table.{Table}
 
 pub table : Table
@@ -38,7 +41,8 @@ unfolding sumTo leastTo leastPlace firstTo countTo allTo written eachTo within s
     unpack numberTo bytesOf size headerBytes projectBytes kindBytes partsTo encoded headerFields projectFields kindFields
     projectFrom kindFrom projectsFrom kindsFrom headed decoded headerSpare projectSpare kindSpare projectsSpare kindsSpare
     placesSpare spareZero bodyAnswer readAnswer readOf projectThere inRangeOpen projectsInRangeOpen rangesOpen checkedOpen widthWith
-    excessWith sliceWith serves leastBudget servedWith smallestAnswer smallestOf
+    excessWith sliceWith serves leastBudget servedWith smallestAnswer smallestOf repeated divisor divisorTo kindsIn fieldAt roundedUp
+    offered counts frameFits timedAlone kindsTimed answerFor builtOf
 table = record {
   P1-read = refl;
   P1-written = refl;
@@ -76,4 +80,17 @@ table = record {
   S6 = refl;
   S7 = refl;
   S8 = refl;
+  K1 = refl;
+  K1-judged = refl;
+  K2 = refl;
+  K3 = refl;
+  K3-more = refl;
+  K4 = refl;
+  K5 = refl;
+  K5-more = refl;
+  K6 = refl;
+  K7-none = refl;
+  K7-nine = refl;
+  K7-list = refl;
+  K8 = refl;
 }

@@ -9,7 +9,7 @@ use crate::State;
 use answer::Answer;
 
 impl State {
-    // The record order, 10, 11.
+    // The record order, 10, 16, 11.
     fn may_advance(self) -> Answer
         ensures { λ r. ⌜ r ≡ advanceAnswer self ⌝ }
     {
@@ -23,7 +23,8 @@ impl State {
         Answer::Good
     }
 
-    // Runs one slice: one slice less for each kind that sits, and the next clock.
+    // Runs one slice: one slice less for each kind that sits, one less in its project's sum, and the
+    // next clock.
     pub fn advance(mut self) -> Next
         ensures { λ r. ⌜ r ≡ advanceOf self ⌝ }
     {
@@ -34,6 +35,7 @@ impl State {
                 state: self,
             };
         };
+        let plan = self.plan;
         let seat = self.seats();
         let kinds = self.places();
         for i in 0..kinds {
@@ -41,6 +43,8 @@ impl State {
                 continue;
             }
             self.unit[i].left -= 1;
+            let project = plan.kind[i].project as usize;
+            self.sum[project] -= 1;
         }
         self.clock += 1;
         Next {

@@ -135,11 +135,11 @@ module _ (p : Plan) (admitted : startOf p .answer ≡ Good) where
       ap (λ (x : State). sumAt x j) (good-moves (releaseAnswer s i e) (released s i e) s good)
       ∙ elim (ℕ-discrete (kindAt s i .project) j) [
         | yes z ↦
-          ap (sumAt (released s i e)) (sym z) ∙ release-sum s i e may (safe .places)
-          ∙ omega (arith, ap (sumAt s) z, own (kindOf p i .project) (sym same ∙ z))
+            ap (sumAt (released s i e)) (sym z) ∙ release-sum s i e may (safe .places)
+            ∙ omega (arith, ap (sumAt s) z, own (kindOf p i .project) (sym same ∙ z))
         | no z ↦
-          release-sum-others s i e may (safe .places) j (λ q. z (sym q))
-          ∙ omega (arith, another (kindOf p i .project) (λ q. z (same ∙ q)))
+            release-sum-others s i e may (safe .places) j (λ q. z (sym q))
+            ∙ omega (arith, another (kindOf p i .project) (λ q. z (same ∙ q)))
       ]
     where
       own : (c : ℕ) → c ≡ j → cond (eqb c j) e 0 ≡ e

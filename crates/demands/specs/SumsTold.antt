@@ -72,11 +72,11 @@ own-first listed (No w) b n out some k = (λ e. e, λ e. e)
 
 -- ---- two lists with no number in common
 
-disjoint : List ℕ → List ℕ → Bool
+unfoldable pub disjoint : List ℕ → List ℕ → Bool
 disjoint listed [] = true
 disjoint listed (m ∷ few) = not (among listed m) && disjoint listed few
 
-apart : (listed few : List ℕ) (n : ℕ) → disjoint listed few ≡ true → among few n ≡ true → among listed n ≡ false
+pub apart : (listed few : List ℕ) (n : ℕ) → disjoint listed few ≡ true → among few n ≡ true → among listed n ≡ false
 unfolding disjoint among
 apart listed [] n d e = absurd (true≢false (sym e))
 apart listed (m ∷ few) n d e = go (eqb n m) refl (apart listed few n) d e
@@ -187,7 +187,7 @@ module _ (s : State) (call : Call) where
       go Good q = q
       go (No w) q =
           let same : number (nextAfter s call .answer) ≡ number (ready s) =
-              ap number (answered s call ∙ ap (λ (a : Answer). a andThen restOf s call) q ∙ sym q) in
+          ap number (answered s call ∙ ap (λ (a : Answer). a andThen restOf s call) q ∙ sym q) in
           let out = apart ownNumbers stateOrder (number (ready s)) refl (ready-numbers s .its-number w q) in
           absurd (true≢false (sym e ∙ ap (among ownNumbers) same ∙ out))
 

@@ -174,7 +174,7 @@ fn hold(held: &mut [u8; 128], first: u32, budget: u32, frame: u8) {
     }
 }
 
-/// What the other kinds of its project may ask for within a kind's deadline.
+/// What the other kinds of its project may ask for within a kind's deadline, by document 000's equation 3.
 fn workload(plan: &Plan, i: usize) -> u32 {
     let kinds = &plan.kinds[..usize::from(plan.n)];
     let kind = &kinds[i];
@@ -183,7 +183,8 @@ fn workload(plan: &Plan, i: usize) -> u32 {
     for (j, other) in kinds.iter().enumerate() {
         if j != i && other.project == kind.project {
             let (t, c) = (u32::from(other.separation), u32::from(other.length));
-            w += d / t * c + c.min(d % t);
+            let whole = (d + t - u32::from(other.deadline)) / t;
+            w += whole * c + c.min(d.saturating_sub(whole * t));
         }
     }
     w

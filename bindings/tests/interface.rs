@@ -556,7 +556,7 @@ fn the_header_the_bindings_and_the_exported_functions_agree() {
     let texts = texts();
     let found = differences(&texts);
     assert!(found.is_empty(), "{}", found.join("\n"));
-    assert!(declared(&texts.header).len() >= 10);
+    assert_eq!(declared(&texts.header).len(), 11);
 }
 
 #[test]

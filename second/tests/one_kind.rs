@@ -7,7 +7,7 @@ fn refused(number: u64, place: u64) -> (Answer, Plan) {
     let answer = Answer {
         number,
         place,
-        excess: 0,
+        ..Answer::GOOD
     };
     (answer, Plan::default())
 }

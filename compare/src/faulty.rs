@@ -439,7 +439,7 @@ pub const RECORD_FAULTS: [(Fault, &str, &str); 87] = [
     ),
     (
         SumRepairedBySixteen,
-        "sum-told-repaired",
+        "sum-put-right",
         "16 is told, and the sums given back are put right",
     ),
     (

@@ -269,7 +269,7 @@ pub fn table() -> Vec<Named> {
     // (vii): one bit of a sum, of slices left, and of a sum beyond p; 10 before 16, and 16 before 9, 11 and 12.
     let (mut sum, mut left, mut beyond) = (state, state, state);
     sum.sums[1] ^= 1;
-    left.kinds[1].left ^= 1;
+    left.kinds[1].left ^= 2;
     beyond.sums[2] ^= 1;
     for (state, number) in [(&sum, 16), (&left, 16), (&beyond, 10)] {
         let releasing = |kind, e| Case::release(state_image(state).to_vec(), kind, e);

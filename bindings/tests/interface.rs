@@ -623,7 +623,7 @@ fn one_thing_changed_on_one_side_is_found() {
         (images, "unitWidths = 8 ∷ 32", "unitWidths = 32 ∷ 8"),
         (images, "row 8 projectWidths", "row 9 projectWidths"),
         (header, "sum sum[8]", "sum sum[9]"),
-        (header, "SUM_FIELDS(field)                                                   \\\n    field(left, 2)", "SUM_FIELDS(field)                                                   \\\n    field(left, 4)"),
+        (header, "field(left, 2)        /* slices left of all", "field(left, 4)        /* slices left of all"),
         (bindings, "pub sum: [u16; 8]", "pub sum: [u32; 8]"),
         (code, "pub sum: [u16; ", "pub sums: [u16; "),
         // A size.

@@ -155,7 +155,7 @@ module _ (s : State) (r : Ready s) (places : Places s) (i v : ℕ) (l : i < 16) 
       let old : ℕ → ℕ = λ k. cond (eqb (kindAt s k .project) c) (unitOf s k .left) 0 in
       let new : ℕ → ℕ = λ k. cond (eqb (kindAt s k .project) c) (unitOf u k .left) 0 in
       let others : (k : ℕ) → k < kindPlaces s → k ≢ i → new k ≡ old k = λ k q z.
-          ap (λ (x : Unit). cond (eqb (kindAt s k .project) c) (x .left) 0) (unit-same k z) in
+      ap (λ (x : Unit). cond (eqb (kindAt s k .project) c) (x .left) 0) (unit-same k z) in
       let project = r .order .kind-at i m .its-project in
       let was = left-own s c i refl in
       let is = left-own u c i refl ∙ ap (λ (x : Unit). x .left) unit-new in

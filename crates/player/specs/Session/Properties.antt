@@ -66,6 +66,9 @@ at-over g a b c e = rw e
 pub waits-on : (last : Bool) (n : ℕ) (a : Answer) → not last ≡ true → n ≡ number a → eqb n 1 ≡ (not last && eqb (number a) 1)
 waits-on last n a e f = rw (e, f)
 
+pub and-on : (a b : Bool) → a ≡ true → b ≡ (a && b)
+and-on a b e = rw e
+
 -- ---- the ways out of a line
 
 -- a step of these parts, whose line shows no row

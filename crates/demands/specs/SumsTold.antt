@@ -2,18 +2,19 @@
 -- Assumes nothing.
 use mathlib.Core.Path.{_≡_, refl, sym, ap, _∙_}
 use mathlib.Core.Logic.{_≢_, _↔_}
-use mathlib.Core.Bool.{Bool, true, false, not, _&&_, true≢false}
+use mathlib.Core.Bool.{Bool, true, false, not, _&&_, _||_, true≢false}
 use mathlib.Core.List.{List, [], _∷_}
 use Prim.Native.Nat.{ℕ, zero, suc, _<_}
 use native.Mathlib.Omega.{arith}
 use lib.Dec.{ltb, eqb}
 use lib.ListN.{length}
-use borrow.Author.Tests.{eqb-false}
+use borrow.Author.Tests.{eqb-true, eqb-false, not-true}
+use Rattle.laws.specs.Tests.{and-left, and-right}
 use Rattle.laws.specs.All.{allTo}
 use Rattle.answer.specs.declared.Answer.{Answer}
 use Rattle.answer.specs.declared.Answer.the-variants.{Good, No}
 use Rattle.answer.specs.Answer.{bare, number, refuse, _andThen_}
-use Rattle.answer.specs.Numbers.{among, covers, Numbered}
+use Rattle.answer.specs.Numbers.{among, Numbered}
 use Rattle.answer.specs.Numbers.Properties.{bare-numbered, refuse-numbered, andThen-numbered}
 use Rattle.plan.specs.Order.{within, InOrder, checked}
 use Rattle.plan.specs.Order.Properties.{in-order, in-order-good}
@@ -29,7 +30,7 @@ use Rattle.rack.specs.Release.{releaseAnswer, releaseOf}
 use Rattle.rack.specs.Advance.{timeLeft, advanceAnswer, advanceOf}
 use Rattle.rack.specs.Show.{roomFor, showAnswer}
 use Rattle.demands.specs.Run.{Call, show, advance, release, nextAfter}
-use Rattle.demands.specs.Numbers.{recordOrder, check-numbers}
+use Rattle.demands.specs.Numbers.{recordOrder, stateOrder, check-numbers, ready-numbers}
 use Rattle.demands.specs.Flipped.{ownNumbers}
 
 -- ---- a call answers by the state, and then by what is its own
@@ -69,10 +70,21 @@ own-first listed Good b n out some k = (λ e. absurd (go b refl e), λ e. absurd
     go (No w) e q = true≢false (sym (k .its-number w e) ∙ ap (among listed) q ∙ out)
 own-first listed (No w) b n out some k = (λ e. e, λ e. e)
 
--- and one of the list, with 0, says that the state was good
-rest-first : (a b : Answer) (listed : List ℕ) → among ownNumbers (number a) ≡ false → (a ≡ Good → ⊥) → among ownNumbers (number (a andThen b)) ≡ true → ⊥
-rest-first Good b listed out no e = no refl
-rest-first (No w) b listed out no e = true≢false (sym e ∙ out)
+-- ---- two lists with no number in common
+
+unfoldable pub disjoint : List ℕ → List ℕ → Bool
+disjoint listed [] = true
+disjoint listed (m ∷ few) = not (among listed m) && disjoint listed few
+
+pub apart : (listed few : List ℕ) (n : ℕ) → disjoint listed few ≡ true → among few n ≡ true → among listed n ≡ false
+unfolding disjoint among
+apart listed [] n d e = absurd (true≢false (sym e))
+apart listed (m ∷ few) n d e = go (eqb n m) refl (apart listed few n) d e
+  where
+    go : (b : Bool) → eqb n m ≡ b → (disjoint listed few ≡ true → among few n ≡ true → among listed n ≡ false) →
+        (not (among listed m) && disjoint listed few) ≡ true → (b || among few n) ≡ true → among listed n ≡ false
+    go true q r d e = ap (among listed) (eqb-true n m q) ∙ not-true (among listed m) (and-left (not (among listed m)) (disjoint listed few) d)
+    go false q r d e = r (and-right (not (among listed m)) (disjoint listed few) d) e
 
 -- ---- of the state itself
 
@@ -168,13 +180,24 @@ module _ (s : State) (call : Call) where
 
   -- a call that is good, or refused by 9, 11 or 12 to 15, found nothing wrong with the state
   pub taken-ready : among ownNumbers (number (nextAfter s call .answer)) ≡ true → Ready s
+  unfolding among disjoint
   taken-ready e = ready-says s (go (ready s) refl)
     where
       go : (a : Answer) → ready s ≡ a → ready s ≡ Good
       go Good q = q
-      go (No w) q = absurd (own-none s w q (ap (λ (a : Answer). among ownNumbers (number (a andThen restOf s call))) (sym q)
-          ∙ ap (λ (a : Answer). among ownNumbers (number a)) (sym (answered s call)) ∙ e))
+      go (No w) q =
+          let same : number (nextAfter s call .answer) ≡ number (ready s) =
+          ap number (answered s call ∙ ap (λ (a : Answer). a andThen restOf s call) q ∙ sym q) in
+          let out = apart ownNumbers stateOrder (number (ready s)) refl (ready-numbers s .its-number w q) in
+          absurd (true≢false (sym e ∙ ap (among ownNumbers) same ∙ out))
 
   -- and every call on a state with nothing wrong is
   pub ready-taken : Ready s → among ownNumbers (number (nextAfter s call .answer)) ≡ true
-  ready-taken r = ?
+  unfolding among
+  ready-taken r =
+      ap (λ (a : Answer). among ownNumbers (number a)) (answered s call ∙ ap (λ (a : Answer). a andThen restOf s call) (ready-of s r))
+      ∙ go (restOf s call) refl
+    where
+      go : (a : Answer) → restOf s call ≡ a → among ownNumbers (number (restOf s call)) ≡ true
+      go Good q = ap (λ (a : Answer). among ownNumbers (number a)) q
+      go (No w) q = rest-numbers s call .its-number w q

@@ -1,6 +1,6 @@
 -- A state that is ready with one sum or one kind's slices left changed is not: it is out of form, or a sum differs.
 -- Assumes nothing.
-use mathlib.Core.Path.{_≡_, refl, sym, ap, _∙_}
+use mathlib.Core.Path.{_≡_, refl, sym, ap, ap₂, _∙_}
 use mathlib.Core.Logic.{_≢_}
 use mathlib.Core.Bool.{Bool, true, false, cond, not, _&&_, true≢false}
 use mathlib.Core.List.{List, [], _∷_}
@@ -175,17 +175,27 @@ module _ (s : State) (r : Ready s) (places : Places s) (i v : ℕ) (l : i < 16) 
           let was = ap (λ (x : Unit). x .left) (r .form .unused i l m) in
           other (is ∙ sym was))
 
-      inside : InUse s i → (b : Bool) → unitOf s i .released ≡ b → ready u ≡ bare (cond (unitOf s i .released && leb v (kindAt s i .length)) 16 10)
+      -- by whether it was ever released, and whether it could be so long
+      numbered : Bool → Bool → Answer
+      numbered a b = bare (cond (a && b) 16 10)
+
+      inside : InUse s i → (b : Bool) → unitOf s i .released ≡ b →
+          ready u ≡ numbered (unitOf s i .released) (leb v (kindAt s i .length))
       inside m true e =
           elim (decLe v (kindAt s i .length)) [
-            | yes q ↦ rw (e, le-leb v (kindAt s i .length) q) (sum-wrong u in-order (form-still m e q) (sum-off m))
-            | no q ↦ rw (e, lt-leb v (kindAt s i .length) (omega arith)) (not-in-form u in-order (λ f. over q (f .unit-at i l m)))
+            | yes q ↦
+                sum-wrong u in-order (form-still m e q) (sum-off m)
+                ∙ ap₂ numbered (sym e) (sym (le-leb v (kindAt s i .length) q))
+            | no q ↦
+                not-in-form u in-order (λ f. over q (f .unit-at i l m))
+                ∙ ap₂ numbered (sym e) (sym (lt-leb v (kindAt s i .length) (omega arith)))
           ]
         where
           over : (v ≤ kindAt s i .length → ⊥) → UnitInForm (s .clock) (kindAt s i .length) (unitOf u i) → ⊥
           over q f = q (omega (arith, f .left-most, ap (λ (x : Unit). x .left) unit-new))
       inside m false e =
-          rw e (not-in-form u in-order (λ f.
+          not-in-form u in-order (λ f.
           let is = f .unit-at i l m .never (ap (λ (x : Unit). x .released) unit-new ∙ e) .1 in
           let was = r .form .unit-at i l m .never e .1 in
-          other (sym (ap (λ (x : Unit). x .left) unit-new) ∙ is ∙ sym was)))
+          other (sym (ap (λ (x : Unit). x .left) unit-new) ∙ is ∙ sym was))
+          ∙ ap (λ (b : Bool). numbered b (leb v (kindAt s i .length))) (sym e)

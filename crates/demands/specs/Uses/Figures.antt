@@ -169,9 +169,11 @@ pub running : Running
 unfolding sumTo leastTo firstTo countTo allTo written rankIn firstIn sooner eachTo within sized emptyProject emptyKind tidyProjects
     tidyKinds inRange timed budgets sizes unused projectsInRange kindInRange kindsInRange budgetsFit ranges checked cellAt heldFrom
     firstCell owns slotOf held window supply workloadPart fitsAt leastWidth greatestTo allowedLength leastExcess besides partOf
-    workload widthOf excessOf fitted admitted untouched underway unitInForm emptyUnit early startable leftFor projectLeft sumsRight sumFits sumsInForm inForm sumsTold ready gone due working
+    workload widthOf excessOf fitted admitted untouched underway unitInForm emptyUnit early startable leftFor projectLeft
+    sumsRight sumFits sumsInForm inForm sumsTold ready gone due working
     active activeKinds outranks hasCard cardsHeld rankOf chosen takesCard byteOn viewOf rank served holds byteBy rowByte rowOf
-    rowOver startAnswer startOf releaseAnswer released releaseOf unitAfter servedFor sumAfter advanced timeLeft advanceAnswer advanceOf roomFor
+    rowOver startAnswer startOf releaseAnswer released releaseOf unitAfter servedFor sumAfter
+    advanced timeLeft advanceAnswer advanceOf roomFor
     showAnswer bufferShown runFrom acceptedIn slicesOf unshown handedBack sinceCall sinceFrom namesKind bytesIn shownBy shown upTo
     lastFrom restarted kindsLeft
 running = record {
@@ -312,7 +314,8 @@ verdicts = record {
 pub ranks : Ranked
 unfolding sumTo firstTo countTo allTo rankIn firstIn sooner eachTo within sized emptyProject emptyKind tidyProjects tidyKinds inRange
     timed budgets sizes unused projectsInRange kindInRange kindsInRange budgetsFit ranges checked cellAt heldFrom firstCell owns slotOf
-    held untouched underway unitInForm emptyUnit leftFor projectLeft sumsRight sumFits sumsInForm inForm sumsTold ready due working active activeKinds outranks hasCard cardsHeld rankOf chosen
+    held untouched underway unitInForm emptyUnit leftFor projectLeft sumsRight sumFits sumsInForm inForm sumsTold ready
+    due working active activeKinds outranks hasCard cardsHeld rankOf chosen
     takesCard byteOn viewOf rank holds byteBy rowByte
 ranks = record {
   ready-both = refl;

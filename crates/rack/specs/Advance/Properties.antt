@@ -17,11 +17,14 @@ use Rattle.laws.specs.Sum.Properties.{sum-le, sum-cong, sum-add}
 use Rattle.laws.specs.Count.{countTo}
 use Rattle.laws.specs.Count.Properties.{count-none, count-yes, count-no, count-split, count-cong, count-sum}
 use Rattle.laws.specs.Written.{written}
-use Rattle.laws.specs.Written.Properties.{written-again, written-at, written-kept, written-length, written-stop, written-same, written-cong}
+use Rattle.laws.specs.Written.Properties.{written-none, written-again, written-at, written-kept, written-length, written-stop}
+use Rattle.laws.specs.Written.Properties.{written-same, written-cong}
 use Rattle.answer.specs.declared.Answer.{Answer}
 use Rattle.answer.specs.declared.Answer.the-variants.{Good, No}
 use Rattle.answer.specs.declared.Refusal.{Refusal}
 use Rattle.answer.specs.Answer.Properties.{andThen-left, andThen-right, refuse-good}
+use Rattle.plan.specs.declared.Plan.{Plan}
+use Rattle.plan.specs.Order.{kindOf}
 use Rattle.unit.specs.declared.Unit.{Unit}
 use Rattle.unit.specs.Unit.{noUnit}
 use Rattle.unit.specs.Form.{UnitInForm}
@@ -63,10 +66,6 @@ advance-opened s r good is = advance-says s (sym is ∙ good)
 pub advance-ready : (s : State) (r : Answer) → r ≡ Good → r ≡ advanceAnswer s → Ready s
 advance-ready s r good is = advance-opened s r good is .ready
 
--- the clock can rise: s is the state as it was, and the clock still its own
-pub advance-early : (s : State) (clock : ℕ) → Advanceable s → clock ≡ s .clock → clock + 1 < 4294967296
-advance-early s clock may e = omega (arith, may .time)
-
 -- an accepted one hands back the state that follows, and a refusal changes nothing
 pub advance-moves : (s : State) → advanceOf s .answer ≡ Good → advanceOf s .state ≡ advanced s
 unfolding advanceOf
@@ -79,7 +78,7 @@ advance-refused s w e = refused-keeps (advanceAnswer s) w (advanced s) s e
 -- ---- a kind's unit after it
 
 -- one slice less
-abbrev lowered : Unit → Unit
+abbrev pub lowered : Unit → Unit
 lowered v = record { released = v .released; at = v .at; left = v .left - 1 }
 
 pub after-served : (s : State) (i : ℕ) → served s i ≡ true → unitAfter s i ≡ lowered (unitOf s i)
@@ -122,7 +121,9 @@ module _ (s : State) (r : Ready s) (seat : List ℕ) (es : seat ≡ seatsOf s) (
   lowered-not z = written-same i (unitAfter s) (s .unit) units noUnit so-far (after-unserved s i (not-seated s r seat es i n en l z))
 
   pub lowered-some : (at seat i ≡ 0 → ⊥) → 0 < getD units i noUnit .left
-  lowered-some z = omega (arith, ap (λ (v : Unit). v .left) unit-here, working-left s i (served-working s i (is-seated s r seat es i n en l z)))
+  lowered-some z =
+      let left = working-left s i (served-working s i (is-seated s r seat es i n en l z)) in
+      omega (arith, ap (λ (v : Unit). v .left) unit-here, left)
 
   pub lowered-one : (at seat i ≡ 0 → ⊥) → set units i (lowered (getD units i noUnit)) ≡ written (i + 1) (unitAfter s) (s .unit)
   lowered-one z =
@@ -176,7 +177,8 @@ sumsBelow s i = written (projectPlaces s) (λ j. sumAt s j - countTo i (servedFo
 
 pub sums-start : (s : State) → s .sum ≡ sumsBelow s 0
 sums-start s =
-    sym (written-there (projectPlaces s) (λ j. sumAt s j - countTo 0 (servedFor s j)) (s .sum) 0 (λ j l. omega (arith, count-none (servedFor s j))))
+    sym (written-there (projectPlaces s) (λ j. sumAt s j - countTo 0 (servedFor s j)) (s .sum) 0
+    (λ j l. omega (arith, count-none (servedFor s j))))
 
 module _ (s : State) (r : Ready s) (seat : List ℕ) (es : seat ≡ seatsOf s) (sums : List ℕ) (i : ℕ)
     (so-far : sums ≡ sumsBelow s i) (n : ℕ) (en : n ≡ kindPlaces s) (l : i < n) where
@@ -186,7 +188,8 @@ module _ (s : State) (r : Ready s) (seat : List ℕ) (es : seat ≡ seatsOf s) (
   pub sums-same : at seat i ≡ 0 → sums ≡ sumsBelow s (i + 1)
   sums-same z =
       so-far
-      ∙ written-cong (projectPlaces s) (λ j. sumAt s j - countTo i (servedFor s j)) (λ j. sumAt s j - countTo (i + 1) (servedFor s j)) (s .sum)
+      ∙ written-cong (projectPlaces s) (λ j. sumAt s j - countTo i (servedFor s j)) (λ j. sumAt s j - countTo (i + 1) (servedFor s j))
+      (s .sum)
       (λ j m. ap (λ (x : ℕ). sumAt s j - x)
       (count-no (countTo i (servedFor s j)) i (servedFor s j) refl (served-none s j i (not-seated s r seat es i n en l z))))
 
@@ -241,23 +244,85 @@ module _ (s : State) (r : Ready s) (seat : List ℕ) (es : seat ≡ seatsOf s) (
         (λ j m q. ap (λ (x : ℕ). sumAt s j - x)
         (sym (count-no (countTo i (servedFor s j)) i (servedFor s j) refl (served-other s j i (λ w. q (sym (ec ∙ w)))))))
 
--- and the clock: n of m places are done
-pub advanced-is : (s t : State) (n m : ℕ) → m ≡ kindPlaces s → t .plan ≡ s .plan → t .clock ≡ s .clock →
-    t .unit ≡ written n (unitAfter s) (s .unit) → t .sum ≡ sumsBelow s n → n ≤ m → m ≤ n →
-    record { plan = t .plan; clock = t .clock + 1; unit = t .unit; sum = t .sum } ≡ advanced s
-unfolding advanced sumAfter
-advanced-is s t n m e p q u v a b =
-    let done : n ≡ kindPlaces s = omega arith in
-    let all = written-stop n (kindPlaces s) (unitAfter s) (s .unit) (t .unit) u (omega arith) (omega arith) in
-    let sums = v ∙ ap (λ (x : ℕ). sumsBelow s x) done in
-    λ k. record { plan = p k; clock = q k + 1; unit = all k; sum = sums k }
+-- ---- the loop on both
+
+-- what it goes by: the plan, the seats and the number of places of a state that may be advanced
+pub record Laid (s : State) (plan : Plan) (seat : List ℕ) (n : ℕ) : Type 0 where
+  pub may : Advanceable s
+  pub plan-is : plan ≡ s .plan
+  pub seats : seat ≡ seatsOf s
+  pub places : n ≡ kindPlaces s
+
+-- the state t when i places are done
+pub record Ran (s : State) (i : ℕ) (t : State) : Type 0 where
+  pub plan : t .plan ≡ s .plan
+  pub clock : t .clock ≡ s .clock
+  pub unit : t .unit ≡ written i (unitAfter s) (s .unit)
+  pub sum : t .sum ≡ sumsBelow s i
+
+pub ran-none : (s : State) → Ran s 0 s
+ran-none s = record { plan = refl; clock = refl; unit = written-none (unitAfter s) (s .unit); sum = sums-start s }
+
+module _ (s : State) (plan : Plan) (seat : List ℕ) (n : ℕ) (laid : Laid s plan seat n) (i : ℕ) (t : State) (ran : Ran s i t) (l : i < n) where
+  pub ran-project : kindOf plan i .project < 8
+  ran-project =
+      rw (laid .plan-is) (lowered-project s (laid .may .ready) seat (laid .seats) (t .sum) i (ran .sum) n (laid .places) l)
+
+  pub ran-same : at seat i ≡ 0 → Ran s (i + 1) t
+  ran-same z = record {
+    plan = ran .plan;
+    clock = ran .clock;
+    unit = lowered-not s (laid .may .ready) seat (laid .seats) (t .unit) i (ran .unit) n (laid .places) l z;
+    sum = sums-same s (laid .may .ready) seat (laid .seats) (t .sum) i (ran .sum) n (laid .places) l z;
+  }
+
+  module _ (z : at seat i ≡ 0 → ⊥) where
+    pub ran-left : 0 < getD (t .unit) i noUnit .left
+    ran-left = lowered-some s (laid .may .ready) seat (laid .seats) (t .unit) i (ran .unit) n (laid .places) l z
+
+    module _ (c : ℕ) (e : c ≡ kindOf plan i .project) where
+      its : c ≡ kindAt s i .project
+      its = e ∙ ap (λ (p : Plan). kindOf p i .project) (laid .plan-is)
+
+      pub ran-sum : 0 < getD (t .sum) c 0
+      ran-sum = sums-some s (laid .may .ready) seat (laid .seats) (t .sum) i (ran .sum) n (laid .places) l z c its
+
+      pub ran-one : Ran s (i + 1) (record {
+        plan = t .plan;
+        clock = t .clock;
+        unit = set (t .unit) i (lowered (getD (t .unit) i noUnit));
+        sum = set (t .sum) c (getD (t .sum) c 0 - 1);
+      })
+      ran-one = record {
+        plan = ran .plan;
+        clock = ran .clock;
+        unit = lowered-one s (laid .may .ready) seat (laid .seats) (t .unit) i (ran .unit) n (laid .places) l z;
+        sum = sums-one s (laid .may .ready) seat (laid .seats) (t .sum) i (ran .sum) n (laid .places) l z c its;
+      }
+
+-- and the clock: i of n places are done
+module _ (s : State) (plan : Plan) (seat : List ℕ) (n : ℕ) (laid : Laid s plan seat n) (i : ℕ) (t : State) (ran : Ran s i t) where
+  pub ran-early : t .clock + 1 < 4294967296
+  ran-early = omega (arith, ran .clock, laid .may .time)
+
+  pub ran-all : i ≤ n → n ≤ i → record { plan = t .plan; clock = t .clock + 1; unit = t .unit; sum = t .sum } ≡ advanced s
+  unfolding advanced sumAfter
+  ran-all a b =
+      let e = laid .places in
+      let done : i ≡ kindPlaces s = omega arith in
+      let all = written-stop i (kindPlaces s) (unitAfter s) (s .unit) (t .unit) (ran .unit) (omega arith) (omega arith) in
+      let sums = ran .sum ∙ ap (λ (x : ℕ). sumsBelow s x) done in
+      let p = ran .plan in
+      let q = ran .clock in
+      λ k. record { plan = p k; clock = q k + 1; unit = all k; sum = sums k }
 
 -- ---- it is in form
 
 module _ (s : State) (may : Advanceable s) (places : Places s) where
   pub unit-after : (i : ℕ) → InUse s i → unitOf (advanced s) i ≡ unitAfter s i
   unfolding advanced
-  unit-after i l = written-at (kindPlaces s) (unitAfter s) (s .unit) noUnit i l (omega (arith, places .sixteen, may .ready .order .counts .kinds-most))
+  unit-after i l =
+      written-at (kindPlaces s) (unitAfter s) (s .unit) noUnit i l (omega (arith, places .sixteen, may .ready .order .counts .kinds-most))
 
   unit-unused : (i : ℕ) → (InUse s i → ⊥) → unitOf (advanced s) i ≡ unitOf s i
   unfolding advanced

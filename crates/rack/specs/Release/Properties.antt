@@ -98,7 +98,8 @@ module _ (s : State) (i e : ℕ) (r : Releasable s i e) where
       let own : with-new i ≡ e = rw (eq-eqb i i refl) in
       let changed = sum-changed n (leftFor s c) with-new i (r .its-kind) (λ k l z. rw (ne-eqb k i z)) in
       let none = left-none s c i (r .start .nothing-left) in
-      omega (arith, r .ready .sums c its-project, changed, none, own, sum-bound n 4095 with-new new-most, r .ready .order .counts .kinds-most)
+      let most = sum-bound n 4095 with-new new-most in
+      omega (arith, r .ready .sums c its-project, changed, none, own, most, r .ready .order .counts .kinds-most)
 
 pub release-project : (s : State) (i e : ℕ) (r : Answer) → r ≡ Good → r ≡ releaseAnswer s i e → kindAt s i .project < 8
 release-project s i e r g q =
@@ -126,7 +127,8 @@ release-refused s i e w h = refused-keeps (releaseAnswer s i e) w (released s i 
 module _ (s : State) (i e : ℕ) (r : Releasable s i e) (places : Places s) where
   pub release-unit : unitOf (released s i e) i ≡ startedUnit s e
   unfolding released
-  release-unit = getD-set-same (s .unit) i (startedUnit s e) noUnit (omega (arith, places .sixteen, place-most s i (r .ready) (r .its-kind)))
+  release-unit =
+      getD-set-same (s .unit) i (startedUnit s e) noUnit (omega (arith, places .sixteen, place-most s i (r .ready) (r .its-kind)))
 
   pub release-others : (k : ℕ) → k ≢ i → unitOf (released s i e) k ≡ unitOf s k
   unfolding released

@@ -6,10 +6,11 @@ ghost use mathlib.Core.Path.{_≡_};
 ghost use Rattle.rack.specs.Advance.{advanceAnswer, advanceOf};
 use crate::Next;
 use crate::State;
+use crate::project_place;
 use answer::Answer;
 
 impl State {
-    // The record order, 10, 11.
+    // The record order, 10, 16, 11.
     fn may_advance(self) -> Answer
         ensures { λ r. ⌜ r ≡ advanceAnswer self ⌝ }
     {
@@ -23,7 +24,8 @@ impl State {
         Answer::Good
     }
 
-    // Runs one slice: one slice less for each kind that sits, and the next clock.
+    // Runs one slice: one slice less for each kind that sits, one less in its project's sum, and the
+    // next clock.
     pub fn advance(mut self) -> Next
         ensures { λ r. ⌜ r ≡ advanceOf self ⌝ }
     {
@@ -34,6 +36,7 @@ impl State {
                 state: self,
             };
         };
+        let plan = self.plan;
         let seat = self.seats();
         let kinds = self.places();
         for i in 0..kinds {
@@ -41,6 +44,8 @@ impl State {
                 continue;
             }
             self.unit[i].left -= 1;
+            let project = project_place(plan.kind[i]);
+            self.sum[project] -= 1;
         }
         self.clock += 1;
         Next {

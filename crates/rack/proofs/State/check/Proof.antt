@@ -1,7 +1,8 @@
 -- `rack::State::check` meets its contract.
 -- Assumes nothing.
-use Rattle.answer.specs.Answer.Properties.{opened-no, opened-on, refused, passed}
+use Rattle.answer.specs.Answer.Properties.{opened-no, opened-on}
 use Rattle.rack.specs.Form.{ready}
+use Rattle.rack.specs.Form.Properties.{check-order}
 use borrow.Author.Needs.{needs}
 use Rattle.rack.proofs.State.check.Statement.{statement}
 use Rattle.rack.proofs.State.check.Tie as tie
@@ -19,21 +20,12 @@ returns : tie.Need-returns
 unfolding ready
 returns c = search (opened-no, opened-on)
 
-in-form-requires : tie.Need-in-form-requires
-in-form-requires c κs = search needs
-
-bare-requires : tie.Need-bare-requires
-bare-requires c κs = search needs
+formed-requires : tie.Need-formed-requires
+formed-requires c κs = search check-order
 
 returns-2 : tie.Need-returns-2
 unfolding ready
-returns-2 c = search (opened-on, refused)
-
-returns-3 : tie.Need-returns-3
-unfolding ready
-returns-3 c = search (opened-on, passed)
+returns-2 c = search (opened-no, opened-on)
 
 pub check-spec : {M : Type 1} → statement M
-check-spec =
-    tie.close
-    (tie.spec check-requires enum-told enum-told-2 returns in-form-requires bare-requires returns-2 returns-3)
+check-spec = tie.close (tie.spec check-requires enum-told enum-told-2 returns formed-requires returns-2)

@@ -44,8 +44,13 @@ noFigures a = record { answer = a; widths = 0; workload = 0; supply = replicate 
 -- an answer with the figures of kind i beside it: q, W, each S(k,Di) and its bad slice
 abbrev pub figuresWith : Plan → ℕ → Answer → Figures
 figuresWith p i a =
-    ifGood a (record { answer = a; widths = ceilingOn p i; workload = workload p i; supply = supplies p i; slice = badSlices p i })
-    (noFigures a)
+    record {
+      answer = a;
+      widths = ifGood a (ceilingOn p i) 0;
+      workload = ifGood a (workload p i) 0;
+      supply = ifGood a (supplies p i) (replicate 8 0);
+      slice = ifGood a (badSlices p i) (replicate 8 0);
+    }
 
 -- the figures of kind i
 unfoldable pub figuresOf : Plan → ℕ → Figures

@@ -2,7 +2,7 @@
 -- Assumes nothing.
 use mathlib.Core.Path.{_≡_, refl, sym, ap, _∙_}
 use mathlib.Core.List.{List}
-use Prim.Native.Nat.{ℕ, _+_, _≤_, _<_}
+use Prim.Native.Nat.{ℕ, _+_, _-_, _≤_, _<_}
 use native.Mathlib.Omega.{arith}
 use lib.Dec.{leb}
 use lib.ListN.{set, getD, replicate}
@@ -96,10 +96,54 @@ figures-good p i o l = sym (figures-on p i Good (sym (in-order-good p o)) (figur
 -- and nothing else has
 pub figures-say : (p : Plan) (i : ℕ) → figuresOf p i .answer ≡ Good → (InOrder p) × (i < p .kinds)
 unfolding figuresOf figuresAnswer
-figures-say p i e = go (figuresAnswer p i) refl
-  where
-    go : (a : Answer) → figuresAnswer p i ≡ a → (InOrder p) × (i < p .kinds)
-    go Good g =
-        let there = leb-false (p .kinds) i (refuse-good (leb (p .kinds) i) _ (andThen-right (checked p) _ g)) in
-        (in-order p (andThen-left (checked p) _ g), there)
-    go (No w) g = let z : _≡_ {A = ℕ} 0 1 = cc in absurd (omega arith)
+figures-say p i e =
+    (
+      in-order p (andThen-left (checked p) _ e),
+      leb-false (p .kinds) i (refuse-good (leb (p .kinds) i) _ (andThen-right (checked p) _ e)),
+    )
+
+-- 12
+pub figures-none : (p : Plan) (i : ℕ) → InOrder p → p .kinds ≤ i → figuresOf p i .answer ≡ bare 12
+unfolding figuresOf figuresAnswer
+figures-none p i o l = rw (in-order-good p o, le-leb (p .kinds) i l)
+
+module _ (p : Plan) (i : ℕ) (good : figuresOf p i .answer ≡ Good) where
+  figures-are : figuresOf p i ≡ figuresWith p i Good
+  figures-are = let t = figures-say p i good in figures-good p i (t .0) (t .1)
+
+  pub widths-is : figuresOf p i .widths ≡ ceilingOn p i
+  widths-is = ap (λ (f : Figures). f .widths) figures-are
+
+  pub widths-most : figuresOf p i .widths ≤ 8
+  widths-most = let t = figures-say p i good in omega (arith, widths-is, ceiling-room p (t .0) i (t .1))
+
+  pub workload-is : figuresOf p i .workload ≡ workload p i
+  workload-is = ap (λ (f : Figures). f .workload) figures-are
+
+  -- k stands at place k - 1
+  pub supply-is : (k : ℕ) → 0 < k → k ≤ ceilingOn p i → getD (figuresOf p i .supply) (k - 1) 0 ≡ given p i k
+  unfolding supplyAt
+  supply-is k s l =
+      let t = figures-say p i good in
+      let e : k - 1 + 1 ≡ k = omega arith in
+      ap (λ (f : Figures). getD (f .supply) (k - 1) 0) figures-are
+      ∙ stored-at (ceilingOn p i) 8 (supplyAt p i) (k - 1) (omega arith) (ceiling-room p (t .0) i (t .1))
+      ∙ ap (λ (n : ℕ). given p i n) e
+
+  pub slice-is : (k : ℕ) → 0 < k → k ≤ ceilingOn p i → BadSlice p i k (getD (figuresOf p i .slice) (k - 1) 0)
+  unfolding badSliceAt
+  slice-is k s l =
+      let t = figures-say p i good in
+      let e : k - 1 + 1 ≡ k = omega arith in
+      let same : getD (figuresOf p i .slice) (k - 1) 0 ≡ badSlice (p .frame) (heldOn p i) k (kindOf p i .deadline) =
+      ap (λ (f : Figures). getD (f .slice) (k - 1) 0) figures-are
+      ∙ stored-at (ceilingOn p i) 8 (badSliceAt p i) (k - 1) (omega arith) (ceiling-room p (t .0) i (t .1))
+      ∙ ap (λ (n : ℕ). badSlice (p .frame) (heldOn p i) n (kindOf p i .deadline)) e in
+      rw same (bad-on p i (t .0 .counts .some-slice) k)
+
+  -- beyond q stands 0
+  pub none-past : (j : ℕ) → ceilingOn p i ≤ j → (getD (figuresOf p i .supply) j 0 ≡ 0) × (getD (figuresOf p i .slice) j 0 ≡ 0)
+  none-past j l = (
+    ap (λ (f : Figures). getD (f .supply) j 0) figures-are ∙ stored-past (ceilingOn p i) 8 (supplyAt p i) j l,
+    ap (λ (f : Figures). getD (f .slice) j 0) figures-are ∙ stored-past (ceilingOn p i) 8 (badSliceAt p i) j l,
+  )

@@ -704,7 +704,10 @@ fn the_records_are_what_the_library_reads_and_writes() {
     assert_eq!(figures.supply[..3], [4, 5, 0]);
     let (figures, widths) = due.figures(0).unwrap();
     assert_eq!((widths, figures.workload), (1, 0));
-    assert_eq!((figures.supply[..2].to_vec(), figures.slice[0]), (vec![2, 0], 1));
+    assert_eq!(
+        (figures.supply[..2].to_vec(), figures.slice[0]),
+        (vec![2, 0], 1)
+    );
     assert_eq!(due.figures(3).map_err(|answer| answer.number), Err(12));
 
     let alone = Plan::build(2, &[(3, 2), (6, 4), (6, 3)]).unwrap();

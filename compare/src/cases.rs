@@ -112,7 +112,11 @@ fn on_plan(plan: &Plan) -> Record {
     for kind in 0..=plan.used_kinds().len() as u64 {
         let room = FIGURES_BYTES - usize::from(kind == 0);
         record.push(Case::figures(image.clone(), kind, vec![0xEE; room]));
-        record.push(Case::figures(image.clone(), kind, vec![0xEE; FIGURES_BYTES]));
+        record.push(Case::figures(
+            image.clone(),
+            kind,
+            vec![0xEE; FIGURES_BYTES],
+        ));
     }
     // Each project, and the first that is not there.
     for project in 0..=plan.used_projects().len() as u64 {

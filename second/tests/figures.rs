@@ -22,7 +22,10 @@ fn p3_and_p4() {
     }
     for (deadline, supply) in [(4, [4, 5]), (1, [1, 1]), (3, [3, 3])] {
         let (_, told) = figures(&due(1, deadline), 1);
-        assert_eq!((told.widths, told.supply[..2].to_vec()), (2, supply.to_vec()));
+        assert_eq!(
+            (told.widths, told.supply[..2].to_vec()),
+            (2, supply.to_vec())
+        );
     }
 }
 

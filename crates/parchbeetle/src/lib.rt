@@ -139,12 +139,12 @@ pub extern "C" fn parchbeetle_figures(plan: &[u8], kind: u64, out: &mut [u8]) ->
     let Answer::Good = answer else {
         return answer.told(0);
     };
-    let stored = image_writer::put_figures(figures, out);
-    let Answer::Good = stored else {
-        return stored.told(0);
+    let done = image_writer::put_figures(figures, out);
+    let Answer::Good = done else {
+        return done.told(0);
     };
     let widths = figures.widths as u16;
-    stored.told(widths)
+    done.told(widths)
 }
 
 // The least budget of a project of an image's plan, in the bits of a count.

@@ -6,8 +6,7 @@ ghost use Prim.Native.Nat.{_+_, _-_, _*_, _≤_, _<_, min};
 ghost use lib.ListN.{replicate};
 ghost use Rattle.laws.specs.Written.{written};
 ghost use Rattle.supply.specs.Workload.{wholeUnits, workloadPart};
-ghost use Rattle.supply.specs.Fit.{heldAt, leastWith, shortBy, fitOf};
-ghost use Rattle.supply.specs.Fit.{suppliedOf};
+ghost use Rattle.supply.specs.Fit.{heldAt, leastWith, shortBy, fitOf, suppliedOf};
 
 // The least k at which a unit fits, or 0 where there is none, and then the excess. Document 01's
 // k is a width here: the most cards that count at one slice. The slice is the bad one to arrive in,
@@ -222,8 +221,8 @@ pub struct Supplied {
     pub slice: u8,
 }
 
-// What a width is given in t slices. It goes the way of `least_fit`, which tries one width after the
-// other and tells of none but the last.
+// What one width is given in t slices. It goes the way of `least_fit`, which tries one width after the
+// other until the unit fits.
 pub fn supply(held: [u8; 64], frame: u8, width: u8, t: u16) -> Supplied
     ensures { λ r. ⌜ r ≡ suppliedOf frame held width t ⌝ }
 {

@@ -2,8 +2,8 @@
 -- 4 and 6 and is given 4 and 5. Plan A itself is admitted, and its kind 2 has k 1.
 -- Assumes nothing.
 use mathlib.Core.Path.{_≡_, refl, sym, ap, _∙_}
-use mathlib.Core.List.{[], _∷_}
-use Prim.Native.Nat.{ℕ, _+_, _≤_, _<_}
+use mathlib.Core.List.{_∷_}
+use Prim.Native.Nat.{ℕ, _+_, _≤_}
 use native.Mathlib.Omega.{arith}
 use lib.ListN.{getD, replicate}
 use Rattle.laws.specs.Sum.{sumTo}
@@ -14,10 +14,8 @@ use Rattle.laws.specs.All.{allTo}
 use Rattle.laws.specs.Written.{written}
 use Rattle.answer.specs.declared.Answer.the-variants.{Good}
 use Rattle.answer.specs.Answer.{number, eachTo}
-use Rattle.answer.specs.Numbers.{among}
-use Rattle.plan.specs.declared.Plan.{Plan}
 use Rattle.plan.specs.Example.{planA}
-use Rattle.plan.specs.Order.{kindOf, within, sized, emptyProject, emptyKind, tidyProjects, tidyKinds, inRange, timed, budgets, InOrder}
+use Rattle.plan.specs.Order.{within, sized, emptyProject, emptyKind, tidyProjects, tidyKinds, inRange, timed, budgets, InOrder}
 use Rattle.plan.specs.Order.{sizes, unused, projectsInRange, kindInRange, kindsInRange, budgetsFit, ranges, checked}
 use Rattle.plan.specs.Order.Properties.{in-order}
 use Rattle.layout.specs.Layout.{cellAt, firstCell, owns, slotOf, held}
@@ -29,9 +27,9 @@ use Rattle.workload.specs.Workload.{besides, partOf, workload}
 use Rattle.verdict.specs.declared.figures.Figures.{Figures}
 use Rattle.verdict.specs.Verdict.{ceilingOn, widthOf, excessOf, badSliceOf, fitted, admitted, judged}
 use Rattle.verdict.specs.Admission.{Fits, seen, given}
-use Rattle.verdict.specs.Figures.{noFigures, figuresAnswer, supplyAt, badSliceAt, figuresOf}
+use Rattle.verdict.specs.Figures.{figuresAnswer, supplyAt, badSliceAt, figuresOf}
 use Rattle.demands.specs.Outcomes.{figuring, figuring-refused}
-use Rattle.demands.specs.Numbers.{figuresOrder, figures-numbers}
+use Rattle.demands.specs.Numbers.{figures-numbers}
 use Rattle.demands.specs.KindFigures.{answered-when, no-kind-when, FitsBy, all-widths, its-workload, fits-when, bad-slice, none-beyond}
 use Rattle.demands.specs.KindFigures.{least-by, slice-by}
 use Rattle.demands.specs.Uses.BadSlices.{tooLong}

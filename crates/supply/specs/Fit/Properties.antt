@@ -24,7 +24,6 @@ use Rattle.supply.specs.Fit.{fitsAt, leastWidth, allowedLength, leastExc
 use Rattle.supply.specs.Fit.{suppliedOf, leastWith, leastOf, suppliedTo, shortBy, shortAt, shortTo}
 use Rattle.supply.specs.declared.Fit.{Fit}
 use Rattle.supply.specs.declared.Least.{Least}
-use Rattle.supply.specs.declared.Supplied.{Supplied}
 
 -- ---- the least, place by place
 

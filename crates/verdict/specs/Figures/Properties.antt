@@ -12,14 +12,14 @@ use Rattle.laws.specs.Written.Properties.{written-again, written-stop, stored-a
 use Rattle.answer.specs.declared.Answer.{Answer}
 use Rattle.answer.specs.declared.Answer.the-variants.{Good, No}
 use Rattle.answer.specs.declared.Refusal.{Refusal}
-use Rattle.answer.specs.Answer.{bare, refuse, _andThen_}
-use Rattle.answer.specs.Answer.Properties.{andThen-good, andThen-left, andThen-right, opened-no, opened-on, refuse-good}
+use Rattle.answer.specs.Answer.{bare}
+use Rattle.answer.specs.Answer.Properties.{andThen-left, andThen-right, refuse-good}
 use Rattle.plan.specs.declared.Plan.{Plan}
 use Rattle.plan.specs.Order.{kindOf, checked, InOrder}
 use Rattle.plan.specs.Order.Properties.{in-order, in-order-good}
 use Rattle.supply.specs.declared.Supplied.{Supplied}
 use Rattle.supply.specs.Supply.{supply, badSlice}
-use Rattle.supply.specs.Fit.{heldAt, suppliedOf}
+use Rattle.supply.specs.Fit.{suppliedOf}
 use Rattle.supply.specs.Fit.Properties.{supplied-framed}
 use Rattle.workload.specs.Workload.{workload}
 use Rattle.verdict.specs.declared.figures.Figures.{Figures}
@@ -96,11 +96,10 @@ figures-good p i o l = sym (figures-on p i Good (sym (in-order-good p o)) (figur
 -- and nothing else has
 pub figures-say : (p : Plan) (i : ℕ) → figuresOf p i .answer ≡ Good → (InOrder p) × (i < p .kinds)
 unfolding figuresOf figuresAnswer
-figures-say p i e =
-    (
-      in-order p (andThen-left (checked p) _ e),
-      leb-false (p .kinds) i (refuse-good (leb (p .kinds) i) _ (andThen-right (checked p) _ e)),
-    )
+figures-say p i e = (
+  in-order p (andThen-left (checked p) _ e),
+  leb-false (p .kinds) i (refuse-good (leb (p .kinds) i) _ (andThen-right (checked p) _ e)),
+)
 
 -- 12
 pub figures-none : (p : Plan) (i : ℕ) → InOrder p → p .kinds ≤ i → figuresOf p i .answer ≡ bare 12

@@ -5,3 +5,4 @@ pub mod Words
 pub mod Chain
 pub mod Events
 pub mod Promised
+pub mod Figures

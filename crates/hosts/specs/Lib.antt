@@ -1,5 +1,5 @@
 -- What a host is promised: each number given back is read again, a chain of calls of the C interface on one image is a run of the rack,
--- and demand 3 holds of what it sees.
+-- demand 3 holds of what it sees, and the figures of a kind stand in the bytes that it reads.
 -- Assumes nothing.
 pub mod Words
 pub mod Chain

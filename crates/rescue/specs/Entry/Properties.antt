@@ -1,0 +1,2 @@
+-- Laws, in work.
+-- Assumes nothing.

@@ -1,13 +1,15 @@
 -- Document 02 (viii), "Rescue a damaged plan file": the list of changes, the refusals 1, 2, 20 and 9, and what rescuing answers.
 -- Assumes nothing.
 use Prim.Native.Nat.{ℕ, _+_, _*_}
-use mathlib.Core.Bool.{cond}
+use mathlib.Core.Bool.{Bool, cond}
 use mathlib.Core.List.{List, [], _∷_, _++_}
 use lib.Dec.{ltb, eqb}
 use lib.ListN.{length, drop}
 use Rattle.answer.specs.declared.Answer.{Answer}
 use Rattle.answer.specs.Answer.{bare, refuse, _andThen_, ifGood}
 use Rattle.answer.specs.Outcome.{Leaves}
+use Rattle.plan.specs.declared.Project.{Project}
+use Rattle.plan.specs.declared.Kind.{Kind}
 use Rattle.plan.specs.declared.Plan.{Plan}
 use Rattle.plan.specs.Record.{noPlan}
 use Rattle.plan.specs.Order.{projectOf, kindOf}
@@ -29,21 +31,32 @@ unfoldable pub kindSpareAt : List ℕ → ℕ → ℕ → ℕ
 kindSpareAt s projects i = kindSpare (kindAt (drop (3 + 2 * projects) s) i)
 
 -- "2 .. for spare bits of .. project"
-abbrev pub projectSpareChange : List ℕ → ℕ → List Entry
+unfoldable pub projectSpareChange : List ℕ → ℕ → List Entry
 projectSpareChange s j = change 2 j (projectSpareAt s j) 0
 
--- "3 for spare bits of .. kind"; "a dropped kind has only that entry"
-abbrev pub kindSpareChange : List ℕ → Plan → ℕ → List Entry
-kindSpareChange s p i = cond (keptAt p i) (change 3 i (kindSpareAt s (p .projects) i) 0) []
+-- "3 for spare bits of .. kind", of a kept one: "a dropped kind has only that entry", its 7
+unfoldable pub spareEntries : Bool → ℕ → ℕ → List Entry
+spareEntries kept i spare = cond kept (change 3 i spare 0) []
+
+-- the same of kind i
+unfoldable pub kindSpareChange : List ℕ → Plan → ℕ → List Entry
+kindSpareChange s p i = spareEntries (keptAt p i) i (kindSpareAt s (p .projects) i)
 
 -- "4 q, 5 B"
-abbrev pub projectChanges : Plan → ℕ → List Entry
-projectChanges p j =
-    change 4 j (projectOf p j .ceiling) (projectForAt p j .ceiling) ++ change 5 j (projectOf p j .budget) (projectForAt p j .budget)
+unfoldable pub projectEntries : ℕ → Project → Project → List Entry
+projectEntries j old new = change 4 j (old .ceiling) (new .ceiling) ++ change 5 j (old .budget) (new .budget)
+
+-- the same of project j
+unfoldable pub projectChanges : Plan → ℕ → List Entry
+projectChanges p j = projectEntries j (projectOf p j) (projectForAt p j)
 
 -- "6 D, 7 a dropped kind (values 0)"
-abbrev pub kindChanges : Plan → ℕ → List Entry
-kindChanges p i = cond (keptAt p i) (change 6 i (kindOf p i .deadline) (kindForAt p i .deadline)) (entry 7 i 0 0 ∷ [])
+unfoldable pub kindEntries : Bool → ℕ → Kind → Kind → List Entry
+kindEntries kept i old new = cond kept (change 6 i (old .deadline) (new .deadline)) (entry 7 i 0 0 ∷ [])
+
+-- the same of kind i
+unfoldable pub kindChanges : Plan → ℕ → List Entry
+kindChanges p i = kindEntries (keptAt p i) i (kindOf p i) (kindForAt p i)
 
 -- "In this order: clear spare bits; by project ..; by kind ..", of bytes in which the plan p stands
 unfoldable pub changesIn : List ℕ → Plan → List Entry

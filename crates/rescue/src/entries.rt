@@ -1,8 +1,6 @@
 // The list of changes, in six bytes each: field, place in the original, old and new value, the high
 // byte first. Each function writes its entries from index at on and gives the index behind them.
 ghost use mathlib.Core.Path.{_≡_};
-ghost use mathlib.Core.Bool.{cond};
-ghost use mathlib.Core.List.{[], _∷_, _++_};
 ghost use Prim.Native.Nat.{_+_, _*_, _≤_};
 ghost use lib.ListN.{length};
 ghost use lib.Seq.{sets};
@@ -10,8 +8,9 @@ ghost use Rattle.plan_bytes.specs.Parts.{size};
 ghost use Rattle.plan_bytes.specs.Reading.{headerSpare};
 ghost use Rattle.rescue.specs.Entry.{entry, entryBytes, change, entriesTo, Noted};
 ghost use Rattle.rescue.specs.Rescue.{projectSpareAt, kindSpareAt, projectSpareChange, kindSpareChange};
-ghost use Rattle.rescue.specs.Rescue.{projectChanges, kindChanges, changesIn};
+ghost use Rattle.rescue.specs.Rescue.{spareEntries, projectEntries, kindEntries, projectChanges, kindChanges, changesIn};
 use crate::mended;
+use plan::Kind;
 use plan::Plan;
 use plan::Project;
 use plan_bytes::BITS_1;
@@ -51,7 +50,7 @@ fn note(list: &mut [u8], at: usize, field: u8, place: u8, old: u16, new: u16) ->
 // The spare bit of a kind, unless the kind is dropped.
 fn note_spare(list: &mut [u8], at: usize, place: u8, kept: bool, spare: u16) -> usize
     requires { ⌜ at + 6 ≤ length (now list) ⌝ }
-    ensures { λ r. ⌜ (Noted at (now (list .entry)) (cond kept (change 3 place spare 0) []) r (now (list .exit))) × (r ≤ at + 6) ⌝ }
+    ensures { λ r. ⌜ (Noted at (now (list .entry)) (spareEntries kept place spare) r (now (list .exit))) × (r ≤ at + 6) ⌝ }
 {
     if !kept {
         return at;
@@ -62,22 +61,22 @@ fn note_spare(list: &mut [u8], at: usize, place: u8, kept: bool, spare: u16) -> 
 // A project's ceiling and then its budget.
 fn note_project(list: &mut [u8], at: usize, place: u8, old: Project, new: Project) -> usize
     requires { ⌜ at + 12 ≤ length (now list) ⌝ }
-    ensures { λ r. ⌜ (Noted at (now (list .entry)) (change 4 place (old .ceiling) (new .ceiling) ++ change 5 place (old .budget) (new .budget)) r (now (list .exit))) × (r ≤ at + 12) ⌝ }
+    ensures { λ r. ⌜ (Noted at (now (list .entry)) (projectEntries place old new) r (now (list .exit))) × (r ≤ at + 12) ⌝ }
 {
     let next = note(list, at, 4, place, old.ceiling as u16, new.ceiling as u16);
     note(list, next, 5, place, old.budget, new.budget)
 }
 
 // A kind's deadline, or that the kind is dropped.
-fn note_kind(list: &mut [u8], at: usize, place: u8, kept: bool, old: u16, new: u16) -> usize
+fn note_kind(list: &mut [u8], at: usize, place: u8, kept: bool, old: Kind, new: Kind) -> usize
     requires { ⌜ at + 6 ≤ length (now list) ⌝ }
-    ensures { λ r. ⌜ (Noted at (now (list .entry)) (cond kept (change 6 place old new) (entry 7 place 0 0 ∷ [])) r (now (list .exit))) × (r ≤ at + 6) ⌝ }
+    ensures { λ r. ⌜ (Noted at (now (list .entry)) (kindEntries kept place old new) r (now (list .exit))) × (r ≤ at + 6) ⌝ }
 {
     if !kept {
         put(list, at, 7, place, 0, 0);
         return at + ENTRY;
     }
-    note(list, at, 6, place, old, new)
+    note(list, at, 6, place, old.deadline, new.deadline)
 }
 
 fn header_spare(bytes: &[u8]) -> u16
@@ -153,7 +152,7 @@ fn kinds(plan: Plan, list: &mut [u8], at: usize) -> usize
         let kind = plan.kind[i as usize];
         let kept = mended::kept(kind, plan.projects);
         let mended = mended::kind_for(kind);
-        end = note_kind(list, end, i, kept, kind.deadline, mended.deadline);
+        end = note_kind(list, end, i, kept, kind, mended);
     }
     end
 }

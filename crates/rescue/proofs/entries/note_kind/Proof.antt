@@ -1,38 +1,34 @@
+-- `rescue::entries::note_kind` meets its contract.
+-- Assumes nothing.
+use Rattle.rescue.specs.Rescue.{kindEntries}
+use native.Mathlib.Omega.{arith}
+use Rattle.rescue.specs.Entry.Properties.{noted-gone, noted-kept}
 use borrow.Author.Needs.{needs}
 use Rattle.rescue.proofs.entries.note_kind.Statement.{statement}
 use Rattle.rescue.proofs.entries.note_kind.Tie as tie
-use Rattle.rescue.proofs.entries.note_kind.Reads as reads
-use Rattle.rescue.proofs.entries.note_kind.Lts as lts
-use Rattle.rescue.proofs.entries.note.Reads as note-reads
-use Rattle.rescue.proofs.entries.put.Reads as put-reads
 
--- src/entries.rt:77:9
 put-requires : tie.Need-put-requires
 put-requires c κs = search needs
 
--- src/entries.rt:78:16
 add-result : tie.Need-add-result
 add-result c = search needs
 
--- src/entries.rt:78:9
 same-length : tie.Need-same-length
 same-length c = search needs
 
--- src/entries.rt:78:9
 returns : tie.Need-returns
-returns c = ?
+unfolding kindEntries
+returns c = (search noted-gone, omega arith)
 
--- src/entries.rt:80:5
 note-requires : tie.Need-note-requires
 note-requires c κs = search needs
 
--- src/entries.rt:72:1
 same-length-2 : tie.Need-same-length-2
 same-length-2 c = search needs
 
--- src/entries.rt:72:1
 returns-2 : tie.Need-returns-2
-returns-2 c = ?
+unfolding kindEntries
+returns-2 c = (search noted-kept, search)
 
 pub note-kind-spec : {M : Type 1} → statement M
 note-kind-spec =

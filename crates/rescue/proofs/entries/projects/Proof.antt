@@ -1,59 +1,62 @@
+-- `rescue::entries::projects` meets its contract.
+-- Assumes nothing.
+use mathlib.Core.Path.{_≡_, refl}
+use Prim.Native.Nat.{_≤_, _-_, _+_, _*_}
+use native.Mathlib.Omega.{arith}
+use lib.ListN.{length}
+use borrow.Author.Needs.{needs}
+use Rattle.rescue.specs.Entry.{entriesTo, Noted}
+use Rattle.rescue.specs.Rescue.{projectChanges}
+use Rattle.rescue.specs.Entry.Properties.{noted-start, noted-stop}
+use Rattle.rescue.specs.Rescue.Properties.{project-again}
 use Rattle.rescue.proofs.entries.projects.Statement.{statement}
 use Rattle.rescue.proofs.entries.projects.Tie as tie
-use Rattle.rescue.proofs.entries.projects.Reads as reads
-use Rattle.rescue.proofs.entries.projects.Lts as lts
-use Rattle.rescue.proofs.entries.note_project.Reads as note-project-reads
-use Rattle.rescue.proofs.mended.project_for.Reads as project-for-reads
 
 abbrev Inv-loop : tie.InvT-loop
-Inv-loop list₀ at plan end₀ j₀ j-end list end j = ?
+Inv-loop list₀ at plan end₀ j₀ j-end list end j =
+    (j ≤ j-end) × (j-end ≡ plan .projects) × Noted at list₀ (entriesTo j (projectChanges plan)) end list × (end ≤ at + 12 * j) × (length list ≡ length list₀)
 
 abbrev μ-loop : tie.MeasureT-loop
-μ-loop list₀ at plan end₀ j₀ j-end list end j = ?
+μ-loop list₀ at plan end₀ j₀ j-end list end j = j-end - j
 
--- src/entries.rt:139:5
 loop-holds : tie.Need-loop-holds Inv-loop μ-loop
-loop-holds c = ?
+loop-holds c = (omega arith, refl, noted-start _ _ _, omega arith, refl)
 
--- src/entries.rt:140:36
 cast-project : tie.Need-cast-project Inv-loop μ-loop
-cast-project c = ?
+cast-project c = search needs
 
--- src/entries.rt:140:23
 mul-project : tie.Need-mul-project Inv-loop μ-loop
-mul-project c = ?
+mul-project c = search needs
 
--- src/entries.rt:140:23
 element-copy-out-project : tie.Need-element-copy-out-project Inv-loop μ-loop
-element-copy-out-project c = ?
+element-copy-out-project c = search needs
 
--- src/entries.rt:141:13
 project-for-requires : tie.Need-project-for-requires Inv-loop μ-loop
-project-for-requires c κs = ?
+project-for-requires c κs = search needs
 
--- src/entries.rt:142:9
 note-project-requires : tie.Need-note-project-requires Inv-loop μ-loop
-note-project-requires c κs = ?
+note-project-requires c κs = search needs
 
--- src/entries.rt:139:9
 add-j : tie.Need-add-j Inv-loop μ-loop
-add-j c = ?
+add-j c = search needs
 
--- src/entries.rt:139:5
 loop-less : tie.Need-loop-less Inv-loop μ-loop
-loop-less c = ?
+loop-less c = search needs
 
--- src/entries.rt:139:5
 loop-again : tie.Need-loop-again Inv-loop μ-loop
-loop-again c = ?
+loop-again c = (
+  omega arith,
+  search,
+  project-again _ _ _ _ _ _ _ _ _ (c .before .before .before .before .before .before .before .loop .inv .2) (c .before .before .note-project .ensures .0) (search),
+  omega arith,
+  omega (arith, c .before .before .note-project .kept .0),
+)
 
--- src/entries.rt:134:1
 same-length : tie.Need-same-length Inv-loop μ-loop
-same-length c = ?
+same-length c = search needs
 
--- src/entries.rt:134:1
 returns : tie.Need-returns Inv-loop μ-loop
-returns c = ?
+returns c = (search noted-stop, omega arith)
 
 pub projects-spec : {M : Type 1} → statement M
 projects-spec =

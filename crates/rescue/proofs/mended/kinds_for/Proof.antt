@@ -1,88 +1,76 @@
+-- `rescue::mended::kinds_for` meets its contract.
+-- Assumes nothing.
+use mathlib.Core.Path.{_≡_, refl}
+use Prim.Native.Nat.{_≤_, _-_}
+use native.Mathlib.Omega.{arith}
+use borrow.Author.Needs.{needs}
+use Rattle.laws.specs.Tests.{told-no, told-yes}
+use Rattle.laws.specs.Count.Properties.{count-none, count-yes, count-no, count-stop}
+use Rattle.rescue.specs.Mended.{keptTo, kindsKept}
+use Rattle.rescue.specs.Mended.Properties.{kept-none, kept-skip, kept-put, kept-stop}
 use Rattle.rescue.proofs.mended.kinds_for.Statement.{statement}
 use Rattle.rescue.proofs.mended.kinds_for.Tie as tie
-use Rattle.rescue.proofs.mended.kinds_for.Reads as reads
-use Rattle.rescue.proofs.mended.kinds_for.Lts as lts
-use Rattle.plan.proofs.Plan.empty.Reads as empty-reads
-use Rattle.rescue.proofs.mended.kept.Reads as kept-reads
-use Rattle.rescue.proofs.mended.kind_for.Reads as kind-for-reads
 
 abbrev Inv-loop : tie.InvT-loop
-Inv-loop plan kind₀ count₀ i₀ i-end kind count i = ?
+Inv-loop plan kind₀ count₀ i₀ i-end kind count i =
+    (i ≤ i-end) × (i-end ≡ plan .kinds) × (kind ≡ keptTo plan i) × (count ≡ kindsKept plan i) × (count ≤ i)
 
 abbrev μ-loop : tie.MeasureT-loop
-μ-loop plan kind₀ count₀ i₀ i-end kind count i = ?
+μ-loop plan kind₀ count₀ i₀ i-end kind count i = i-end - i
 
--- src/mended.rt:91:9
 empty-requires : tie.Need-empty-requires Inv-loop μ-loop
-empty-requires c κs = ?
+empty-requires c κs = search needs
 
--- src/mended.rt:94:17
 cast-i-end : tie.Need-cast-i-end Inv-loop μ-loop
-cast-i-end c = ?
+cast-i-end c = search needs
 
--- src/mended.rt:94:5
 loop-holds : tie.Need-loop-holds Inv-loop μ-loop
-loop-holds c = ?
+loop-holds c = (omega arith, refl, rw (c .before .empty .ensures) (kept-none _), count-none _, omega arith)
 
--- src/mended.rt:95:23
 mul-damaged : tie.Need-mul-damaged Inv-loop μ-loop
-mul-damaged c = ?
+mul-damaged c = search needs
 
--- src/mended.rt:95:23
 element-copy-out-damaged : tie.Need-element-copy-out-damaged Inv-loop μ-loop
-element-copy-out-damaged c = ?
+element-copy-out-damaged c = search needs
 
--- src/mended.rt:96:13
 kept-requires : tie.Need-kept-requires Inv-loop μ-loop
-kept-requires c κs = ?
+kept-requires c κs = search needs
 
--- src/mended.rt:97:13
 add-i : tie.Need-add-i Inv-loop μ-loop
-add-i c = ?
+add-i c = search needs
 
--- src/mended.rt:94:5
 loop-less : tie.Need-loop-less Inv-loop μ-loop
-loop-less c = ?
+loop-less c = search needs
 
--- src/mended.rt:94:5
 loop-again : tie.Need-loop-again Inv-loop μ-loop
-loop-again c = ?
+loop-again c = (omega arith, search, kept-skip _ _ _ (search) (search told-no), count-no _ _ _ (search) (search told-no), omega arith)
 
--- src/mended.rt:99:13
 kind-for-requires : tie.Need-kind-for-requires Inv-loop μ-loop
-kind-for-requires c κs = ?
+kind-for-requires c κs = search needs
 
--- src/mended.rt:100:14
 cast-kind : tie.Need-cast-kind Inv-loop μ-loop
-cast-kind c = ?
+cast-kind c = search needs
 
--- src/mended.rt:100:9
 mul-kind : tie.Need-mul-kind Inv-loop μ-loop
-mul-kind c = ?
+mul-kind c = search needs
 
--- src/mended.rt:100:9
 array-set-from-kind : tie.Need-array-set-from-kind Inv-loop μ-loop
-array-set-from-kind c = ?
+array-set-from-kind c = search needs
 
--- src/mended.rt:101:9
 add-count : tie.Need-add-count Inv-loop μ-loop
-add-count c = ?
+add-count c = search needs
 
--- src/mended.rt:94:9
 add-i-2 : tie.Need-add-i-2 Inv-loop μ-loop
-add-i-2 c = ?
+add-i-2 c = search needs
 
--- src/mended.rt:94:5
 loop-less-2 : tie.Need-loop-less-2 Inv-loop μ-loop
-loop-less-2 c = ?
+loop-less-2 c = search needs
 
--- src/mended.rt:94:5
 loop-again-2 : tie.Need-loop-again-2 Inv-loop μ-loop
-loop-again-2 c = ?
+loop-again-2 c = (omega arith, search, search (kept-put, told-yes), count-yes _ _ _ (search) (search told-yes), omega arith)
 
--- src/mended.rt:87:1
 returns : tie.Need-returns Inv-loop μ-loop
-returns c = ?
+returns c = (search kept-stop, search count-stop)
 
 pub kinds-for-spec : {M : Type 1} → statement M
 kinds-for-spec =

@@ -1,42 +1,42 @@
+-- `rescue::mended::project_for` meets its contract.
+-- Assumes nothing.
+use native.Mathlib.Omega.{arith}
+use Prim.Native.Nat.{_≤_}
+use native.Mathlib.Nat.{mul-le-mul}
+use Rattle.rescue.specs.Mended.Properties.{lowered-most, project-made}
 use borrow.Author.Needs.{needs}
 use Rattle.rescue.proofs.mended.project_for.Statement.{statement}
 use Rattle.rescue.proofs.mended.project_for.Tie as tie
-use Rattle.rescue.proofs.mended.project_for.Reads as reads
-use Rattle.rescue.proofs.mended.project_for.Lts as lts
-use Rattle.rescue.proofs.mended.lowered.Reads as lowered-reads
-use Rattle.rescue.proofs.mended.raised.Reads as raised-reads
 
--- src/mended.rt:40:48
 cast-raised : tie.Need-cast-raised
 cast-raised c = search needs
 
--- src/mended.rt:40:41
 raised-requires : tie.Need-raised-requires
 raised-requires c κs = search needs
 
--- src/mended.rt:40:9
 lowered-requires : tie.Need-lowered-requires
 lowered-requires c κs = search needs
 
--- src/mended.rt:41:26
 mul-lowered : tie.Need-mul-lowered
-mul-lowered c = ?
+mul-lowered c =
+    let m = c .before .before .before .args .cards in
+    let q : c .lowered .result ≤ 255 = omega (arith, c .lowered .ensures, lowered-most m (c .before .raised .result)) in
+    let f : c .before .before .before .args .frame ≤ 255 = omega arith in
+    omega (arith, mul-le-mul q f)
 
--- src/mended.rt:41:50
 raised-requires-2 : tie.Need-raised-requires-2
 raised-requires-2 c κs = search needs
 
--- src/mended.rt:41:9
 lowered-requires-2 : tie.Need-lowered-requires-2
 lowered-requires-2 c κs = search needs
 
--- src/mended.rt:43:18
 cast-t9 : tie.Need-cast-t9
-cast-t9 c = ?
+cast-t9 c =
+    let b = c .before .before in
+    omega (arith, b .lowered .ensures, lowered-most (b .before .before .before .args .cards) (b .before .raised .result))
 
--- src/mended.rt:37:1
 returns : tie.Need-returns
-returns c = ?
+returns c = search project-made
 
 pub project-for-spec : {M : Type 1} → statement M
 project-for-spec =

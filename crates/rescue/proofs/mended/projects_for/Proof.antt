@@ -1,63 +1,59 @@
+-- `rescue::mended::projects_for` meets its contract.
+-- Assumes nothing.
+use mathlib.Core.Path.{_≡_, refl}
+use Prim.Native.Nat.{_≤_, _-_}
+use native.Mathlib.Omega.{arith}
+use lib.ListN.{replicate}
+use borrow.Author.Needs.{needs}
+use Rattle.laws.specs.Written.{written}
+use Rattle.laws.specs.Written.Properties.{written-none, written-again, written-stop}
+use Rattle.plan.specs.Record.{noProject}
+use Rattle.rescue.specs.Mended.{projectForAt}
 use Rattle.rescue.proofs.mended.projects_for.Statement.{statement}
 use Rattle.rescue.proofs.mended.projects_for.Tie as tie
-use Rattle.rescue.proofs.mended.projects_for.Reads as reads
-use Rattle.rescue.proofs.mended.projects_for.Lts as lts
-use Rattle.plan.proofs.Plan.empty.Reads as empty-reads
-use Rattle.rescue.proofs.mended.project_for.Reads as project-for-reads
 
 abbrev Inv-loop : tie.InvT-loop
-Inv-loop plan project₀ j₀ j-end project j = ?
+Inv-loop plan project₀ j₀ j-end project j =
+    (j ≤ j-end) × (j-end ≡ plan .projects) × (project ≡ written j (projectForAt plan) (replicate 8 noProject))
 
 abbrev μ-loop : tie.MeasureT-loop
-μ-loop plan project₀ j₀ j-end project j = ?
+μ-loop plan project₀ j₀ j-end project j = j-end - j
 
--- src/mended.rt:77:9
 empty-requires : tie.Need-empty-requires Inv-loop μ-loop
-empty-requires c κs = ?
+empty-requires c κs = search needs
 
--- src/mended.rt:79:17
 cast-j-end : tie.Need-cast-j-end Inv-loop μ-loop
-cast-j-end c = ?
+cast-j-end c = search needs
 
--- src/mended.rt:79:5
 loop-holds : tie.Need-loop-holds Inv-loop μ-loop
-loop-holds c = ?
+loop-holds c = (omega arith, refl, rw (c .before .empty .ensures) (written-none _ _))
 
--- src/mended.rt:80:23
 mul-damaged : tie.Need-mul-damaged Inv-loop μ-loop
-mul-damaged c = ?
+mul-damaged c = search needs
 
--- src/mended.rt:80:23
 element-copy-out-damaged : tie.Need-element-copy-out-damaged Inv-loop μ-loop
-element-copy-out-damaged c = ?
+element-copy-out-damaged c = search needs
 
--- src/mended.rt:81:13
 project-for-requires : tie.Need-project-for-requires Inv-loop μ-loop
-project-for-requires c κs = ?
+project-for-requires c κs = search needs
 
--- src/mended.rt:82:9
 mul-project : tie.Need-mul-project Inv-loop μ-loop
-mul-project c = ?
+mul-project c = search needs
 
--- src/mended.rt:82:9
 array-set-from-project : tie.Need-array-set-from-project Inv-loop μ-loop
-array-set-from-project c = ?
+array-set-from-project c = search needs
 
--- src/mended.rt:79:9
 add-j : tie.Need-add-j Inv-loop μ-loop
-add-j c = ?
+add-j c = search needs
 
--- src/mended.rt:79:5
 loop-less : tie.Need-loop-less Inv-loop μ-loop
-loop-less c = ?
+loop-less c = search needs
 
--- src/mended.rt:79:5
 loop-again : tie.Need-loop-again Inv-loop μ-loop
-loop-again c = ?
+loop-again c = (omega arith, search, search written-again)
 
--- src/mended.rt:73:1
 returns : tie.Need-returns Inv-loop μ-loop
-returns c = ?
+returns c = search written-stop
 
 pub projects-for-spec : {M : Type 1} → statement M
 projects-for-spec =

@@ -3,4 +3,13 @@
 pub mod Entry
 pub mod Mended
 pub mod Rescue
+pub mod Applied
+pub mod Exact
+pub mod Turns
+pub mod Ordered
+pub mod Kept
+pub mod Passing
+pub mod Result
+pub mod Again
+pub mod Behind
 pub mod OneOutcome

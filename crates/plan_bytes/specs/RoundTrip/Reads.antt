@@ -120,7 +120,7 @@ module _ (p : Plan) (shaped : Shaped p) (order : Passes p) (rest : List ℕ) whe
   kinds-part : List ℕ
   kinds-part = partsTo (p .kinds) (kindBytesAt p)
 
-  pub all : List ℕ
+  unfoldable pub all : List ℕ
   all = encoded p ++ rest
 
   all-split : all ≡ headerBytes p ++ (projects-part ++ (kinds-part ++ rest))
@@ -128,7 +128,7 @@ module _ (p : Plan) (shaped : Shaped p) (order : Passes p) (rest : List ℕ) whe
   all-split = simp append-assoc
 
   -- the header
-  header-all : headerFields all ≡ p .cards ∷ p .projects ∷ p .kinds ∷ p .frame ∷ 0 ∷ []
+  pub header-all : headerFields all ≡ p .cards ∷ p .projects ∷ p .kinds ∷ p .frame ∷ 0 ∷ []
   unfolding headerFields headerBytes placed fieldsOf
   header-all =
       let c = order .counts in

@@ -12,4 +12,6 @@ pub mod Passing
 pub mod Result
 pub mod Again
 pub mod Behind
+pub mod Gives
+pub mod Roomy
 pub mod OneOutcome

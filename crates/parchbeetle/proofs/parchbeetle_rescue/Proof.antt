@@ -1,94 +1,74 @@
-use borrow.Author.Needs.{needs}
+-- `parchbeetle::parchbeetle_rescue` meets its contract.
+-- Assumes nothing.
+use Prim.Native.Nat.{_≤_}
+use native.Mathlib.Omega.{arith}
+use Rattle.parchbeetle.specs.Exports.Properties.{rescue-count, rescue-refused, rescue-stored, rescue-tried, rescue-short}
+use borrow.Author.Needs.{fits-under, needs}
 use Rattle.parchbeetle.proofs.parchbeetle_rescue.Statement.{statement}
 use Rattle.parchbeetle.proofs.parchbeetle_rescue.Tie as tie
-use Rattle.parchbeetle.proofs.parchbeetle_rescue.Reads as reads
-use Rattle.parchbeetle.proofs.parchbeetle_rescue.Lts as lts
-use Rattle.answer.proofs.Answer.bare.Reads as bare-reads
-use Rattle.answer.proofs.Answer.told.Reads as told-reads
-use Rattle.image_writer.proofs.put_plan.Reads as put-plan-reads
-use Rattle.rescue.proofs.rescue.Reads as rescue-reads
 
--- src/lib.rt:165:43
 slice-aggregate-rescue : tie.Need-slice-aggregate-rescue
 slice-aggregate-rescue c = search needs
 
--- src/lib.rt:165:13
 rescue-requires : tie.Need-rescue-requires
 rescue-requires c κs = search needs
 
 enum-told : tie.Need-enum-told
 enum-told c = search needs
 
--- src/lib.rt:168:13
 enum-told-2 : tie.Need-enum-told-2
 enum-told-2 c = search needs
 
--- src/lib.rt:168:13
 told-requires : tie.Need-told-requires
 told-requires c κs = search needs
 
--- src/lib.rt:168:13
 returns : tie.Need-returns
-returns c = ?
+returns c = let l : 342 ≤ 342 = omega arith in search (rescue-tried, l)
 
--- src/lib.rt:170:16
 bare-requires : tie.Need-bare-requires
 bare-requires c κs = search needs
 
--- src/lib.rt:170:9
 told-requires-2 : tie.Need-told-requires-2
 told-requires-2 c κs = search needs
 
--- src/lib.rt:170:9
 returns-2 : tie.Need-returns-2
-returns-2 c = ?
+returns-2 c = let l : 342 ≤ 342 = omega arith in search (rescue-short, l)
 
--- src/lib.rt:172:9
 rescue-requires-2 : tie.Need-rescue-requires-2
 rescue-requires-2 c κs = search needs
 
 enum-told-3 : tie.Need-enum-told-3
 enum-told-3 c = search needs
 
--- src/lib.rt:175:9
 enum-told-4 : tie.Need-enum-told-4
 enum-told-4 c = search needs
 
--- src/lib.rt:175:9
 told-requires-3 : tie.Need-told-requires-3
 told-requires-3 c κs = search needs
 
--- src/lib.rt:175:9
 same-length : tie.Need-same-length
 same-length c = search needs
 
--- src/lib.rt:175:9
 returns-3 : tie.Need-returns-3
-returns-3 c = ?
+returns-3 c = search rescue-refused
 
--- src/lib.rt:177:9
 put-plan-requires : tie.Need-put-plan-requires
 put-plan-requires c κs = search needs
 
--- src/lib.rt:178:17
 cast-count : tie.Need-cast-count
-cast-count c = ?
+cast-count c = fits-under _ _ 65536 (search rescue-count) tt
 
--- src/lib.rt:179:5
 told-requires-4 : tie.Need-told-requires-4
 told-requires-4 c κs = search needs
 
--- src/lib.rt:159:1
 same-length-2 : tie.Need-same-length-2
 same-length-2 c = search needs
 
--- src/lib.rt:159:1
 same-length-3 : tie.Need-same-length-3
 same-length-3 c = search needs
 
--- src/lib.rt:159:1
 returns-4 : tie.Need-returns-4
-returns-4 c = ?
+returns-4 c = search rescue-stored
 
 pub parchbeetle-rescue-spec : {M : Type 1} → statement M
 parchbeetle-rescue-spec =

@@ -14,4 +14,6 @@ pub mod Again
 pub mod Behind
 pub mod Gives
 pub mod Roomy
+pub mod When
+pub mod Untouched
 pub mod OneOutcome

@@ -1,0 +1,2 @@
+-- Rescuing in use, in work.
+-- Assumes nothing.

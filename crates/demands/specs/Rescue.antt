@@ -142,10 +142,10 @@ module _ (bytes list : List ℕ) where
 
   -- ---- 6. What follows the plan's bytes has no say
 
-  pub total-only : (rest : List ℕ) → size (headed bytes) ≤ length bytes →
+  pub plan-bytes-only : (rest : List ℕ) → size (headed bytes) ≤ length bytes →
       (rescueOf (take (size (headed bytes)) bytes ++ rest) list ≡ rescueOf bytes list) ×
       (listOver (take (size (headed bytes)) bytes ++ rest) list ≡ listOver bytes list)
-  total-only rest long = (rescue-total bytes rest long list, buffer-total bytes rest long list)
+  plan-bytes-only rest long = (rescue-total bytes rest long list, buffer-total bytes rest long list)
 
 -- ---- 7. "A plan already in order gives an empty list"
 

@@ -45,7 +45,7 @@ use Rattle.demands.specs.Uses.Bytes.{are-bytes}
 use Rattle.demands.specs.Outcomes.{rescuing, rescuing-refused}
 use Rattle.demands.specs.Numbers.{rescue-numbers}
 use Rattle.demands.specs.Rescue.{Standing, refused-as-reading, no-kind-when, list-short-when, rescued-when, plan-given, count-given}
-use Rattle.demands.specs.Rescue.{list-given, list-found, only-seven, rescued-again, kept-again, list-applied, total-only}
+use Rattle.demands.specs.Rescue.{list-given, list-found, only-seven, rescued-again, kept-again, list-applied, plan-bytes-only}
 use Rattle.demands.specs.Rescue.{passing-unchanged, read-unchanged, in-turn, at-most-57, never-twice, each-says, header-spare-listed}
 use Rattle.demands.specs.Rescue.{project-spare-listed, ceiling-listed, budget-listed, kind-spare-listed, deadline-listed}
 use Rattle.demands.specs.Rescue.{dropped-listed, empty-applied}
@@ -272,7 +272,7 @@ nine-applied =
 -- commands behind the plan have no say
 pub behind-no-say : (rest : List ℕ) → rescueOf (damaged ++ rest) lent .count ≡ 54
 behind-no-say rest =
-    ap (λ (r : Rescued). r .count) (rw (figures .total) at (total-only damaged lent rest (omega (arith, figures .total))) .0)
+    ap (λ (r : Rescued). r .count) (rw (figures .total) at (plan-bytes-only damaged lent rest (omega (arith, figures .total))) .0)
     ∙ gives-fifty-four
 
 -- ---- plan A is in order

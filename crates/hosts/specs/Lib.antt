@@ -2,6 +2,7 @@
 -- and demand 3 holds of what it sees.
 -- Assumes nothing.
 pub mod Words
+pub mod Rescued
 pub mod Chain
 pub mod Events
 pub mod Promised

@@ -494,12 +494,12 @@ pub const RECORD_FAULTS: [(Fault, &str, &str); 109] = [
     ),
     (
         RescueDroppedSpare,
-        "rescue-spare-kept",
+        "rescue-7-spare",
         "the spare bit of a dropped kind is listed",
     ),
     (
         RescueDroppedDeadline,
-        "rescue-d-kept",
+        "rescue-7-d",
         "the lowered D of a dropped kind is listed",
     ),
     (
@@ -514,7 +514,7 @@ pub const RECORD_FAULTS: [(Fault, &str, &str); 109] = [
     ),
     (
         RescueKindsFirst,
-        "rescue-kinds-first",
+        "rescue-by-kind",
         "D and dropped kinds are listed before q and B",
     ),
     (
@@ -576,7 +576,7 @@ pub const RECORD_FAULTS: [(Fault, &str, &str); 109] = [
     ),
     (
         RescuePlanFirst,
-        "rescue-plan-first",
+        "rescue-9-plan",
         "the plan is written beside 9",
     ),
     (

@@ -7,7 +7,8 @@ fn refused(number: u64, place: u64) -> (Answer, Plan) {
     let answer = Answer {
         number,
         place,
-        ..Answer::GOOD
+        excess: 0,
+        slice: 0,
     };
     (answer, Plan::default())
 }

@@ -17,6 +17,7 @@ use second::bytes::{pack, plan_bytes};
 use second::play::{command, Command};
 use second::rack::LAST_CLOCK;
 use second::{Kind, KindState, Plan, Project, State};
+use std::sync::OnceLock;
 
 /// The calls made on one image or one string of plan bytes.
 pub type Record = Vec<Case>;
@@ -64,7 +65,13 @@ pub enum Fixed {
 
 /// Each refusal at each place, each boundary of a budget left open and of a list, each sum that differs, each change of a rescue, each length of each buffer,
 /// each released byte, and all plans and states of a small size.
-pub fn fixed() -> Vec<Fixed> {
+pub fn fixed() -> &'static [Fixed] {
+    // The self-test takes them once for each fault.
+    static FIXED: OnceLock<Vec<Fixed>> = OnceLock::new();
+    FIXED.get_or_init(all_fixed)
+}
+
+fn all_fixed() -> Vec<Fixed> {
     let plans = fixed_plan_records().into_iter().chain(small_plans());
     let states = fixed_state_records().into_iter().chain(small_states());
     let bytes = fixed_streams().into_iter().map(|stream| stream.bytes);

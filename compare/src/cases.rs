@@ -238,9 +238,12 @@ fn lengths() -> Vec<Case> {
     for count in 0..=running.len() {
         cases.push(Case::release(running[..count].to_vec(), 0, 1));
     }
-    // Lists of every length around the needed one: of damage with few changes, with none, with the most, and with no kind left.
-    for bytes in fixed_damage().into_iter().rev().step_by(977) {
-        let needed = list_needed(&bytes);
+    // Lists of every length up to a little more than the needed one: of the longest, of damage with many changes, and of single flips.
+    let damaged = fixed_damage();
+    let many = damaged.iter().take(102).rev().step_by(7);
+    let single = damaged.iter().rev().step_by(5003);
+    for bytes in many.chain(single) {
+        let needed = list_needed(bytes);
         for room in 0..=needed + 7 {
             let (plan, list) = (vec![0xEE; PLAN_IMAGE + 1], vec![0xEE; room]);
             cases.push(Case::rescue(bytes.clone(), plan, list));

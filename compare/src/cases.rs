@@ -63,8 +63,8 @@ pub enum Fixed {
     Released(Plan, usize, u8),
 }
 
-/// Each refusal at each place, each boundary of a budget left open and of a list, each sum that differs, each change of a rescue, each length of each buffer,
-/// each released byte, and all plans and states of a small size.
+/// Each refusal at each place, each boundary of a budget left open and of a list, each sum that differs, each change of a rescue, each
+/// length of each buffer, each released byte, and all plans and states of a small size.
 pub fn fixed() -> &'static [Fixed] {
     // The self-test takes them once for each fault.
     static FIXED: OnceLock<Vec<Fixed>> = OnceLock::new();

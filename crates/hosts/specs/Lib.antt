@@ -2,6 +2,7 @@
 -- demand 3 holds of what it sees, and a flip in the bytes of a sum or of slices left is told, and the figures of a kind stand in the bytes that it reads.
 -- Assumes nothing.
 pub mod Words
+pub mod Rescued
 pub mod Chain
 pub mod Events
 pub mod Promised

@@ -1,0 +1,59 @@
+//! Colours of the terminal and of pictures, by the number of a project or a kind.
+
+use std::io::{self, IsTerminal};
+
+/// Whether what is printed may have colours.
+#[derive(Clone, Copy, Debug, PartialEq, Eq)]
+pub struct Colours(pub bool);
+
+impl Colours {
+    /// By the word that was given: on a terminal, unless NO_COLOR is set; always; never.
+    pub fn of(word: Option<&str>) -> Option<Colours> {
+        let unwanted = std::env::var_os("NO_COLOR").is_some_and(|value| !value.is_empty());
+        match word.unwrap_or("auto") {
+            "auto" => Some(Colours(!unwanted && io::stdout().is_terminal())),
+            "always" => Some(Colours(true)),
+            "never" => Some(Colours(false)),
+            _ => None,
+        }
+    }
+
+    /// A text on the background of a number.
+    pub fn on(self, number: usize, text: &str) -> String {
+        const BACKGROUNDS: [u8; 8] = [44, 42, 43, 45, 46, 41, 104, 102];
+        match (self.0, BACKGROUNDS.get(number % BACKGROUNDS.len())) {
+            (true, Some(background)) => format!("\x1b[30;{background}m{text}\x1b[0m"),
+            _ => text.to_string(),
+        }
+    }
+
+    /// A heading.
+    pub fn strong(self, text: &str) -> String {
+        match self.0 {
+            true => format!("\x1b[1m{text}\x1b[0m"),
+            false => text.to_string(),
+        }
+    }
+}
+
+/// The colours of a picture: light enough that black letters stand on them.
+const PICTURE: [&str; 16] = [
+    "#8dd3c7", "#fdb462", "#bebada", "#fb8072", "#80b1d3", "#b3de69", "#fccde5", "#ffed6f",
+    "#ccebc5", "#bc80bd", "#d9d9d9", "#ffffb3", "#a6cee3", "#fdbf6f", "#cab2d6", "#b2df8a",
+];
+
+/// The colour of a number in a picture.
+pub fn of_picture(number: usize) -> &'static str {
+    PICTURE
+        .get(number % PICTURE.len())
+        .copied()
+        .unwrap_or("#d9d9d9")
+}
+
+/// The letter of a number: A, B, ..
+pub fn letter(number: usize) -> char {
+    u8::try_from(number)
+        .ok()
+        .filter(|number| *number < 26)
+        .map_or('?', |number| char::from(b'A' + number))
+}

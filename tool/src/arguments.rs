@@ -144,7 +144,7 @@ pub const COMMANDS: [Command; COUNT] = [
     Command {
         name: "build",
         arguments: "CARDS T:C ..",
-        about: "a finished plan in which each kind is a project of its own, due within its separation T",
+        about: "a finished plan: each kind a project of its own, due within its T",
         more: "Every plan that is built is admitted. It is printed as text.\n",
         takes: (1, usize::MAX),
         choices: &[

@@ -1,4 +1,4 @@
-//! Colours of the terminal and of pictures, by the number of a project or a kind.
+//! Colours of the terminal and of pictures, by project, and the letters of projects and kinds.
 
 use std::io::{self, IsTerminal};
 
@@ -18,10 +18,10 @@ impl Colours {
         }
     }
 
-    /// A text on the background of a number.
-    pub fn on(self, number: usize, text: &str) -> String {
+    /// A text on the background of a project.
+    pub fn on(self, project: usize, text: &str) -> String {
         const BACKGROUNDS: [u8; 8] = [44, 42, 43, 45, 46, 41, 104, 102];
-        match (self.0, BACKGROUNDS.get(number % BACKGROUNDS.len())) {
+        match (self.0, BACKGROUNDS.get(project % BACKGROUNDS.len())) {
             (true, Some(background)) => format!("\x1b[30;{background}m{text}\x1b[0m"),
             _ => text.to_string(),
         }
@@ -37,23 +37,29 @@ impl Colours {
 }
 
 /// The colours of a picture: light enough that black letters stand on them.
-const PICTURE: [&str; 16] = [
+const PICTURE: [&str; 8] = [
     "#8dd3c7", "#fdb462", "#bebada", "#fb8072", "#80b1d3", "#b3de69", "#fccde5", "#ffed6f",
-    "#ccebc5", "#bc80bd", "#d9d9d9", "#ffffb3", "#a6cee3", "#fdbf6f", "#cab2d6", "#b2df8a",
 ];
 
-/// The colour of a number in a picture.
-pub fn of_picture(number: usize) -> &'static str {
+/// The colour of a project in a picture.
+pub fn of_picture(project: usize) -> &'static str {
     PICTURE
-        .get(number % PICTURE.len())
+        .get(project % PICTURE.len())
         .copied()
         .unwrap_or("#d9d9d9")
 }
 
-/// The letter of a number: A, B, ..
-pub fn letter(number: usize) -> char {
-    u8::try_from(number)
-        .ok()
-        .filter(|number| *number < 26)
-        .map_or('?', |number| char::from(b'A' + number))
+/// The letter of a project: A, B, ..
+pub fn letter(project: usize) -> char {
+    from(b'A', project)
+}
+
+/// The letter of a kind: a, b, ..
+pub fn small_letter(kind: usize) -> char {
+    from(b'a', kind)
+}
+
+fn from(first: u8, number: usize) -> char {
+    let number = u8::try_from(number).ok().filter(|number| *number < 26);
+    number.map_or('?', |number| char::from(first + number))
 }

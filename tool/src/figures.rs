@@ -242,3 +242,77 @@ fn remaining(frame: u8, first: u16, cells: u16, deadline: u16) -> (u64, u8) {
         ),
     }
 }
+
+#[cfg(test)]
+mod tests {
+    use super::*;
+    use generate::Generator;
+    use second::bytes::pack;
+    use second::layout::h;
+    use second::supply::supply_and_slice;
+    use second::verdict::{asked_and_supplied, ceiling_of, excess, least_k, workload};
+
+    /// What is asked of the library, against the second program's own definitions.
+    fn agree(plan: &second::Plan) {
+        let (own, _) = Plan::read(&pack(plan)).unwrap();
+        for figures in of(&own) {
+            let i = figures.kind;
+            let project = usize::from(plan.kinds[i].project);
+            let held = h(plan, project);
+            let deadline = u64::from(plan.kinds[i].deadline);
+            assert_eq!(
+                figures.workload,
+                workload(plan, i),
+                "W of kind {i} of {plan:?}"
+            );
+            assert_eq!(figures.widths.len() as u64, ceiling_of(plan, i));
+            for width in &figures.widths {
+                let k = u64::from(width.k);
+                let sides = (width.asks, width.gets);
+                assert_eq!(
+                    sides,
+                    asked_and_supplied(plan, i, k),
+                    "kind {i}, k {k} of {plan:?}"
+                );
+                let slice = supply_and_slice(&held, k, deadline).1;
+                assert_eq!(
+                    u64::from(width.slice),
+                    slice,
+                    "slice of kind {i}, k {k} of {plan:?}"
+                );
+            }
+            let fits = figures.fits.map(|place| figures.widths[place]);
+            let fits = fits.map(|width| (u64::from(width.k), u64::from(width.slice)));
+            assert_eq!(fits, least_k(plan, &held, i), "k of kind {i} of {plan:?}");
+            assert_eq!(figures.refused.is_none(), fits.is_some());
+            if let Some(answer) = figures.refused {
+                let (number, slice) = excess(plan, &held, i);
+                let told = (u64::from(answer.excess), u64::from(answer.slice));
+                assert_eq!(told, (number, slice), "excess of kind {i} of {plan:?}");
+                let shown = figures.shown().unwrap();
+                if number < u64::from(plan.kinds[i].length) {
+                    assert_eq!(u64::from(shown.slice), slice);
+                }
+            }
+            let mut longer = plan.clone();
+            longer.kinds[i].length = figures.longest;
+            assert!(figures.longest == 0 || least_k(&longer, &held, i).is_some());
+            longer.kinds[i].length = figures.longest + 1;
+            assert!(
+                figures.longest == plan.kinds[i].deadline || least_k(&longer, &held, i).is_none()
+            );
+        }
+    }
+
+    #[test]
+    fn the_figures_are_those_of_the_rules() {
+        agree(&second::Plan::a());
+        agree(&second::Plan::b());
+        let mut generator = Generator::new(23);
+        for _ in 0..200 {
+            agree(&generator.good_plan());
+            agree(&generator.admitted_plan());
+            agree(&generator.just_refused_plan());
+        }
+    }
+}

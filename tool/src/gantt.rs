@@ -1,6 +1,6 @@
 //! The chart of a run in letters: each card's row, and for each kind its units from release to deadline.
 
-use crate::colour::{letter, Colours};
+use crate::colour::{small_letter, Colours};
 use crate::names::Names;
 use crate::record::Record;
 use crate::slots::ruler;
@@ -10,7 +10,7 @@ use bindings::in_words;
 const NAME: usize = 14;
 
 const LEGEND: &str = "\
-cards: a letter serves that kind, . idle (the project that holds the card has no work), - free
+cards: the letter of the kind that is served; . idle (the project that holds the card has no work); - free
 kinds: r released before this slice, = served, - waits, . done, d last slice before the deadline;
        R and D: the same, and served in it
 ";
@@ -30,7 +30,7 @@ pub fn chart(record: &Record, names: &Names, slots: &[u8], colours: Colours) -> 
                 .collect();
             format!(
                 "{} {}",
-                letter(kind),
+                small_letter(kind),
                 if name.is_empty() {
                     format!("kind {kind}")
                 } else {
@@ -63,8 +63,8 @@ pub fn chart(record: &Record, names: &Names, slots: &[u8], colours: Colours) -> 
                 (first..first + slices).filter_map(|slice| marks.get(usize::try_from(slice).ok()?));
             let own: String = own.collect();
             let label = label.replacen(
-                letter(kind),
-                &colours.on(kind, &letter(kind).to_string()),
+                small_letter(kind),
+                &colours.on(record.project_of(kind), &small_letter(kind).to_string()),
                 1,
             );
             // The escapes of a colour take no column.
@@ -96,7 +96,7 @@ pub fn chart(record: &Record, names: &Names, slots: &[u8], colours: Colours) -> 
 /// One card in one slice.
 fn cell(record: &Record, slots: &[u8], card: usize, slice: u64, colours: Colours) -> String {
     match served(record, card, slice) {
-        Some(kind) => colours.on(kind, &letter(kind).to_string()),
+        Some(kind) => colours.on(record.project_of(kind), &small_letter(kind).to_string()),
         None if is_free(record, slots, card, slice) => "-".to_string(),
         None => ".".to_string(),
     }

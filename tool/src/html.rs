@@ -1,8 +1,8 @@
 //! One page that can be mailed: the verdict, the slot table, and the chart with a slider over the slices.
 //! Nothing is fetched from anywhere.
 
-use crate::colour::letter;
-use crate::commands::{kind_rows, project_rows, verdict_rows};
+use crate::colour::small_letter;
+use crate::commands::{kind_rows, project_rows, verdict_rows, LEGEND};
 use crate::figures::Figures;
 use crate::json::Json;
 use crate::record::Record;
@@ -10,14 +10,14 @@ use crate::subject::Subject;
 use crate::svg::{self, escaped};
 
 const STYLE: &str = "\
-body { font-family: sans-serif; margin: 2em auto; max-width: 70em; color: #222 }
+body { font-family: sans-serif; margin: 2em auto; padding: 0 1.5em; max-width: 70em; color: #222 }
 table { border-collapse: collapse; margin: 1em 0 }
 th, td { border: 1px solid #ccc; padding: 0.25em 0.6em; text-align: right }
 th:first-child, td:first-child { text-align: left }
 .wide { overflow-x: auto; position: relative; border: 1px solid #ccc }
 .wide svg { display: block }
 #mark { position: absolute; top: 0; bottom: 0; background: rgba(255, 200, 0, 0.35); pointer-events: none }
-input[type=range] { width: 100% }
+input[type=range] { width: 100%; box-sizing: border-box; margin: 0 }
 .good { color: #1b7837 }
 ";
 
@@ -81,11 +81,12 @@ pub fn page(subject: &Subject, figures: &[Figures], record: &Record, slots: &[u8
     };
     format!(
         "<!DOCTYPE html>\n<html lang=\"en\">\n<head>\n<meta charset=\"utf-8\">\n<title>{}</title>\n<style>\n{STYLE}</style>\n</head>\n\
-         <body>\n<h1>{}</h1>\n<h2>Verdict</h2>\n<p class=\"good\">{verdict}</p>\n{}\
+         <body>\n<h1>{}</h1>\n<h2>Verdict</h2>\n<p class=\"good\">{verdict}</p>\n{}<p>{}</p>\n\
          <h2>Slot table</h2>\n<div class=\"wide\">{}</div>\n<h2>Run</h2>\n{chart}\n{}{}{script}</body>\n</html>\n",
         escaped(&title),
         escaped(&title),
         table(&verdict_rows(subject, figures, false)),
+        escaped(LEGEND.trim_end()),
         svg::slot_table(subject, slots),
         table(&kind_rows(subject, record)),
         table(&project_rows(subject, record)),
@@ -114,7 +115,7 @@ fn data(subject: &Subject, record: &Record) -> Json {
         .iter()
         .map(|row| row.iter().take(cards).copied().collect());
     let kinds = (0..record.kinds.len())
-        .map(|kind| format!("{} {}", letter(kind), subject.names.kind(kind)));
+        .map(|kind| format!("{} {}", small_letter(kind), subject.names.kind(kind)));
     let releases = record.units().into_iter().map(|unit| {
         let numbers = [unit.kind as u64, unit.length, unit.at, unit.due];
         Json::List(numbers.map(Json::from).to_vec())

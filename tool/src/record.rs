@@ -255,6 +255,12 @@ impl Record {
         accepted.filter_map(unit).collect()
     }
 
+    /// The project of a kind.
+    pub fn project_of(&self, kind: usize) -> usize {
+        let kind = self.plan.kind.get(kind);
+        kind.map_or(0, |kind| usize::from(kind.project))
+    }
+
     /// Whether a kind is served in a slice, where rows were kept.
     pub fn serves(&self, slice: u64, kind: usize) -> bool {
         let row = usize::try_from(slice)

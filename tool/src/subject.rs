@@ -215,3 +215,185 @@ pub fn of_bytes(answer: Answer) -> Fault {
         format!("{called}{}", in_words(answer.number)),
     )
 }
+
+#[cfg(test)]
+mod tests {
+    use super::*;
+    use crate::script;
+    use generate::Generator;
+    use second::bytes::pack;
+    use second::plan::check;
+
+    const PLAN: &str = "cards 2\nframe 4\nproject fold ceiling 1 budget 3 # one\nproject ceiling 2 budget 5\n\
+        kind a project fold separation 8 deadline 8 length 6\nkind b project 1 separation 4 deadline 4 length 2\n";
+
+    const WORDS: [&str; 24] = [
+        "cards",
+        "frame",
+        "project",
+        "kind",
+        "ceiling",
+        "budget",
+        "separation",
+        "deadline",
+        "length",
+        "0",
+        "1",
+        "4",
+        "8",
+        "64",
+        "4095",
+        "99999999999999999999999",
+        "-1",
+        "?",
+        "#",
+        "\n",
+        "fold",
+        "a",
+        "\u{feff}",
+        "é\u{1}",
+    ];
+
+    fn subject(bytes: Vec<u8>) -> Outcome<Subject> {
+        let name = "input".to_string();
+        Subject::of(Source { name, bytes })
+    }
+
+    /// Whatever is given, there is a plan in order or a fault in words.
+    fn answered(bytes: Vec<u8>) {
+        match subject(bytes.clone()) {
+            Ok(subject) => {
+                assert_eq!(subject.plan.check(), Ok(()));
+                // What a text says is what the second program finds in the bytes that it gives.
+                let (answer, plan, _) = second::read(&subject.plan.bytes().unwrap());
+                assert!(answer.is_good() && check(&plan).is_good());
+            }
+            Err(trouble) => {
+                let lines = trouble.lines();
+                assert!(!lines.is_empty());
+                for line in lines {
+                    assert!(
+                        line.len() < 400 && !line.contains(char::is_control),
+                        "{line:?}"
+                    );
+                }
+            }
+        }
+        let name = "input".to_string();
+        if let Err(trouble) = script::read(&Source { name, bytes }, &Names::default()) {
+            assert!(!trouble.lines().is_empty());
+        }
+    }
+
+    #[test]
+    fn arbitrary_bytes_are_answered() {
+        let mut generator = Generator::new(1);
+        for _ in 0..3000 {
+            let length = generator.below(200);
+            let most = [256, 128, 32][generator.below(3) as usize];
+            let bytes = (0..length).map(|_| generator.below(most) as u8);
+            answered(bytes.collect());
+        }
+    }
+
+    #[test]
+    fn words_in_any_order_are_answered() {
+        let mut generator = Generator::new(2);
+        for _ in 0..3000 {
+            let mut text = String::new();
+            for _ in 0..generator.below(120) {
+                text += WORDS[generator.below(WORDS.len() as u64) as usize];
+                text.push(if generator.one_in(5) { '\n' } else { ' ' });
+            }
+            answered(text.into_bytes());
+        }
+    }
+
+    #[test]
+    fn a_text_with_some_bytes_changed_is_answered() {
+        let mut generator = Generator::new(3);
+        for _ in 0..3000 {
+            let mut bytes = PLAN.as_bytes().to_vec();
+            for _ in 0..=generator.below(4) {
+                let at = generator.below(bytes.len() as u64) as usize;
+                match generator.below(4) {
+                    0 => bytes[at] = generator.below(256) as u8,
+                    1 => bytes[at] = b'0' + generator.below(10) as u8,
+                    2 => drop(bytes.remove(at)),
+                    _ => bytes.insert(at, b"0123456789 ?#\n"[generator.below(14) as usize]),
+                }
+            }
+            answered(bytes);
+        }
+    }
+
+    #[test]
+    fn long_lines_many_lines_and_huge_numbers_are_answered() {
+        for text in [
+            "9".repeat(1 << 20),
+            format!("cards {}", "9".repeat(1 << 20)),
+            format!("project {} ceiling 1 budget 1", "x".repeat(1 << 20)),
+            format!("kind {}", "project 0 ".repeat(1 << 16)),
+            "kind project 0 separation 8 deadline 8 length 1\n".repeat(2000),
+            "project ceiling 1 budget 1\n".repeat(2000),
+            "cards 2\n".repeat(2000),
+            "#".repeat(1 << 20),
+            "\n".repeat(1 << 16),
+        ] {
+            answered(text.into_bytes());
+        }
+    }
+
+    #[test]
+    fn text_and_plan_bytes_are_told_apart() {
+        let mut generator = Generator::new(4);
+        for _ in 0..200 {
+            let plan = generator.good_plan();
+            let bytes = pack(&plan);
+            assert!(!is_text(&bytes), "{bytes:02x?}");
+            let (own, _) = Plan::read(&bytes).unwrap();
+            let subject = Subject {
+                source: String::new(),
+                plan: own,
+                names: Names::default(),
+                text: None,
+                rest: 0,
+                found: None,
+            };
+            let mut text = format!("cards {}\nframe {}\n", own.cards, own.frame);
+            let projects =
+                (0..subject.projects()).filter_map(|place| crate::text::project_line(&own, place));
+            let kinds =
+                (0..subject.kinds()).filter_map(|place| crate::text::kind_line(&own, place));
+            for line in projects.chain(kinds) {
+                text += &format!("{line}\n");
+            }
+            assert!(is_text(text.as_bytes()));
+            assert_eq!(
+                super::Subject::of(Source {
+                    name: String::new(),
+                    bytes: text.into_bytes()
+                })
+                .unwrap()
+                .plan,
+                own
+            );
+        }
+        for text in [
+            "",
+            "\n",
+            "cards",
+            "#",
+            "frame 4\n",
+            "project",
+            "kind",
+            "\u{feff}cards 2",
+            "# \x01 one odd letter",
+        ] {
+            assert!(is_text(text.as_bytes()), "{text:?}");
+        }
+        for bytes in [&[0][..], &[0x22, 0x18], b"\x01\x02\x03", &[0xFF; 40]] {
+            assert!(!is_text(bytes), "{bytes:02x?}");
+        }
+    }
+}

@@ -1,6 +1,6 @@
 //! Pictures: the slot table, and the chart of a run.
 
-use crate::colour::{letter, of_picture};
+use crate::colour::{letter, of_picture, small_letter};
 use crate::gantt::{is_free, served};
 use crate::record::Record;
 use crate::slots::owner;
@@ -22,6 +22,7 @@ pub fn escaped(text: &str) -> String {
             '>' => out.push_str("&gt;"),
             '&' => out.push_str("&amp;"),
             '"' => out.push_str("&quot;"),
+            control if control.is_control() => out.push(' '),
             other => out.push(other),
         }
     }
@@ -192,8 +193,8 @@ fn row(
                     out,
                     x,
                     y,
-                    of_picture(kind),
-                    &letter(kind).to_string(),
+                    of_picture(record.project_of(kind)),
+                    &small_letter(kind).to_string(),
                     &says,
                 );
             }
@@ -223,7 +224,7 @@ fn units(
         out,
         4,
         y + LANE - 7,
-        &format!("{} {name}", letter(kind)),
+        &format!("{} {name}", small_letter(kind)),
         "",
     );
     let x = |slice: u64| LABEL + (slice.clamp(slices.start, slices.end) - slices.start) * CELL;
@@ -249,7 +250,7 @@ fn units(
         for slice in unit.at.max(slices.start)..unit.due.min(slices.end) {
             if record.serves(slice, kind) {
                 let (x, y, width, height) = (x(slice), y + 3, CELL - 1, LANE - 8);
-                let fill = of_picture(kind);
+                let fill = of_picture(record.project_of(kind));
                 let _ = write!(out, "<rect x=\"{x}\" y=\"{y}\" width=\"{width}\" height=\"{height}\" fill=\"{fill}\"/>");
             }
         }

@@ -24,7 +24,8 @@ const HEAD: [&str; 12] = [
     "bad slice",
 ];
 
-const LEGEND: &str = "\
+/// What the columns are.
+pub const LEGEND: &str = "\
 T separation, D deadline, C length; W what the other kinds of the project add; k how many cards count at once;
 asks kC + W, gets S(k,D), room what is left; longest the greatest C that would fit; bad slice the one to arrive in.
 ";
@@ -58,13 +59,13 @@ pub fn answer(given: &Given) -> Outcome<Ending> {
         };
         let mut out = format!("{}: {}\n\n", subject.source, colours.strong(&said));
         out += &words::columns(&rows(&subject, &figures, given.has("--all-k")), 2);
+        if missing > 0 {
+            out.push('\n');
+        }
         for answer in figures.iter().filter_map(|figures| figures.refused) {
-            let kind = usize::from(answer.place);
-            let place = subject.at(subject.line_of_kind(kind));
-            out += &format!(
-                "\n{place}: {}\n",
-                words::advice(&subject.plan, &subject.names, answer)
-            );
+            let place = subject.at(subject.line_of_kind(usize::from(answer.place)));
+            let advice = words::advice(&subject.plan, &subject.names, answer);
+            out += &format!("{place}: {advice}\n");
         }
         out += &format!("\n{LEGEND}");
         output::print(out.as_bytes())?;

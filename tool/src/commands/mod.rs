@@ -8,7 +8,7 @@ mod encode;
 mod run;
 mod table;
 
-pub use check::rows as verdict_rows;
+pub use check::{rows as verdict_rows, LEGEND};
 pub use run::{kind_rows, project_rows};
 
 use crate::arguments::{Command, Given};

@@ -1,6 +1,6 @@
 //! `run`: a plan run by a script or at random, as `play`'s lines, a chart, a picture or a page.
 
-use super::{colours, good, notes};
+use super::{colours, notes};
 use crate::arguments::Given;
 use crate::ending::{Ending, Outcome, Trouble};
 use crate::figures;
@@ -254,14 +254,16 @@ fn json(subject: &Subject, record: &Record) -> Json {
         .rows
         .iter()
         .map(|row| row.iter().take(cards).copied().collect());
-    let mut fields = vec![
+    Json::Object(vec![
+        ("command", "run".into()),
+        ("file", subject.source.as_str().into()),
+        ("good", (record.refused == 0).into()),
         ("slices", record.slices.into()),
         ("frames", record.frames().into()),
         ("refused", record.refused.into()),
         ("kinds", Json::List(kinds.collect())),
         ("projects", Json::List(projects.collect())),
         ("releases", Json::List(releases.collect())),
-    ];
-    fields.push(("rows", Json::Rows(rows.collect())));
-    good("run", &subject.source, fields)
+        ("rows", Json::Rows(rows.collect())),
+    ])
 }

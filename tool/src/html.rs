@@ -34,7 +34,8 @@ function show() {
   list.textContent = '';
   row.forEach(function (byte, card) {
     var item = document.createElement('li');
-    item.textContent = 'card ' + card + ': ' + (byte ? data.kinds[byte - 1] : 'idle');
+    var held = data.slots[card][slice % data.frame];
+    item.textContent = 'card ' + card + ': ' + (byte ? data.kinds[byte - 1] : held ? 'idle' : 'free');
     list.appendChild(item);
   });
   data.releases.forEach(function (release) {
@@ -59,7 +60,7 @@ show();
 
 /// The page.
 pub fn page(subject: &Subject, figures: &[Figures], record: &Record, slots: &[u8]) -> String {
-    let title = format!("Parchbeetle: {}", subject.source);
+    let title = format!("Parchbeetle: {}", subject.title());
     let verdict = "admitted: every unit will be in time";
     let last = record.slices.saturating_sub(1);
     let chart = match record.slices {
@@ -76,7 +77,7 @@ pub fn page(subject: &Subject, figures: &[Figures], record: &Record, slots: &[u8
         0 => String::new(),
         _ => format!(
             "<script type=\"application/json\" id=\"data\">{}</script>\n<script>\n{SCRIPT}</script>\n",
-            data(subject, record).in_page()
+            data(subject, record, slots).in_page()
         ),
     };
     format!(
@@ -108,7 +109,7 @@ fn table(rows: &[Vec<String>]) -> String {
 }
 
 /// What the slider shows.
-fn data(subject: &Subject, record: &Record) -> Json {
+fn data(subject: &Subject, record: &Record, slots: &[u8]) -> Json {
     let cards = usize::from(record.plan.cards);
     let rows = record
         .rows
@@ -127,6 +128,15 @@ fn data(subject: &Subject, record: &Record) -> Json {
         ("cell", cell.into()),
         ("kinds", kinds.collect::<Vec<String>>().into()),
         ("releases", Json::List(releases.collect())),
+        (
+            "slots",
+            Json::Rows(
+                slots
+                    .chunks(usize::from(record.plan.frame.max(1)))
+                    .map(<[u8]>::to_vec)
+                    .collect(),
+            ),
+        ),
         ("rows", Json::Rows(rows.collect())),
     ])
 }

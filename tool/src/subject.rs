@@ -9,6 +9,7 @@ use crate::text::Text;
 use crate::words;
 use bindings::{in_words, Answer, Plan};
 use std::ffi::OsStr;
+use std::path::Path;
 
 /// A plan in order, and where it comes from.
 pub struct Subject {
@@ -106,6 +107,14 @@ impl Subject {
             }),
             Err(answer) => Err(Trouble::Faults(source, vec![of_bytes(answer)])),
         }
+    }
+
+    /// The file's name without its folders, for pictures and pages.
+    pub fn title(&self) -> String {
+        let name = Path::new(&self.source).file_name();
+        name.map_or(self.source.clone(), |name| {
+            name.to_string_lossy().into_owned()
+        })
     }
 
     /// How many projects there are.

@@ -132,7 +132,7 @@ pub fn slot_table(subject: &Subject, slots: &[u8]) -> String {
         widest = widest.max(CELL + 12 + 7 * words.chars().count() as u64);
         y += LANE;
     }
-    let title = format!("Slot table of {}", subject.source);
+    let title = format!("Slot table of {}", subject.title());
     picture(LABEL + widest + 8, y + 6, &title, &out)
 }
 
@@ -166,7 +166,7 @@ pub fn chart(subject: &Subject, record: &Record, slots: &[u8], band: u64) -> Str
         first += slices;
         y += height;
     }
-    let title = format!("Run of {}: {} slices", subject.source, record.slices);
+    let title = format!("Run of {}: {} slices", subject.title(), record.slices);
     picture(LABEL + band * CELL + 8, y.max(HEAD), &title, &out)
 }
 

@@ -322,6 +322,12 @@ docking             4       5                4                 4
 4 slices, 1 whole frame; 1 refused
 ";
     assert_eq!(rest, expected);
+    let sample = |name: &str| format!("{}/../samples/{name}", env!("CARGO_MANIFEST_DIR"));
+    let own = parchbeetle(
+        &["run", &sample("plan-a.txt"), &sample("example-script.txt")],
+        b"",
+    );
+    assert!(own.text().starts_with(example), "{}", own.text());
     // The script from the standard input, and the plan.
     let piped = parchbeetle(&["run", &plan, "-"], EXAMPLE.as_bytes());
     assert_eq!(piped.text(), ran.text());

@@ -114,7 +114,7 @@ fn without_kind(case: &Case, kind: usize) -> Case {
     if matches!(case.op, Op::Release | Op::Show | Op::Advance) && case.given.len() >= STATE_IMAGE {
         move_up(PLAN_IMAGE + 4);
     }
-    if case.op == Op::Release && tried.numbers[0] > kind as u64 {
+    if matches!(case.op, Op::Release | Op::Figures) && tried.numbers[0] > kind as u64 {
         tried.numbers[0] -= 1;
     }
     tried

@@ -1,18 +1,10 @@
 //! The figures behind a verdict: of each kind W, and for each k what it asks, kC + W, and what it gets,
 //! S(k,D), with the bad slice to arrive in.
 //!
-//! The library's verdict has k and slice, or an excess, and not these. They are had by asking it about
-//! other plans:
-//!
-//! - *What another kind adds to W.* On one card of their own, kept by nobody else, a unit of length D
-//!   is too long by just what the other kind adds, which is never more than D.
-//! - *S(k,D).* A budget is so many whole cards, each held at every slice, and the cells of one more card
-//!   that remain. A whole card gives D. What remains gives D less the excess of a unit of length D that
-//!   has these cells alone.
-//! - *Whether a kind fits, and by how much it is too long.* The answer names the first kind with no k, and
-//!   the order of kinds changes no fit; so each kind is put first in turn.
+//! W, S(k,D) and the slices are the library's figures of a kind. A verdict names the first kind with no k
+//! alone; but the order of kinds changes no fit, so each kind is put first in turn and judged again.
 
-use bindings::{Answer, Kind, Plan, Project};
+use bindings::{Answer, Kind, Plan};
 
 /// One k.
 #[derive(Clone, Copy, Debug, PartialEq, Eq)]
@@ -71,11 +63,9 @@ impl Figures {
 /// The figures of each kind of a plan in order.
 pub fn of(plan: &Plan) -> Vec<Figures> {
     let verdict = plan.verdict();
-    let slots = plan.slots().unwrap_or_default();
     let kinds = plan.kind.iter().take(usize::from(plan.kinds)).enumerate();
     let figures = kinds.map(|(place, kind)| {
-        let workload = workload(plan, place);
-        let widths = widths(plan, &slots, kind, workload);
+        let (workload, widths) = widths(plan, place, kind);
         let refused = match verdict {
             Ok(_) => None,
             Err(_) => refusal(&first(plan, place, kind.length), place),
@@ -91,7 +81,8 @@ pub fn of(plan: &Plan) -> Vec<Figures> {
         let longest = match refusal(&first(plan, place, kind.deadline), place) {
             None => kind.deadline,
             Some(answer) => {
-                u16::try_from(u32::from(kind.deadline).saturating_sub(answer.excess)).unwrap_or(0)
+                let longest = u32::from(kind.deadline).saturating_sub(answer.excess);
+                u16::try_from(longest).unwrap_or(0)
             }
         };
         Figures {
@@ -104,6 +95,22 @@ pub fn of(plan: &Plan) -> Vec<Figures> {
         }
     });
     figures.collect()
+}
+
+/// W, and what each k asks and gets.
+fn widths(plan: &Plan, place: usize, kind: &Kind) -> (u64, Vec<Width>) {
+    let Ok((figures, count)) = plan.figures(place as u64) else {
+        return (0, Vec::new());
+    };
+    let workload = u64::from(figures.workload);
+    let each = (1..).zip(figures.supply.into_iter().zip(figures.slice));
+    let width = |(k, (supply, slice)): (u8, (u32, u8))| Width {
+        k,
+        asks: u64::from(k) * u64::from(kind.length) + workload,
+        gets: u64::from(supply),
+        slice,
+    };
+    (workload, each.map(width).take(count).collect())
 }
 
 /// The plan with a kind in the first place, at some length; the others keep their order behind it.
@@ -125,124 +132,6 @@ fn refusal(plan: &Plan, place: usize) -> Option<Answer> {
     (answer.number == 8 && answer.place == 0).then_some(Answer { place, ..answer })
 }
 
-/// A plan of one card or two for a few kinds, which is asked about.
-fn asked(cards: u8, frame: u8, projects: &[Project], kinds: &[Kind]) -> Plan {
-    let mut plan = Plan {
-        cards,
-        frame,
-        projects: projects.len() as u8,
-        kinds: kinds.len() as u8,
-        ..Plan::default()
-    };
-    for (place, project) in plan.project.iter_mut().zip(projects) {
-        *place = *project;
-    }
-    for (place, kind) in plan.kind.iter_mut().zip(kinds) {
-        *place = *kind;
-    }
-    plan
-}
-
-/// W: the sum of what each other kind of the project adds.
-fn workload(plan: &Plan, place: usize) -> u64 {
-    let kinds = plan.kind.get(..usize::from(plan.kinds)).unwrap_or_default();
-    let Some(kind) = kinds.get(place) else {
-        return 0;
-    };
-    let others = kinds.iter().enumerate();
-    let others = others.filter(|(other, one)| *other != place && one.project == kind.project);
-    let whole = Kind {
-        project: 0,
-        length: kind.deadline,
-        ..*kind
-    };
-    let part = |other: &Kind| {
-        let card = Project {
-            ceiling: 1,
-            budget: 1,
-        };
-        let pair = [
-            whole,
-            Kind {
-                project: 0,
-                ..*other
-            },
-        ];
-        let refused = refusal(&asked(1, 1, &[card], &pair), 0);
-        refused.map_or(0, |answer| u64::from(answer.excess))
-    };
-    others.map(|(_, other)| part(other)).sum()
-}
-
-/// What each k asks and gets.
-fn widths(plan: &Plan, slots: &[u8], kind: &Kind, workload: u64) -> Vec<Width> {
-    let Some(project) = plan.project.get(usize::from(kind.project)) else {
-        return Vec::new();
-    };
-    let frame = u16::from(plan.frame.max(1));
-    let (whole, cells) = (project.budget / frame, project.budget % frame);
-    let (rest, slice) = match cells {
-        0 => (0, 0),
-        _ => remaining(
-            plan.frame,
-            first_slice(plan, slots, kind.project),
-            cells,
-            kind.deadline,
-        ),
-    };
-    let deadline = u64::from(kind.deadline);
-    let width = |k: u8| {
-        let asks = u64::from(k) * u64::from(kind.length) + workload;
-        let (gets, slice) = match u16::from(k) <= whole {
-            true => (u64::from(k) * deadline, 0),
-            false => (u64::from(whole) * deadline + rest, slice),
-        };
-        Width {
-            k,
-            asks,
-            gets,
-            slice,
-        }
-    };
-    (1..=project.ceiling).map(width).collect()
-}
-
-/// The slice of the project's first cell.
-fn first_slice(plan: &Plan, slots: &[u8], project: u8) -> u16 {
-    let cell = slots
-        .iter()
-        .position(|slot| *slot == project.wrapping_add(1));
-    let slice = cell.unwrap_or(0) % usize::from(plan.frame.max(1));
-    u16::try_from(slice).unwrap_or(0)
-}
-
-/// What so many cells from some slice on, on one card at a time, give a unit at the least, and from
-/// which slice on.
-fn remaining(frame: u8, first: u16, cells: u16, deadline: u16) -> (u64, u8) {
-    let before = Project {
-        ceiling: 1,
-        budget: first,
-    };
-    let own = Project {
-        ceiling: 1,
-        budget: cells,
-    };
-    let projects: &[Project] = if first == 0 { &[own] } else { &[before, own] };
-    let unit = Kind {
-        project: projects.len() as u8 - 1,
-        separation: deadline,
-        deadline,
-        length: deadline,
-    };
-    match asked(2, frame, projects, &[unit]).verdict() {
-        Ok(verdict) => (u64::from(deadline), verdict.slice[0]),
-        Err(answer) => (
-            u64::from(deadline).saturating_sub(u64::from(answer.excess)),
-            answer.slice,
-        ),
-    }
-}
-
 #[cfg(test)]
 mod tests {
     use super::*;
@@ -252,7 +141,7 @@ mod tests {
     use second::supply::supply_and_slice;
     use second::verdict::{asked_and_supplied, ceiling_of, excess, least_k, workload};
 
-    /// What is asked of the library, against the second program's own definitions.
+    /// What the library says, against the second program's own definitions.
     fn agree(plan: &second::Plan) {
         let (own, _) = Plan::read(&pack(plan)).unwrap();
         for figures in of(&own) {

@@ -76,7 +76,7 @@ pub fn all_active(n: u16, frame: u8, d: u16) -> State {
             left: 100,
         };
     }
-    state
+    state.summed()
 }
 
 /// A call of the stream.

@@ -5,7 +5,9 @@
 use bench::inputs::{self, Command, Stream};
 use bench::timing::{medians, Row, Table, FEW_TURNS, SIDES, TURNS};
 use bench::tuned;
-use compare::interface::{number, plan_image, state_image, Case, Op, Side, PLAN_IMAGE};
+use compare::interface::{
+    number, plan_image, state_image, Case, Op, Side, PLAN_IMAGE, STATE_IMAGE,
+};
 use compare::proved::Proved;
 use compare::second_side::Second;
 use second::bytes::pack;
@@ -233,7 +235,7 @@ fn agree_on_slice(name: &str, state: &State) {
 fn half_slice(name: String, half: Half, state: &State) -> Row {
     agree_on_slice(&name, state);
     let image = state_image(state);
-    let through = |side: &dyn Side, running: &mut [u8; 256], row: &mut [u8; 8]| {
+    let through = |side: &dyn Side, running: &mut [u8; STATE_IMAGE], row: &mut [u8; 8]| {
         running.copy_from_slice(black_box(&image));
         kept(match half {
             Half::Show => side.show(black_box(running), black_box(row)),
@@ -262,7 +264,7 @@ fn slice(name: String, state: &State) -> Row {
     agree_on_slice(&name, state);
     let image = state_image(state);
     let (mut own, mut row) = (*state, [0; 8]);
-    let through = |side: &dyn Side, running: &mut [u8; 256], row: &mut [u8; 8]| {
+    let through = |side: &dyn Side, running: &mut [u8; STATE_IMAGE], row: &mut [u8; 8]| {
         running.copy_from_slice(black_box(&image));
         kept(side.show(black_box(running), black_box(row)));
         kept(side.advance(black_box(running)));

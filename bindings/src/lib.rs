@@ -17,9 +17,10 @@ mod record;
 
 pub use answer::{in_words, Answer, NUMBERS};
 pub use calls::{
-    advance, build, check, fresh, read, release, show, slot_table, smallest_budget, verdict, write,
+    advance, build, check, fresh, read, release, rescue, show, slot_table, smallest_budget,
+    verdict, write,
 };
-pub use record::{Kind, Plan, Project, State, Unit, Verdict};
+pub use record::{Change, Kind, Plan, Project, State, Unit, Verdict};
 
 /// Whether the library is linked, so that a call takes no more than its own time.
 pub const LINKED: bool = cfg!(target_arch = "x86_64");
@@ -27,12 +28,16 @@ pub const LINKED: bool = cfg!(target_arch = "x86_64");
 /// Bytes of a plan image.
 pub const PLAN_IMAGE: usize = 140;
 /// Bytes of a state image.
-pub const STATE_IMAGE: usize = 256;
+pub const STATE_IMAGE: usize = 272;
 /// Bytes of a verdict: the k of each kind, then the slice of each.
 pub const VERDICT_BYTES: usize = 32;
 /// The most bytes that a plan takes.
 pub const MOST_PLAN_BYTES: usize = 99;
 /// The most bytes that a slot table takes.
 pub const MOST_TABLE_BYTES: usize = 512;
+/// Bytes of a change in the list of a rescue.
+pub const CHANGE_BYTES: usize = 6;
+/// The most bytes that the list of a rescue takes.
+pub const MOST_LIST_BYTES: usize = 342;
 /// The most bytes that a row takes.
 pub const MOST_ROW_BYTES: usize = 8;

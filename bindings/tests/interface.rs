@@ -250,6 +250,11 @@ fn listed(header: &str, record: &str) -> Vec<(String, String)> {
                 continue;
             };
             let kind = kind[..1].to_uppercase() + &kind[1..];
+            // A place with one field alone is that number.
+            let kind = match &listed(header, &kind)[..] {
+                [(_, number)] => number.clone(),
+                _ => kind,
+            };
             before.push(match name.trim_end_matches(']').split_once('[') {
                 Some((name, places)) => (name.to_string(), format!("[{kind}; {places}]")),
                 None => (name.to_string(), kind),
@@ -276,8 +281,14 @@ fn rows(header: &str, record: &str) -> Rows {
         }
         match kind.trim_matches(['[', ']']).split_once("; ") {
             Some((kind, places)) => {
-                let fields = rows(header, kind).into_iter().flat_map(|(_, bits)| bits);
-                found.push((places.parse().unwrap_or(0), fields.collect()));
+                let fields = match kind.strip_prefix('u').and_then(leading) {
+                    Some(bits) => vec![bits],
+                    None => rows(header, kind)
+                        .into_iter()
+                        .flat_map(|(_, bits)| bits)
+                        .collect(),
+                };
+                found.push((places.parse().unwrap_or(0), fields));
             }
             None => found.extend(rows(header, &kind)),
         }
@@ -370,12 +381,14 @@ fn spoken_of(header: &str) -> BTreeSet<u64> {
     numbers
 }
 
-const SIZES: [&str; 6] = [
+const SIZES: [&str; 8] = [
     "PLAN_IMAGE",
     "STATE_IMAGE",
     "VERDICT_BYTES",
+    "CHANGE_BYTES",
     "MOST_PLAN_BYTES",
     "MOST_TABLE_BYTES",
+    "MOST_LIST_BYTES",
     "MOST_ROW_BYTES",
 ];
 
@@ -477,6 +490,14 @@ fn differences(texts: &Texts) -> Vec<String> {
         );
     }
 
+    same(
+        "Change",
+        &[
+            ("bindings", format!("{:?}", fields(bindings, "Change"))),
+            ("header", format!("{:?}", listed(header, "Change"))),
+        ],
+    );
+
     for (image, name) in [("Plan", "planRows"), ("State", "stateRows")] {
         same(
             name,
@@ -556,7 +577,7 @@ fn the_header_the_bindings_and_the_exported_functions_agree() {
     let texts = texts();
     let found = differences(&texts);
     assert!(found.is_empty(), "{}", found.join("\n"));
-    assert!(declared(&texts.header).len() >= 10);
+    assert_eq!(declared(&texts.header).len(), 12);
 }
 
 #[test]
@@ -587,6 +608,9 @@ fn one_thing_changed_on_one_side_is_found() {
         (header, "uint64_t cards, const", "uint64_t m, const"),
         (bindings, "list: *const u8", "list: *mut u8"),
         (exported, "cards: u64, list: &[u8]", "cards: u64, kinds: &[u8]"),
+        (header, "uint8_t *list, size_t list_len);", "const uint8_t *list, size_t list_len);"),
+        (bindings, "plan: &mut [u8], list: &mut [u8]) -> Answer", "list: &mut [u8], plan: &mut [u8]) -> Answer"),
+        (exported, "plan: &mut [u8], list: &mut [u8]", "list: &mut [u8], plan: &mut [u8]"),
         (header, "uint8_t *k,", "const uint8_t *k,"),
         (header, "show(const uint8_t *state", "show(uint8_t *state"),
         (bindings, "k: *mut u8", "k: *const u8"),
@@ -597,7 +621,8 @@ fn one_thing_changed_on_one_side_is_found() {
         (exported, "#[no_mangle]\npub extern \"C\" fn parchbeetle_advance", "pub fn parchbeetle_advance"),
         // A function that the bridge has under another number or not at all.
         (bridge, "return parchbeetle_verdict(", "return parchbeetle_fresh("),
-        (bridged, "changing(10", "changing(9"),
+        (bridged, "changing(11", "changing(9"),
+        (bridge, "parchbeetle_rescue(a, a_len, b, b_len, c", "parchbeetle_fresh(a, a_len, b, b_len, c"),
         (bridged, "pub fn verdict(plan: &[u8], k", "pub fn verdict(k: &[u8], plan"),
         // A field's name, width and order, and how many places.
         (header, "field(budget, 2)", "field(budget, 4)"),
@@ -611,18 +636,26 @@ fn one_thing_changed_on_one_side_is_found() {
         (code, "[Unit; ", "[Other; "),
         (images, "unitWidths = 8 ∷ 32", "unitWidths = 32 ∷ 8"),
         (images, "row 8 projectWidths", "row 9 projectWidths"),
+        (header, "sum sum[8]", "sum sum[9]"),
+        (header, "SUM_FIELDS(field)                                                   \\\n    field(left, 2)", "SUM_FIELDS(field)                                                   \\\n    field(left, 4)"),
+        (header, "field(old_value, 2)", "field(old_value, 1)"),
+        (bindings, "pub old_value: u16", "pub before: u16"),
+        (bindings, "pub sum: [u16; 8]", "pub sum: [u32; 8]"),
+        (code, "pub sum: [u16; ", "pub sums: [u16; "),
         // A size.
         (header, "PLAN_IMAGE 140u", "PLAN_IMAGE 141u"),
         (header, "VERDICT_BYTES 32u", "VERDICT_BYTES 16u"),
         (bindings, "MOST_ROW_BYTES: usize = 8", "MOST_ROW_BYTES: usize = 16"),
+        (header, "MOST_LIST_BYTES 342u", "MOST_LIST_BYTES 336u"),
         // A number: its words, one that is not given, one that is not listed or not said of any function.
         (header, "there is no such kind", "no such kind"),
-        (bindings, "(13, ", "(16, "),
-        (header, "number(15, \"slices", "number(16, \"slices"),
-        (code, "struct Plan {", "bare(16) struct Plan {"),
+        (bindings, "(13, ", "(28, "),
+        (header, "number(15, \"slices", "number(28, \"slices"),
+        (code, "struct Plan {", "bare(28) struct Plan {"),
         (header, "12, 13, 14, 15.", "12, 13, 14."),
         (header, "2, 3, 27, 4", "2, 3, 4"),
-        (header, "17 (cards", "16 (cards"),
+        (header, "17 (cards", "28 (cards"),
+        (header, "1 (the total), 20;", "1 (the total);"),
         (version, ".", ".1."),
         (header, "VERSION_MINOR ", "VERSION_MINOR 9"),
     ] {
@@ -708,6 +741,31 @@ fn the_records_are_what_the_library_reads_and_writes() {
     );
     assert_eq!(Plan::build(9, &[]).map_err(|answer| answer.number), Err(17));
 
+    assert_eq!(Plan::rescue(&PLAN_A), Ok((plan, Vec::new())));
+    let mut damaged = PLAN_A;
+    // The B of project 1 is the low four bits of byte 5 and the high six of byte 6.
+    damaged[5] |= 0x0F;
+    damaged[6] |= 0xFC;
+    damaged[2] |= 1;
+    let (rescued, changes) = Plan::rescue(&damaged).unwrap();
+    let mut expected = plan;
+    expected.project[1].budget = 8;
+    assert_eq!(rescued, expected);
+    assert_eq!(rescued.check().map_err(|answer| answer.number), Err(7));
+    let change = |what, place, old_value, new_value| Change {
+        what,
+        place,
+        old_value,
+        new_value,
+    };
+    assert_eq!(changes, [change(1, 0, 1, 0), change(5, 1, 1023, 8)]);
+    damaged[7..].fill(0);
+    assert_eq!(
+        Plan::rescue(&damaged).map_err(|answer| answer.number),
+        Err(20)
+    );
+    assert_eq!(in_words(20), "no kind remains");
+
     let mut state = plan.fresh().unwrap();
     let fresh = State {
         plan,
@@ -726,6 +784,7 @@ fn the_records_are_what_the_library_reads_and_writes() {
         at: 1,
         left: 1,
     };
+    expected.sum[1] = 1;
     assert_eq!(state, expected);
     assert_eq!(State::of_image(&state.image()), state);
 
@@ -742,6 +801,14 @@ fn the_records_are_what_the_library_reads_and_writes() {
         "the kind's last release was less than its separation ago"
     );
     assert_eq!(state, expected);
+
+    state.sum[1] ^= 1;
+    let flipped = state;
+    for refused in [state.release(0, 1), state.show(&mut row), state.advance()] {
+        assert_eq!(refused.map_err(|answer| answer.number), Err(16));
+    }
+    assert_eq!(state, flipped);
+    assert_eq!(in_words(16), "a stored sum differs from what is left");
 }
 
 #[test]
@@ -750,7 +817,20 @@ fn the_sizes_are_the_librarys() {
     let state = plan_a().fresh().unwrap().image();
     let copy = |size: usize| state[..size].to_vec();
     type Call<'a> = &'a dyn Fn(usize) -> Answer;
-    let calls: [(usize, Call); 13] = [
+    // Every spare bit, every q and B, and every D: the longest list.
+    let mut longest = [0xFF; MOST_PLAN_BYTES];
+    longest[..3].copy_from_slice(&[0x18, 0x80, 0x1F]);
+    for kind in longest[19..].chunks_exact_mut(5) {
+        // T 2047, D 4095, C 2047.
+        kind.copy_from_slice(&[0x0F, 0xFF, 0xFF, 0xEF, 0xFF]);
+    }
+    let calls: [(usize, Call); 15] = [
+        (PLAN_IMAGE, &|size| {
+            rescue(&longest, &mut vec![0; size], &mut [0; MOST_LIST_BYTES])
+        }),
+        (MOST_LIST_BYTES, &|size| {
+            rescue(&longest, &mut [0; PLAN_IMAGE], &mut vec![0; size])
+        }),
         (PLAN_IMAGE, &|size| check(&plan[..size])),
         (PLAN_IMAGE, &|size| read(&PLAN_A, &mut vec![0; size])),
         (PLAN_IMAGE, &|size| write(&plan[..size], &mut [0; 99])),
@@ -761,7 +841,9 @@ fn the_sizes_are_the_librarys() {
         (PLAN_IMAGE, &|size| {
             build(1, &[0, 2, 0, 1], &mut vec![0; size])
         }),
-        (PLAN_IMAGE, &|size| fresh(&plan[..size], &mut [0; 256])),
+        (PLAN_IMAGE, &|size| {
+            fresh(&plan[..size], &mut [0; STATE_IMAGE])
+        }),
         (STATE_IMAGE, &|size| fresh(&plan, &mut vec![0; size])),
         (STATE_IMAGE, &|size| release(&mut copy(size), 0, 1)),
         (STATE_IMAGE, &|size| show(&state[..size], &mut [0; 2])),

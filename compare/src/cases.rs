@@ -6,11 +6,12 @@
 //! bytes whole and damaged, states on it, and a run from its fresh start, step by step.
 
 use crate::interface::{
-    plan_image, plan_of, state_image, state_of, Case, Op, PLAN_IMAGE, STATE_IMAGE, VERDICT_BYTES,
+    plan_image, plan_of, state_image, state_of, Case, Op, PLAN_IMAGE, STATE_IMAGE, SUMS_AT,
+    UNITS_AT, VERDICT_BYTES,
 };
 use generate::{
-    fixed_lists, fixed_open_budgets, fixed_plan_records, fixed_state_records, fixed_streams,
-    list_bytes, spare_bits, Generator,
+    fixed_damage, fixed_lists, fixed_open_budgets, fixed_plan_records, fixed_state_records,
+    fixed_streams, fixed_sums, list_bytes, spare_bits, Generator,
 };
 use second::bytes::{pack, plan_bytes};
 use second::play::{command, Command};
@@ -20,6 +21,9 @@ use second::{Kind, KindState, Plan, Project, State};
 /// The calls made on one image or one string of plan bytes.
 pub type Record = Vec<Case>;
 
+/// The bytes of the longest list of a rescue.
+const MOST_LIST: usize = 342;
+
 /// The functions that are given a plan image and no number.
 const ON_PLANS: [Op; 5] = [Op::Check, Op::Write, Op::SlotTable, Op::Verdict, Op::Fresh];
 
@@ -27,7 +31,7 @@ const ON_PLANS: [Op; 5] = [Op::Check, Op::Write, Op::SlotTable, Op::Verdict, Op:
 fn needed(op: Op, plan: &Plan) -> usize {
     match op {
         Op::Check | Op::SmallestBudget | Op::Release | Op::Advance => 0,
-        Op::Read | Op::Build => PLAN_IMAGE,
+        Op::Read | Op::Build | Op::Rescue => PLAN_IMAGE,
         Op::Write => plan_bytes(plan.p, plan.n),
         Op::SlotTable => usize::from(plan.m) * usize::from(plan.frame),
         Op::Verdict => VERDICT_BYTES,
@@ -46,16 +50,20 @@ pub enum Fixed {
     Plan(Plan),
     /// Releases, showings and an advance of a state.
     State(State),
+    /// A few of each, of a state whose sums may differ.
+    Sums(State),
     /// Plan bytes, read.
     Bytes(Vec<u8>),
+    /// Damaged plan bytes, rescued.
+    Damage(Vec<u8>),
     /// One call.
     Call(Case),
     /// A state of this plan with this byte for a kind's released.
     Released(Plan, usize, u8),
 }
 
-/// Each refusal at each place, each boundary of a budget left open and of a list, each length of each buffer, each released
-/// byte, and all plans and states of a small size.
+/// Each refusal at each place, each boundary of a budget left open and of a list, each sum that differs, each change of a rescue, each length of each buffer,
+/// each released byte, and all plans and states of a small size.
 pub fn fixed() -> Vec<Fixed> {
     let plans = fixed_plan_records().into_iter().chain(small_plans());
     let states = fixed_state_records().into_iter().chain(small_states());
@@ -71,7 +79,9 @@ pub fn fixed() -> Vec<Fixed> {
         )
         .chain(open.map(|(plan, project)| Fixed::Call(open_budget(&plan, project))))
         .chain(states.map(Fixed::State))
+        .chain(fixed_sums().into_iter().map(Fixed::Sums))
         .chain(bytes.map(Fixed::Bytes))
+        .chain(fixed_damage().into_iter().map(Fixed::Damage))
         .chain(lengths().into_iter().map(Fixed::Call))
         .chain(released_bytes())
         .collect()
@@ -83,10 +93,12 @@ impl Fixed {
         match self {
             Fixed::Plan(plan) => on_plan(plan),
             Fixed::State(state) => on_state(state),
+            Fixed::Sums(state) => on_sums(state),
             Fixed::Bytes(bytes) => {
                 let read = |count| Case::new(Op::Read, bytes.clone(), vec![0xEE; count]);
                 vec![read(PLAN_IMAGE), read(PLAN_IMAGE - 1)]
             }
+            Fixed::Damage(bytes) => on_damage(bytes),
             Fixed::Call(case) => vec![case.clone()],
             Fixed::Released(plan, place, value) => on_released(plan, *place, *value),
         }
@@ -152,6 +164,36 @@ fn on_state(state: &State) -> Record {
     record
 }
 
+/// A showing with room and one without, an advance, and releases: good, of no kind, and of a kind with slices left.
+fn on_sums(state: &State) -> Record {
+    let image = state_image(state).to_vec();
+    let m = needed(Op::Show, &state.plan);
+    vec![
+        Case::release(image.clone(), 0, 1),
+        Case::release(image.clone(), 3, 1),
+        Case::release(image.clone(), 16, 0),
+        Case::new(Op::Show, image.clone(), vec![0xEE; m]),
+        Case::new(Op::Show, image.clone(), Vec::new()),
+        Case::new(Op::Advance, image, Vec::new()),
+    ]
+}
+
+/// The bytes that the list of a rescue needs.
+fn list_needed(bytes: &[u8]) -> usize {
+    second::rescue(bytes, &mut [0; MOST_LIST]).2
+}
+
+/// A rescue with a list that is just long enough, and with one byte less.
+fn on_damage(bytes: &[u8]) -> Record {
+    let needed = list_needed(bytes);
+    let rescue =
+        |room: usize| Case::rescue(bytes.to_vec(), vec![0xEE; PLAN_IMAGE], vec![0xEE; room]);
+    match needed {
+        0 => vec![rescue(0)],
+        _ => vec![rescue(needed), rescue(needed - 1)],
+    }
+}
+
 /// Every length of every buffer, from none to two more than needed.
 fn lengths() -> Vec<Case> {
     let mut cases = Vec::new();
@@ -189,6 +231,20 @@ fn lengths() -> Vec<Case> {
     for count in 0..=running.len() {
         cases.push(Case::release(running[..count].to_vec(), 0, 1));
     }
+    // Lists of every length around the needed one: of damage with few changes, with none, with the most, and with no kind left.
+    for bytes in fixed_damage().into_iter().rev().step_by(977) {
+        let needed = list_needed(&bytes);
+        for room in 0..=needed + 7 {
+            let (plan, list) = (vec![0xEE; PLAN_IMAGE + 1], vec![0xEE; room]);
+            cases.push(Case::rescue(bytes.clone(), plan, list));
+        }
+        for room in (0..=PLAN_IMAGE + 2).step_by(3).chain([PLAN_IMAGE - 1]) {
+            for list in [needed, needed.saturating_sub(1)] {
+                let (plan, list) = (vec![0xEE; room], vec![0xEE; list]);
+                cases.push(Case::rescue(bytes.clone(), plan, list));
+            }
+        }
+    }
     cases
 }
 
@@ -209,7 +265,7 @@ fn on_released(plan: &Plan, place: usize, value: u8) -> Record {
         ..State::default()
     };
     let mut image = state_image(&state).to_vec();
-    image[PLAN_IMAGE + 4 + 7 * place] = value;
+    image[UNITS_AT + 7 * place] = value;
     vec![
         Case::release(image.clone(), 0, 1),
         Case::release(image.clone(), 12, 1),
@@ -269,7 +325,7 @@ fn small_states() -> Vec<State> {
                         ..State::default()
                     };
                     state.kinds[..3].copy_from_slice(&[first, second, third]);
-                    states.push(state);
+                    states.push(state.summed());
                 }
             }
         }
@@ -328,6 +384,12 @@ impl Rounds {
             let (cards, list) = g.cards_and_list();
             let lent = lent(&mut g, PLAN_IMAGE);
             records.push(vec![Case::build(cards, list, lent)]);
+        }
+
+        for _ in 0..6 {
+            let bytes = g.damaged(&plan);
+            let (plan, list) = (lent(&mut g, PLAN_IMAGE), list_lent(&mut g, &bytes));
+            records.push(vec![Case::rescue(bytes, plan, list)]);
         }
 
         // Small plans, where ties and exact fits are common, and a state on each.
@@ -406,6 +468,19 @@ fn lent(g: &mut Generator, needed: usize) -> Vec<u8> {
         2 => g.below(needed as u64 + 1) as usize,
         3..=8 => needed,
         _ => needed + g.between(1, 6) as usize,
+    };
+    arbitrary(g, count)
+}
+
+/// A list for the rescue of these bytes: of a length around the needed one, mostly enough.
+fn list_lent(g: &mut Generator, bytes: &[u8]) -> Vec<u8> {
+    let needed = list_needed(bytes);
+    let count = match g.below(8) {
+        0 => g.below(needed as u64 + 1) as usize,
+        1 => needed.saturating_sub(g.between(1, 7) as usize),
+        2 => MOST_LIST,
+        3 => needed + g.between(1, 13) as usize,
+        _ => needed,
     };
     arbitrary(g, count)
 }
@@ -617,7 +692,7 @@ fn state_records(g: &mut Generator, state: &mut State, records: &mut Vec<Record>
 fn state_record(g: &mut Generator, image: &[u8; STATE_IMAGE]) -> Record {
     let mut readable = *image;
     for place in 0..16 {
-        readable[PLAN_IMAGE + 4 + 7 * place] = readable[PLAN_IMAGE + 4 + 7 * place].min(1);
+        readable[UNITS_AT + 7 * place] = readable[UNITS_AT + 7 * place].min(1);
     }
     let state = state_of(&readable).unwrap_or_default();
     let (kind, e) = g.release_numbers(&state);
@@ -637,7 +712,7 @@ fn nudge_state(g: &mut Generator, image: &mut [u8; STATE_IMAGE]) {
         0 => g.below(16),
         _ => g.below(n),
     };
-    let at = PLAN_IMAGE + 4 + 7 * place as usize;
+    let at = UNITS_AT + 7 * place as usize;
     let add = |g: &mut Generator, field: &mut [u8]| {
         // One more or one less, as one big-endian number.
         let up = g.one_in(2);
@@ -652,7 +727,12 @@ fn nudge_state(g: &mut Generator, image: &mut [u8; STATE_IMAGE]) {
             }
         }
     };
-    match g.below(10) {
+    let project = match g.below(8) {
+        0 => g.below(8),
+        _ => g.below(u64::from(image[1]).clamp(1, 8)),
+    };
+    let sum = SUMS_AT + 2 * project as usize;
+    match g.below(13) {
         0 => image[g.below(STATE_IMAGE as u64) as usize] = g.number() as u8,
         1 => image[at] = g.number() as u8,
         2 => image[at] ^= 1,
@@ -662,7 +742,19 @@ fn nudge_state(g: &mut Generator, image: &mut [u8; STATE_IMAGE]) {
         }
         4 | 5 => add(g, &mut image[PLAN_IMAGE..PLAN_IMAGE + 4]),
         6 | 7 => add(g, &mut image[at + 1..at + 5]),
+        8 => add(g, &mut image[sum..sum + 2]),
+        9 => image[sum + g.below(2) as usize] ^= 1 << g.below(8),
+        10 => {
+            // Two sums changed over.
+            let other = SUMS_AT + 2 * g.below(8) as usize;
+            image.swap(sum, other);
+            image.swap(sum + 1, other + 1);
+        }
         _ => add(g, &mut image[at + 5..at + 7]),
+    }
+    // The sums go with what is left, or do not.
+    if let (true, Some(state)) = (g.one_in(2), state_of(image)) {
+        *image = state_image(&state.summed());
     }
 }
 

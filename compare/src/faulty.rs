@@ -5,15 +5,15 @@
 //! agree with the second program, so that a fault is found for what it is.
 
 use crate::interface::{
-    number, plan_image, plan_of, refused, state_image, word, Side, PLAN_IMAGE, STATE_IMAGE,
-    VERDICT_BYTES,
+    number, plan_image, plan_of, refused, state_image, word, Op, Side, PLAN_IMAGE, STATE_IMAGE,
+    SUMS_AT, UNITS_AT, VERDICT_BYTES,
 };
 use crate::second_side::{state_or_refuse, Second};
 use second::layout::{cards_held, cells, h, h_of_cells};
 use second::one_kind::listed;
 use second::plan::budgets_sum_above;
 use second::play::{command, Command};
-use second::rack::{in_form, LAST_CLOCK};
+use second::rack::{a_stored_sum_differs, in_form, sum_of_what_is_left, LAST_CLOCK};
 use second::supply::supply_and_slice;
 use second::verdict::{ceiling_of, excess, least_k, workload};
 use second::{Answer, Plan, State};
@@ -107,12 +107,50 @@ pub enum Fault {
     AdvanceGoesOn,
     AdvanceRemembers,
     PlayRowAfter,
+    SumNotRaised,
+    SumRaisedByLength,
+    SumNotLowered,
+    SumLoweredByHeld,
+    SumOfAll,
+    SumAtMost,
+    SumLowByte,
+    SumBeyond,
+    SumRepaired,
+    SumRepairedBySixteen,
+    SumBytes,
+    SixteenFirst,
+    SixteenInShow,
+    SixteenAfterNine,
+    SixteenAfterTwelve,
+    SixteenPlace,
+    RescueOldCeiling,
+    RescueLateDeadline,
+    RescueDroppedSpare,
+    RescueDroppedDeadline,
+    RescueDroppedValue,
+    RescuePlaceInResult,
+    RescueKindsFirst,
+    RescueSpareBeside,
+    RescueLowByte,
+    RescueUnchanged,
+    RescueHeaderSpare,
+    RescueCeilingOne,
+    RescueBudgetOne,
+    RescueProjectAtP,
+    RescueKindsCounted,
+    RescueHole,
+    RescueSeven,
+    RescueNoTwenty,
+    RescueNineFirst,
+    RescueCutList,
+    RescuePlanFirst,
+    RescueEntries,
 }
 
 use Fault::*;
 
 /// Each fault that records must show: its name and what it is.
-pub const RECORD_FAULTS: [(Fault, &str, &str); 71] = [
+pub const RECORD_FAULTS: [(Fault, &str, &str); 109] = [
     (SumFirst, "sum-first", "7 is told before 4"),
     (FiveFirst, "five-first", "all kinds for 5 before any 6"),
     (
@@ -380,6 +418,172 @@ pub const RECORD_FAULTS: [(Fault, &str, &str); 71] = [
         "build-nine-first",
         "a short plan is told before 7",
     ),
+    (
+        SumNotRaised,
+        "sum-not-raised",
+        "a release leaves the sum as it was",
+    ),
+    (
+        SumRaisedByLength,
+        "sum-raised-by-c",
+        "a release raises the sum by C",
+    ),
+    (
+        SumNotLowered,
+        "sum-not-lowered",
+        "an advance leaves the sums as they were",
+    ),
+    (
+        SumLoweredByHeld,
+        "sum-by-held",
+        "an advance lowers a sum by the cards held",
+    ),
+    (
+        SumOfAll,
+        "sum-of-all",
+        "only the sum of all projects is compared",
+    ),
+    (SumAtMost, "sum-at-most", "a sum that is too small passes"),
+    (
+        SumLowByte,
+        "sum-low-byte",
+        "only the low byte of a sum is compared",
+    ),
+    (
+        SumBeyond,
+        "sum-beyond",
+        "the sums beyond p are not looked at",
+    ),
+    (
+        SumRepaired,
+        "sum-repaired",
+        "a release puts a sum right instead of telling 16",
+    ),
+    (
+        SumRepairedBySixteen,
+        "sum-put-right",
+        "16 is told, and the sums given back are put right",
+    ),
+    (
+        SumBytes,
+        "sum-bytes",
+        "a sum's low byte stands first in the image",
+    ),
+    (SixteenFirst, "sixteen-first", "16 is told before 10"),
+    (SixteenInShow, "sixteen-in-show", "16 is told by show alone"),
+    (SixteenAfterNine, "sixteen-after-9", "16 is told after 9"),
+    (
+        SixteenAfterTwelve,
+        "sixteen-after-12",
+        "16 is told after 12",
+    ),
+    (
+        SixteenPlace,
+        "sixteen-place",
+        "16 has the first such project for its place",
+    ),
+    (
+        RescueOldCeiling,
+        "rescue-old-q",
+        "a rescue judges B with the old q",
+    ),
+    (
+        RescueLateDeadline,
+        "rescue-late-d",
+        "a rescue judges C before D is lowered",
+    ),
+    (
+        RescueDroppedSpare,
+        "rescue-7-spare",
+        "the spare bit of a dropped kind is listed",
+    ),
+    (
+        RescueDroppedDeadline,
+        "rescue-7-d",
+        "the lowered D of a dropped kind is listed",
+    ),
+    (
+        RescueDroppedValue,
+        "rescue-7-value",
+        "a dropped kind's entry has its C for the old value",
+    ),
+    (
+        RescuePlaceInResult,
+        "rescue-place",
+        "a kind's place is that in the result",
+    ),
+    (
+        RescueKindsFirst,
+        "rescue-by-kind",
+        "D and dropped kinds are listed before q and B",
+    ),
+    (
+        RescueSpareBeside,
+        "rescue-beside",
+        "a project's spare bits are listed beside its q and B",
+    ),
+    (
+        RescueLowByte,
+        "rescue-low-byte",
+        "a value's low byte is listed first",
+    ),
+    (
+        RescueUnchanged,
+        "rescue-unchanged",
+        "a D of just T is listed",
+    ),
+    (
+        RescueHeaderSpare,
+        "rescue-header",
+        "the header's spare bits are passed by",
+    ),
+    (
+        RescueCeilingOne,
+        "rescue-q-one",
+        "a q above m is lowered to 1",
+    ),
+    (
+        RescueBudgetOne,
+        "rescue-b-one",
+        "a B above qF is lowered to 1",
+    ),
+    (
+        RescueProjectAtP,
+        "rescue-project-p",
+        "a kind of project p is kept",
+    ),
+    (
+        RescueKindsCounted,
+        "rescue-n",
+        "the count of kinds is not lowered",
+    ),
+    (RescueHole, "rescue-hole", "later kinds do not move up"),
+    (RescueSeven, "rescue-seven", "a rescue refuses 7"),
+    (
+        RescueNoTwenty,
+        "rescue-no-20",
+        "a plan without kinds is given instead of 20",
+    ),
+    (
+        RescueNineFirst,
+        "rescue-9-first",
+        "a short list is told before 20",
+    ),
+    (
+        RescueCutList,
+        "rescue-cut-list",
+        "the entries that fit are written beside 9",
+    ),
+    (
+        RescuePlanFirst,
+        "rescue-9-plan",
+        "the plan is written beside 9",
+    ),
+    (
+        RescueEntries,
+        "rescue-entries",
+        "the count is that of the entries",
+    ),
 ];
 
 /// Each fault that streams must show.
@@ -471,11 +675,81 @@ impl Faulty {
         }
         if self.is(ReleasedByte) && size == STATE_IMAGE {
             for place in 0..16 {
-                let released = &mut seen[PLAN_IMAGE + 4 + 7 * place];
+                let released = &mut seen[UNITS_AT + 7 * place];
                 *released = (*released).min(1);
             }
         }
+        if size == STATE_IMAGE {
+            self.turn_sums(&mut seen);
+        }
         seen
+    }
+
+    /// The bytes of the sums in the order in which this copy has them.
+    fn turn_sums(&self, image: &mut [u8]) {
+        if self.is(SumBytes) {
+            for sum in image[SUMS_AT..STATE_IMAGE].chunks_exact_mut(2) {
+                sum.swap(0, 1);
+            }
+        }
+    }
+
+    /// Whether a function of this copy takes the stored sums for those of what is left.
+    fn passes_sums(&self, op: Op, state: &State) -> bool {
+        let below = 0..usize::from(state.plan.p).min(8);
+        let mut pairs = below.map(|project| {
+            let stored = u64::from(state.sums[project]);
+            (stored, sum_of_what_is_left(state, project))
+        });
+        match self.0 {
+            SumOfAll => {
+                let (stored, left): (Vec<_>, Vec<_>) = pairs.unzip();
+                stored.iter().sum::<u64>() == left.iter().sum()
+            }
+            SumAtMost => pairs.all(|(stored, left)| stored <= left),
+            SumLowByte => pairs.all(|(stored, left)| stored % 256 == left % 256),
+            SumRepaired => op == Op::Release,
+            SixteenInShow => op != Op::Show,
+            _ => false,
+        }
+    }
+
+    /// A function on a state, by this copy's rules about the sums.
+    fn summed(
+        &self,
+        op: Op,
+        state: &State,
+        call: impl FnOnce(&State) -> (Answer, State),
+    ) -> (Answer, State) {
+        let mut seen = *state;
+        let p = usize::from(state.plan.p).min(8);
+        if self.is(SumBeyond) {
+            seen.sums[p..].fill(0);
+        }
+        // What is beyond p is looked at all the same.
+        if self.passes_sums(op, state) {
+            seen = seen.summed();
+            seen.sums[p..].copy_from_slice(&state.sums[p..]);
+        }
+        let (mut answer, mut next) = call(&seen);
+        match (self.0, answer.number) {
+            (SixteenFirst, 10) if a_stored_sum_differs(state) => answer.number = 16,
+            (SixteenPlace, 16) => {
+                let differs = |&project: &usize| {
+                    u64::from(state.sums[project]) != sum_of_what_is_left(state, project)
+                };
+                answer.place = (0..8).find(differs).unwrap_or(0) as u64;
+            }
+            _ => {}
+        }
+        // The stored sums are raised and lowered, not put right.
+        if !self.is(SumRepaired) {
+            for (place, sum) in next.sums.iter_mut().enumerate() {
+                let moved = sum.wrapping_sub(seen.sums[place]);
+                *sum = state.sums[place].wrapping_add(moved);
+            }
+        }
+        (answer, next)
     }
 
     /// A refusal by the record order, with this copy's order.
@@ -514,15 +788,26 @@ impl Faulty {
     }
 
     /// A function on a state image, changed in place when this copy's answer is good.
-    fn on_state(&self, image: &mut [u8], call: impl FnOnce(&State) -> (Answer, State)) -> u64 {
+    fn on_state(
+        &self,
+        op: Op,
+        image: &mut [u8],
+        call: impl FnOnce(&State) -> (Answer, State),
+    ) -> u64 {
         let seen = self.seen(image, STATE_IMAGE);
         match state_or_refuse(&seen) {
             Ok(state) => {
-                let (answer, next) = call(&state);
+                let (answer, mut next) = self.summed(op, &state, call);
                 let word = self.order(&state.plan, word(answer, 0));
-                if number(word) == 0 {
+                let repairs = self.is(SumRepairedBySixteen) && number(word) == 16;
+                if repairs {
+                    next = state.summed();
+                }
+                if number(word) == 0 || repairs {
+                    let mut after = state_image(&next);
+                    self.turn_sums(&mut after);
                     let count = image.len().min(STATE_IMAGE);
-                    image[..count].copy_from_slice(&state_image(&next)[..count]);
+                    image[..count].copy_from_slice(&after[..count]);
                 }
                 word
             }
@@ -799,6 +1084,108 @@ impl Faulty {
         (Answer::GOOD, plan)
     }
 
+    /// The plan of a rescue and its entries; no kind may remain.
+    fn mended(&self, bytes: &[u8]) -> (Plan, Vec<u8>) {
+        let mut plan = unpacked(bytes);
+        let (p, n) = (usize::from(plan.p), usize::from(plan.n));
+        let (m, frame) = (plan.m, u16::from(plan.frame));
+        let entry = |field: u8, place: usize, old: u16, new: u16| {
+            let mut values = [old.to_be_bytes(), new.to_be_bytes()];
+            if self.is(RescueLowByte) {
+                values.iter_mut().for_each(|value| value.reverse());
+            }
+            [vec![field, place as u8], values.concat()].concat()
+        };
+        // Each part of the list by itself; the order is made at the end.
+        let (mut spare, mut projects, mut kinds) = (Vec::new(), Vec::new(), Vec::new());
+        let header = u16::from(bytes[2] & 15);
+        if header > 0 && !self.is(RescueHeaderSpare) {
+            spare.extend(entry(1, 0, header, 0));
+        }
+        for place in 0..p {
+            let bits = u16::from(bytes[3 + 2 * place + 1] & 3);
+            let project = &mut plan.projects[place];
+            if bits > 0 {
+                match self.is(RescueSpareBeside) {
+                    true => projects.extend(entry(2, place, bits, 0)),
+                    false => spare.extend(entry(2, place, bits, 0)),
+                }
+            }
+            let old = *project;
+            project.ceiling = match old.ceiling {
+                q if q > m && self.is(RescueCeilingOne) => 1,
+                q => q.clamp(1, m),
+            };
+            let q = match self.0 {
+                RescueOldCeiling => old.ceiling,
+                _ => project.ceiling,
+            };
+            let most = (u16::from(q) * frame).max(1);
+            project.budget = match old.budget {
+                b if b > most && self.is(RescueBudgetOne) => 1,
+                b => b.clamp(1, most),
+            };
+            if project.ceiling != old.ceiling {
+                let (old, new) = (u16::from(old.ceiling), u16::from(project.ceiling));
+                projects.extend(entry(4, place, old, new));
+            }
+            if project.budget != old.budget {
+                projects.extend(entry(5, place, old.budget, project.budget));
+            }
+        }
+        let mut kept = 0;
+        for place in 0..n {
+            let bit = u16::from(bytes[3 + 2 * p + 5 * place + 4] & 1);
+            let old = plan.kinds[place];
+            let d = old.deadline.min(old.separation);
+            let judged = if self.is(RescueLateDeadline) {
+                old.deadline
+            } else {
+                d
+            };
+            let absent = match self.is(RescueProjectAtP) {
+                true => usize::from(old.project) > p,
+                false => usize::from(old.project) >= p,
+            };
+            let drops = absent || old.length == 0 || old.length > judged;
+            let told = if self.is(RescuePlaceInResult) {
+                kept
+            } else {
+                place
+            };
+            if bit > 0 && (!drops || self.is(RescueDroppedSpare)) {
+                spare.extend(entry(3, told, bit, 0));
+            }
+            let changed = d != old.deadline || self.is(RescueUnchanged) && d == old.separation;
+            if changed && (!drops || self.is(RescueDroppedDeadline)) {
+                kinds.extend(entry(6, told, old.deadline, d));
+            }
+            plan.kinds[place].deadline = d;
+            if drops {
+                let value = if self.is(RescueDroppedValue) {
+                    old.length
+                } else {
+                    0
+                };
+                kinds.extend(entry(7, told, value, 0));
+                plan.kinds[place] = Default::default();
+            } else {
+                if !self.is(RescueHole) {
+                    plan.kinds.swap(kept, place);
+                }
+                kept += 1;
+            }
+        }
+        if !self.is(RescueKindsCounted) || kept == 0 {
+            plan.n = kept as u8;
+        }
+        let list = match self.is(RescueKindsFirst) {
+            true => [spare, kinds, projects],
+            false => [spare, projects, kinds],
+        };
+        (plan, list.concat())
+    }
+
     fn start(&self, plan: &Plan) -> (Answer, State) {
         let (answer, _) = self.judge(plan);
         let mut state = State::default();
@@ -810,13 +1197,24 @@ impl Faulty {
 
     fn released(&self, state: &State, kind: u64, e: u64) -> (Answer, State) {
         let kind = if self.is(LowByte) { kind % 256 } else { kind };
-        let (answer, next) = second::release(state, kind, e);
+        let (mut answer, mut next) = second::release(state, kind, e);
+        if self.is(SixteenAfterTwelve) && answer.number == 16 && kind >= u64::from(state.plan.n) {
+            answer.number = 12;
+        }
         let (Some(place), Some(of_plan)) = (
             state.kinds.get(kind as usize),
             state.plan.kinds.get(kind as usize),
         ) else {
             return (answer, next);
         };
+        let project = usize::from(of_plan.project);
+        if let (true, Some(sum)) = (answer.is_good(), state.sums.get(project)) {
+            match self.0 {
+                SumNotRaised => next.sums = state.sums,
+                SumRaisedByLength => next.sums[project] = sum + of_plan.length,
+                _ => {}
+            }
+        }
         let gone = u64::from(state.clock.saturating_sub(place.at));
         let t = u64::from(of_plan.separation);
         match (self.0, answer.number) {
@@ -856,11 +1254,16 @@ impl Faulty {
     }
 
     fn shown(&self, state: &State, row: &mut [u8]) -> Answer {
-        let in_order = second::check(&state.plan).is_good() && in_form(state);
+        let in_order =
+            second::check(&state.plan).is_good() && in_form(state) && !a_stored_sum_differs(state);
         if self.is(ElevenFirst) && in_order && state.clock == LAST_CLOCK {
             return Answer::refused(11);
         }
-        let answer = second::show(state, &mut row.to_vec());
+        let mut answer = second::show(state, &mut row.to_vec());
+        let short = row.len() < usize::from(state.plan.m);
+        if self.is(SixteenAfterNine) && answer.number == 16 && short {
+            answer.number = 9;
+        }
         let at_the_end = self.is(ShowWithout11) && answer.number == 11;
         if !answer.is_good() && !at_the_end {
             return answer;
@@ -889,10 +1292,27 @@ impl Faulty {
             _ => self.chosen(state),
         };
         next.kinds = state.kinds;
+        next.sums = state.sums;
         for (_, i) in chosen {
-            if !(self.is(FirstFrame) && state.clock >= u32::from(state.plan.frame)) {
-                next.kinds[i].left = next.kinds[i].left.saturating_sub(1);
+            let stands = self.is(FirstFrame) && state.clock >= u32::from(state.plan.frame);
+            let left = &mut next.kinds[i].left;
+            if *left > 0 && !stands {
+                *left -= 1;
+                let sum = &mut next.sums[usize::from(state.plan.kinds[i].project)];
+                *sum = sum.saturating_sub(1);
             }
+        }
+        match self.0 {
+            SumNotLowered => next.sums = state.sums,
+            SumLoweredByHeld => {
+                let cells = cells(&state.plan);
+                let now = u64::from(state.clock) % u64::from(state.plan.frame);
+                for project in 0..usize::from(state.plan.p) {
+                    let held = cards_held(&cells, project, now).len() as u16;
+                    next.sums[project] = state.sums[project].saturating_sub(held);
+                }
+            }
+            _ => {}
         }
         (Answer::GOOD, next)
     }
@@ -1002,6 +1422,41 @@ impl Side for Faulty {
         self.after(word, plan, PLAN_IMAGE)
     }
 
+    fn rescue(&self, bytes: &[u8], plan: &mut [u8], list: &mut [u8]) -> u64 {
+        // Reading tells 1 and 2; whatever else it tells is mended.
+        let read = second::read(bytes).0;
+        if matches!(read.number, 1 | 2) {
+            return word(read, 0);
+        }
+        let (mended, entries) = self.mended(bytes);
+        let short = list.len() < entries.len() || plan.len() < PLAN_IMAGE;
+        let told = match () {
+            _ if short && self.is(RescueNineFirst) => 9,
+            _ if mended.n == 0 && !self.is(RescueNoTwenty) => 20,
+            _ if self.is(RescueSeven) && budgets_sum_above(&mended) => 7,
+            _ if short => 9,
+            _ => 0,
+        };
+        if told == 9 && self.is(RescueCutList) {
+            let count = list.len().min(entries.len()) / 6 * 6;
+            list[..count].copy_from_slice(&entries[..count]);
+        }
+        if plan.len() >= PLAN_IMAGE && (told == 0 || told == 9 && self.is(RescuePlanFirst)) {
+            plan[..PLAN_IMAGE].copy_from_slice(&plan_image(&mended));
+        }
+        if told == 0 {
+            list[..entries.len()].copy_from_slice(&entries);
+        }
+        let count = match (told, self.0) {
+            (0, RescueEntries) => entries.len() / 6,
+            (0, _) => entries.len(),
+            _ => 0,
+        };
+        let word = word(Answer::refused(told), count);
+        self.after(word, list, entries.len());
+        self.after(word, plan, PLAN_IMAGE)
+    }
+
     fn fresh(&self, plan: &[u8], state: &mut [u8]) -> u64 {
         let word = self.on_plan(plan, |plan| {
             if plan.len() < PLAN_IMAGE {
@@ -1020,19 +1475,21 @@ impl Side for Faulty {
     }
 
     fn release(&self, state: &mut [u8], kind: u64, e: u64) -> u64 {
-        self.on_state(state, |state| self.released(state, kind, e))
+        self.on_state(Op::Release, state, |state| self.released(state, kind, e))
     }
 
     fn show(&self, state: &[u8], row: &mut [u8]) -> u64 {
         let m = state.first().map_or(0, |&m| usize::from(m));
         // A showing keeps the state.
         let mut kept = state.to_vec();
-        let word = self.on_state(&mut kept, |state| (self.shown(state, row), *state));
+        let word = self.on_state(Op::Show, &mut kept, |state| {
+            (self.shown(state, row), *state)
+        });
         self.after(word, row, m)
     }
 
     fn advance(&self, state: &mut [u8]) -> u64 {
-        self.on_state(state, |state| self.advanced(state))
+        self.on_state(Op::Advance, state, |state| self.advanced(state))
     }
 }
 

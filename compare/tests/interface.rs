@@ -47,10 +47,14 @@ fn a_state_image_by_its_offsets() {
         at: 0x0506_0708,
         left: 0x090A,
     };
-    let mut image = [0; 256];
+    state.sums[0] = 0x0B0C;
+    state.sums[7] = 0x0D0E;
+    let mut image = [0; 272];
     image[..140].copy_from_slice(&plan_image(&Plan::a()));
     image[140..144].copy_from_slice(&[1, 2, 3, 4]);
     image[144 + 7 * 15..256].copy_from_slice(&[1, 5, 6, 7, 8, 9, 10]);
+    image[256..258].copy_from_slice(&[11, 12]);
+    image[270..].copy_from_slice(&[13, 14]);
     assert_eq!(state_image(&state), image);
     assert_eq!(state_of(&image), Some(state));
     image[144 + 7 * 15] = 2;
@@ -71,6 +75,7 @@ fn a_difference_is_found_made_small_and_printed_as_bytes() {
         fixed: false,
         generated: 20_000,
         one_in: 1,
+        flips: 0,
         seed: 7,
     };
     let side = Faulty(Fault::Ties);
@@ -93,13 +98,17 @@ fn a_difference_is_found_made_small_and_printed_as_bytes() {
 #[test]
 fn a_call_is_read_back_from_its_line() {
     let case = Case::release(vec![1, 0xAB], 3, u64::MAX);
-    assert_eq!(case.line(), "release 01ab - 3 18446744073709551615");
+    assert_eq!(case.line(), "release 01ab - - 3 18446744073709551615");
+    assert_eq!(Case::of_line(&case.line()), Some(case));
+    let case = Case::rescue(vec![1], vec![2], vec![3, 4]);
+    assert_eq!(case.line(), "rescue 01 02 0304 0 0");
     assert_eq!(Case::of_line(&case.line()), Some(case));
     for wrong in [
         "",
-        "show 0 - 0 0",
-        "show 0g - 0 0",
-        "none 00 - 0 0",
+        "show 0 - - 0 0",
+        "show 0g - - 0 0",
+        "none 00 - - 0 0",
+        "show 00 - 0 0",
         "show 00 -",
     ] {
         assert_eq!(Case::of_line(wrong), None, "{wrong}");

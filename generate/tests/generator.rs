@@ -1,8 +1,8 @@
 //! The generator: the same seed gives the same input, and what it reaches.
 
 use generate::{
-    fixed_lists, fixed_open_budgets, fixed_plan_records, fixed_state_records, fixed_streams,
-    limit_plans, Generator,
+    fixed_damage, fixed_lists, fixed_open_budgets, fixed_plan_records, fixed_state_records,
+    fixed_streams, fixed_sums, limit_plans, Generator,
 };
 use second::*;
 use std::collections::{BTreeMap, BTreeSet};
@@ -158,6 +158,34 @@ fn fixed_records_reach_each_number_at_each_place() {
 }
 
 #[test]
+fn fixed_sums_differ_by_each_bit_in_each_place() {
+    let states = fixed_sums();
+    let mut numbers: BTreeMap<u64, u64> = BTreeMap::new();
+    let mut bits = BTreeSet::new();
+    for state in &states {
+        let told = release(state, 16, 0).0.number;
+        assert_eq!(
+            show(state, &mut []).number,
+            if told == 12 { 9 } else { told }
+        );
+        *numbers.entry(told).or_default() += 1;
+        let right = state.summed().sums;
+        for place in (0..8).filter(|_| told == 16) {
+            bits.insert((place, state.sums[place] ^ right[place]));
+        }
+    }
+    println!("fixed sums {}, {numbers:?}", states.len());
+    for number in [6, 10, 12, 16] {
+        assert!(numbers.contains_key(&number), "{number}");
+    }
+    for place in 0..8 {
+        for bit in 0..16 {
+            assert!(bits.contains(&(place, 1 << bit)), "sum {place}, bit {bit}");
+        }
+    }
+}
+
+#[test]
 fn fixed_open_budgets_reach_each_number_at_each_place_and_each_boundary() {
     let open = fixed_open_budgets();
     let mut reached = BTreeSet::new();
@@ -218,6 +246,64 @@ fn fixed_lists_reach_each_number_at_each_place_and_each_boundary() {
     }
 }
 
+/// What damage leads to: the numbers, and each field at each place; with the most entries there were.
+fn reached_by(damaged: &[Vec<u8>]) -> (BTreeMap<u64, u64>, BTreeSet<(u8, u8)>, usize) {
+    let mut numbers = BTreeMap::new();
+    let (mut fields, mut most) = (BTreeSet::new(), 0);
+    for bytes in damaged {
+        let mut list = [0; 342];
+        let (answer, plan, count) = rescue(bytes, &mut list);
+        let number = match answer.number {
+            // 7 or not.
+            0 => check(&plan).number,
+            number => number,
+        };
+        *numbers.entry(number).or_default() += 1;
+        for entry in list[..count].chunks(6) {
+            fields.insert((entry[0], entry[1]));
+        }
+        most = most.max(count / 6);
+    }
+    (numbers, fields, most)
+}
+
+#[test]
+fn fixed_damage_reaches_each_number_and_each_field_at_each_place() {
+    let damaged = fixed_damage();
+    let (numbers, fields, most) = reached_by(&damaged);
+    println!(
+        "fixed damage {}, {numbers:?}, at most {most}",
+        damaged.len()
+    );
+    for number in [0, 1, 2, 7, 20] {
+        assert!(numbers.contains_key(&number), "{number}");
+    }
+    for (field, places) in [(1, 1), (2, 8), (3, 16), (4, 8), (5, 8), (6, 16), (7, 16)] {
+        for place in 0..places {
+            assert!(fields.contains(&(field, place)), "{field} at {place}");
+        }
+    }
+    assert_eq!(most, 57);
+}
+
+#[test]
+fn random_damage_reaches_each_number_and_each_field() {
+    let mut generator = Generator::new(35);
+    let mut damaged = Vec::new();
+    for _ in 0..RUNS / 4 {
+        let plan = generator.good_plan();
+        damaged.extend((0..8).map(|_| generator.damaged(&plan)));
+    }
+    let (numbers, fields, most) = reached_by(&damaged);
+    println!("damage {}, {numbers:?}, at most {most}", damaged.len());
+    for number in [0, 1, 2, 7, 20] {
+        assert!(numbers.contains_key(&number), "{number}");
+    }
+    for field in 1..=7 {
+        assert!(fields.iter().any(|one| one.0 == field), "{field}");
+    }
+}
+
 #[test]
 fn random_lists_reach_each_number() {
     let mut generator = Generator::new(34);
@@ -273,10 +359,10 @@ fn random_records_reach_each_number() {
         *slices.entry(slice(&state, &mut row).0.number).or_default() += 1;
     }
     println!("state records {RUNS}, releases {releases:?}, slices {slices:?}");
-    for number in [0, 2, 3, 4, 6, 10, 12, 13, 14, 15] {
+    for number in [0, 2, 3, 4, 6, 10, 12, 13, 14, 15, 16] {
         assert!(releases.contains_key(&number), "{number}");
     }
-    for number in [0, 2, 3, 4, 6, 9, 10, 11] {
+    for number in [0, 2, 3, 4, 6, 9, 10, 11, 16] {
         assert!(slices.contains_key(&number), "{number}");
     }
 }

@@ -5,6 +5,7 @@ mod build;
 mod check;
 mod decode;
 mod encode;
+mod rescue;
 mod run;
 mod table;
 
@@ -28,6 +29,7 @@ pub fn answer(command: &Command, given: &Given) -> Outcome<Ending> {
         "run" => run::answer(given),
         "build" => build::answer(given),
         "encode" => encode::answer(given),
+        "rescue" => rescue::answer(given),
         _ => decode::answer(given),
     };
     if let Err(Trouble::Faults(source, faults)) = &outcome {

@@ -17,6 +17,12 @@ pub struct Source {
     pub bytes: Vec<u8>,
 }
 
+/// A file's name as an error tells it: in one line, and nothing that would disturb a terminal.
+pub fn named(file: &OsStr) -> String {
+    let name = Path::new(file).display().to_string();
+    name.replace(char::is_control, "?")
+}
+
 /// Whether this names the standard input.
 pub fn is_standard(file: &OsStr) -> bool {
     file == "-"
@@ -26,7 +32,7 @@ pub fn is_standard(file: &OsStr) -> bool {
 pub fn read(file: &OsStr) -> Outcome<Source> {
     let name = match is_standard(file) {
         true => "standard input".to_string(),
-        false => Path::new(file).display().to_string(),
+        false => named(file),
     };
     let mut bytes = Vec::new();
     let read = match is_standard(file) {

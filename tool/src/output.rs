@@ -1,9 +1,9 @@
 //! Where things are written. What cannot be written is an error; a reader that has gone is not.
 
 use crate::ending::{Outcome, Trouble};
+use crate::input::named;
 use std::ffi::OsStr;
 use std::io::{self, Write};
-use std::path::Path;
 
 /// What the standard output is called in an error.
 const STANDARD: &str = "standard output";
@@ -21,8 +21,7 @@ pub fn done(written: io::Result<()>) -> Outcome<()> {
 
 /// Writes a file.
 pub fn save(file: &OsStr, bytes: &[u8]) -> Outcome<()> {
-    std::fs::write(file, bytes)
-        .map_err(|error| Trouble::Output(Path::new(file).display().to_string(), error))
+    std::fs::write(file, bytes).map_err(|error| Trouble::Output(named(file), error))
 }
 
 /// Says something beside the output.

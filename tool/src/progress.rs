@@ -28,7 +28,7 @@ impl Progress {
     /// So many are done.
     pub fn tell(&mut self, done: u64) {
         // The clock is not asked at every slice.
-        if !self.on || done % 64 != 0 || Instant::now() < self.next {
+        if !self.on || !done.is_multiple_of(64) || Instant::now() < self.next {
             return;
         }
         self.next = Instant::now() + PAUSE;

@@ -211,7 +211,10 @@ impl Record {
                 project.in_frame += 1;
             }
         }
-        if self.slices % u64::from(self.plan.frame.max(1)) == 0 {
+        if self
+            .slices
+            .is_multiple_of(u64::from(self.plan.frame.max(1)))
+        {
             for project in &mut self.projects {
                 let served = std::mem::take(&mut project.in_frame);
                 project.most = Some(project.most.map_or(served, |most| most.max(served)));

@@ -118,7 +118,7 @@ impl Iterator for Random {
             self.kind += 1;
             let kind = self.plan.kind.get(place).copied().unwrap_or_default();
             let ready = self.next.get(place).is_some_and(|next| *next <= self.slice);
-            if !ready || self.number() % 2 == 0 {
+            if !ready || self.number().is_multiple_of(2) {
                 continue;
             }
             if let Some(next) = self.next.get_mut(place) {

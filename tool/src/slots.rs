@@ -22,7 +22,7 @@ pub fn ruler(label: &str, width: usize, first: u64, slices: u64) -> String {
     while power == 1 || power < last {
         let digit = |slice: u64| match power {
             1 => char::from_digit((slice % 10) as u32, 10),
-            _ if (slice % 10 != 0 && slice != first) || slice < power => Some(' '),
+            _ if (!slice.is_multiple_of(10) && slice != first) || slice < power => Some(' '),
             _ => char::from_digit((slice / power % 10) as u32, 10),
         };
         let digits: String = (first..last).filter_map(digit).collect();

@@ -50,6 +50,12 @@ impl Subject {
     /// The plan of these bytes, or what is wrong with it.
     pub fn of(source: Source) -> Outcome<Subject> {
         let Source { name, bytes } = source;
+        // The marks of UTF-16, as which some editors save; no plan bytes begin so.
+        if bytes.starts_with(b"\xFF\xFE") || bytes.starts_with(b"\xFE\xFF") {
+            return Err(Trouble::Input(format!(
+                "{name}: this is text in UTF-16; save it as UTF-8"
+            )));
+        }
         match is_text(&bytes) {
             true => Subject::of_text(name, Text::of(&bytes)),
             false => match Plan::read(&bytes) {

@@ -430,6 +430,30 @@ fn a_random_run_is_the_same_for_the_same_seed() {
 }
 
 #[test]
+fn a_long_run_shows_how_far_it_is_on_a_terminal() {
+    let folder = Folder::new("progress");
+    let plan = folder.file("plan.txt", PLAN_A);
+    // How long a run has to be depends on the machine. `script` of util-linux makes the terminal.
+    for slices in [20_000, 200_000, 2_000_000] {
+        let call = format!(
+            "{} run {plan} --random 1 --slices {slices} > /dev/null",
+            env!("CARGO_BIN_EXE_parchbeetle")
+        );
+        let mut terminal = std::process::Command::new("script");
+        terminal.args(["-qec", &call, "/dev/null"]);
+        let Ok(ran) = terminal.stdin(std::process::Stdio::null()).output() else {
+            eprintln!("not run: there is no `script` to make a terminal with");
+            return;
+        };
+        assert!(ran.status.success());
+        if String::from_utf8_lossy(&ran.stdout).contains(&format!(" of {slices} slices, ")) {
+            return;
+        }
+    }
+    panic!("nothing was shown");
+}
+
+#[test]
 fn run_refuses_and_says_why() {
     let folder = Folder::new("refused");
     let long = folder.file("long.txt", PLAN_A.replacen("length 6", "length 7", 1));

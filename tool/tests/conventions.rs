@@ -265,6 +265,23 @@ fn the_man_page_and_the_completion_name_every_option() {
 }
 
 #[test]
+fn the_man_page_is_set_without_a_warning() {
+    let page = concat!(env!("CARGO_MANIFEST_DIR"), "/man/parchbeetle.1");
+    let Ok(ran) = std::process::Command::new("groff")
+        .args(["-man", "-ww", "-z", page])
+        .output()
+    else {
+        eprintln!("not run: there is no groff");
+        return;
+    };
+    assert!(
+        ran.status.success() && ran.stderr.is_empty(),
+        "{}",
+        String::from_utf8_lossy(&ran.stderr)
+    );
+}
+
+#[test]
 fn bash_completes() {
     let completes = |words: &[&str]| {
         let script = format!(

@@ -87,6 +87,18 @@ fn a_line_that_cannot_be_read_is_told_by_its_number() {
     assert!(refused(2, &text).starts_with(
         "plan:6: `D` is not known here; a kind has `project`, `separation`, `deadline`, `length`"
     ));
+    let wide: Vec<u8> = format!("\u{FEFF}{PLAN_A}")
+        .encode_utf16()
+        .flat_map(u16::to_le_bytes)
+        .collect();
+    let ran = parchbeetle(&["encode"], &wide);
+    assert_eq!(
+        (ran.status, ran.said.as_str()),
+        (
+            Some(2),
+            "parchbeetle: standard input: this is text in UTF-16; save it as UTF-8\n"
+        )
+    );
     let mut bytes = PLAN_A.as_bytes().to_vec();
     bytes.splice(8..8, *b"# \xFF\n");
     let ran = parchbeetle(&["encode"], &bytes);

@@ -1,6 +1,7 @@
 //! What can be asked for: the commands with their arguments and options, and the words of `--help`.
 
-use crate::ending::{Outcome, Trouble};
+use crate::commands;
+use crate::ending::{Ending, Outcome, Trouble};
 use std::ffi::{OsStr, OsString};
 use std::fmt::Write;
 
@@ -28,6 +29,8 @@ pub struct Command {
     takes: (usize, usize),
     /// Its own options.
     pub choices: &'static [Choice],
+    /// What answers it.
+    pub answer: fn(&Given) -> Outcome<Ending>,
 }
 
 const JSON: Choice = Choice {
@@ -70,6 +73,7 @@ pub const COMMANDS: [Command; COUNT] = [
             JSON,
             COLOUR,
         ],
+        answer: commands::check,
     },
     Command {
         name: "budget",
@@ -85,6 +89,7 @@ pub const COMMANDS: [Command; COUNT] = [
             },
             JSON,
         ],
+        answer: commands::budget,
     },
     Command {
         name: "table",
@@ -101,6 +106,7 @@ pub const COMMANDS: [Command; COUNT] = [
             JSON,
             COLOUR,
         ],
+        answer: commands::table,
     },
     Command {
         name: "run",
@@ -140,6 +146,7 @@ pub const COMMANDS: [Command; COUNT] = [
             JSON,
             COLOUR,
         ],
+        answer: commands::run,
     },
     Command {
         name: "build",
@@ -155,6 +162,7 @@ pub const COMMANDS: [Command; COUNT] = [
             },
             JSON,
         ],
+        answer: commands::build,
     },
     Command {
         name: "rescue",
@@ -172,6 +180,7 @@ pub const COMMANDS: [Command; COUNT] = [
             },
             JSON,
         ],
+        answer: commands::rescue,
     },
     Command {
         name: "encode",
@@ -188,6 +197,7 @@ pub const COMMANDS: [Command; COUNT] = [
             },
             JSON,
         ],
+        answer: commands::encode,
     },
     Command {
         name: "decode",
@@ -203,6 +213,7 @@ pub const COMMANDS: [Command; COUNT] = [
             },
             JSON,
         ],
+        answer: commands::decode,
     },
 ];
 

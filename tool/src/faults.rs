@@ -450,3 +450,45 @@ impl<'a> Judge<'a> {
         }
     }
 }
+
+#[cfg(test)]
+mod tests {
+    use super::*;
+
+    /// What the words say is out of range the library refuses, and the number beside it it takes.
+    #[test]
+    fn the_limits_in_words_are_the_librarys() {
+        let text = |cards: u64, frame: u64, projects: usize, kinds: usize, separation: u64| {
+            let mut text = format!("cards {cards}\nframe {frame}\n");
+            text += &"project ceiling 1 budget 1\n".repeat(projects);
+            text += &format!("kind project 0 separation {separation} deadline 1 length 1\n")
+                .repeat(kinds);
+            of(&Text::of(text.as_bytes()))
+                .into_iter()
+                .map(|fault| fault.words)
+                .collect::<Vec<_>>()
+        };
+        assert!(text(8, 64, 8, 16, 4095).is_empty());
+        assert!(text(1, 1, 1, 1, 1).is_empty());
+        assert_eq!(text(9, 64, 8, 16, 4095), ["cards 9 is not 1 to 8"]);
+        assert_eq!(text(8, 65, 8, 16, 4095), ["frame 65 is not 1 to 64"]);
+        assert_eq!(
+            text(8, 64, 9, 16, 4095),
+            ["there are 9 projects, not 1 to 8"]
+        );
+        assert_eq!(
+            text(8, 64, 8, 17, 4095),
+            ["there are 17 kinds, not 1 to 16"]
+        );
+        assert_eq!(
+            text(8, 64, 8, 1, 4096),
+            ["kind 0: separation 4096 is not 1 to 4095"]
+        );
+        assert_eq!(text(0, 1, 1, 1, 1), ["cards 0 is not 1 to 8"]);
+        assert_eq!(text(1, 0, 1, 1, 1), ["frame 0 is not 1 to 64"]);
+        assert_eq!(
+            text(1, 1, 1, 1, 0),
+            ["kind 0: separation 0 is not 1 to 4095"]
+        );
+    }
+}

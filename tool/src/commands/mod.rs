@@ -9,8 +9,14 @@ mod rescue;
 mod run;
 mod table;
 
-pub use check::{rows as verdict_rows, LEGEND};
-pub use run::{kind_rows, project_rows};
+pub use budget::answer as budget;
+pub use build::answer as build;
+pub use check::{answer as check, rows as verdict_rows, LEGEND};
+pub use decode::answer as decode;
+pub use encode::answer as encode;
+pub use rescue::answer as rescue;
+pub use run::{answer as run, kind_rows, project_rows};
+pub use table::answer as table;
 
 use crate::arguments::{Command, Given};
 use crate::colour::Colours;
@@ -22,16 +28,7 @@ use crate::subject::Subject;
 
 /// Answers a command. With `--json` faults of a plan are told there too.
 pub fn answer(command: &Command, given: &Given) -> Outcome<Ending> {
-    let outcome = match command.name {
-        "check" => check::answer(given),
-        "budget" => budget::answer(given),
-        "table" => table::answer(given),
-        "run" => run::answer(given),
-        "build" => build::answer(given),
-        "encode" => encode::answer(given),
-        "rescue" => rescue::answer(given),
-        _ => decode::answer(given),
-    };
+    let outcome = (command.answer)(given);
     if let Err(Trouble::Faults(source, faults)) = &outcome {
         if given.has("--json") {
             output::print(refused(command.name, source, faults).document().as_bytes())?;
@@ -72,7 +69,7 @@ fn colours(given: &Given) -> Outcome<Colours> {
     ))
 }
 
-/// What is said beside the output: a budget that was found, bytes that follow, a plan that is not admitted.
+/// What is said beside the output: a budget that was found, bytes that follow.
 fn notes(subject: &Subject) {
     if let Some(found) = &subject.found {
         output::note(found);

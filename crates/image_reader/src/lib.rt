@@ -7,8 +7,8 @@ ghost use Rattle.codec.specs.Bytes.{numberTo};
 ghost use Rattle.answer.specs.declared.Answer.the-variants.{No};
 ghost use Rattle.answer.specs.Answer.{bare, _andThen_};
 ghost use Rattle.plan.specs.Order.{checked};
-ghost use Rattle.images.specs.Image.{planSize, stateSize, clockPlace, unitWidths, field, projectFrom, kindFrom, clockFrom, unitFrom};
-ghost use Rattle.images.specs.Image.{projectsFrom, kindsFrom, unitsFrom, planFrom, stateFrom, releasedTold};
+ghost use Rattle.images.specs.Image.{planSize, stateSize, clockPlace, unitWidths, field, projectFrom, kindFrom, clockFrom, unitFrom, sumFrom};
+ghost use Rattle.images.specs.Image.{projectsFrom, kindsFrom, unitsFrom, sumsFrom, planFrom, stateFrom, releasedTold};
 ghost use Rattle.images.specs.Lent.{planFound, stateFound};
 use answer::Answer;
 use images::BITS_8;
@@ -26,6 +26,8 @@ use images::PROJECT;
 use images::PROJECTS_AT;
 use images::PlanFound;
 use images::STATE;
+use images::SUM;
+use images::SUMS_AT;
 use images::StateFound;
 use images::UNIT;
 use images::UNITS_AT;
@@ -140,6 +142,24 @@ fn units_from(s: &[u8]) -> [Unit; Plan::KINDS]
     unit
 }
 
+fn sum_from(s: &[u8], at: usize) -> u16
+    requires { ⌜ at + 2 ≤ length (now s) ⌝ }
+    ensures { λ r. ⌜ r ≡ sumFrom (drop at (now (s .entry))) ⌝ }
+{
+    (fields(s, at, SUM) % BITS_16) as u16
+}
+
+fn sums_from(s: &[u8]) -> [u16; Plan::PROJECTS]
+    requires { ⌜ stateSize ≤ length (now s) ⌝ }
+    ensures { λ r. ⌜ r ≡ sumsFrom 8 (now (s .entry)) ⌝ }
+{
+    let mut sum = [0u16; Plan::PROJECTS];
+    for j in 0..Plan::PROJECTS {
+        sum[j] = sum_from(s, SUMS_AT + SUM * j);
+    }
+    sum
+}
+
 fn state_from(s: &[u8]) -> State
     requires { ⌜ stateSize ≤ length (now s) ⌝ }
     ensures { λ r. ⌜ r ≡ stateFrom (now (s .entry)) ⌝ }
@@ -147,7 +167,13 @@ fn state_from(s: &[u8]) -> State
     let plan = plan_from(s);
     let clock = clock_from(s);
     let unit = units_from(s);
-    State { plan, clock, unit }
+    let sum = sums_from(s);
+    State {
+        plan,
+        clock,
+        unit,
+        sum,
+    }
 }
 
 // A unit's released byte.

@@ -9,9 +9,9 @@ ghost use lib.Seq.{sets};
 ghost use Rattle.codec.specs.Bytes.{bytesOf};
 ghost use Rattle.codec.specs.Place.{sizeOf, placed};
 ghost use Rattle.codec.specs.Places.{putTo};
-ghost use Rattle.images.specs.Image.{countWidths, projectWidths, kindWidths, clockWidths, unitWidths, planSize, stateSize, projectPlace};
-ghost use Rattle.images.specs.Image.{kindPlace, clockPlace, unitPlace, countFields, projectFields, kindFields, unitFields, projectBytesAt};
-ghost use Rattle.images.specs.Image.{kindBytesAt, unitBytesAt, planImage, stateImage};
+ghost use Rattle.images.specs.Image.{countWidths, projectWidths, kindWidths, clockWidths, unitWidths, sumWidths, planSize, stateSize};
+ghost use Rattle.images.specs.Image.{projectPlace, kindPlace, clockPlace, unitPlace, sumPlace, countFields, projectFields, kindFields, unitFields};
+ghost use Rattle.images.specs.Image.{projectBytesAt, kindBytesAt, unitBytesAt, sumBytesAt, planImage, stateImage};
 ghost use Rattle.images.specs.Lent.{StoresPlan, StoresState};
 use answer::Answer;
 use images::BITS_8;
@@ -28,6 +28,8 @@ use images::PLAN;
 use images::PROJECT;
 use images::PROJECTS_AT;
 use images::STATE;
+use images::SUM;
+use images::SUMS_AT;
 use images::UNIT;
 use images::UNITS_AT;
 use plan::Kind;
@@ -117,6 +119,13 @@ fn put_clock(clock: u32, out: &mut [u8])
     put_fields(widest(clock), CLOCK, out, CLOCK_AT);
 }
 
+fn put_sum(sum: u16, out: &mut [u8], at: usize)
+    requires { ⌜ at + 2 ≤ length (now out) ⌝ }
+    ensures { λ _. ⌜ now (out .exit) ≡ sets (now (out .entry)) at (placed sumWidths (sum ∷ [])) ⌝ }
+{
+    put_fields(wider(sum), SUM, out, at);
+}
+
 fn put_projects(plan: Plan, out: &mut [u8])
     requires { ⌜ planSize ≤ length (now out) ⌝ }
     ensures { λ _. ⌜ now (out .exit) ≡ putTo 8 (projectBytesAt plan) (projectPlace 0) (sizeOf projectWidths) (now (out .entry)) ⌝ }
@@ -147,6 +156,16 @@ fn put_units(state: State, out: &mut [u8])
     }
 }
 
+fn put_sums(state: State, out: &mut [u8])
+    requires { ⌜ stateSize ≤ length (now out) ⌝ }
+    ensures { λ _. ⌜ now (out .exit) ≡ putTo 8 (sumBytesAt state) (sumPlace 0) (sizeOf sumWidths) (now (out .entry)) ⌝ }
+{
+    for j in 0..Plan::PROJECTS {
+        let sum = state.sum[j];
+        put_sum(sum, out, SUMS_AT + SUM * j);
+    }
+}
+
 fn store_plan(plan: Plan, out: &mut [u8])
     requires { ⌜ planSize ≤ length (now out) ⌝ }
     ensures { λ _. ⌜ now (out .exit) ≡ planImage plan ++ drop planSize (now (out .entry)) ⌝ }
@@ -163,6 +182,7 @@ fn store_state(state: State, out: &mut [u8])
     store_plan(state.plan, out);
     put_clock(state.clock, out);
     put_units(state, out);
+    put_sums(state, out);
 }
 
 // Stores a plan's image at the front of a buffer: 9.

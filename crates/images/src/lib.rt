@@ -17,7 +17,7 @@ pub struct StateFound {
     pub state: State,
 }
 
-// The bytes of a place: a plan's counts, a project, a unit kind, the clock, a unit.
+// The bytes of a place: a plan's counts, a project, a unit kind, the clock, a unit, a sum.
 pub const COUNTS: usize = 4;
 
 pub const PROJECT: usize = 3;
@@ -27,6 +27,8 @@ pub const KIND: usize = 7;
 pub const CLOCK: usize = 4;
 
 pub const UNIT: usize = 7;
+
+pub const SUM: usize = 2;
 
 // Where the rows start, and the bytes of each image.
 pub const PROJECTS_AT: usize = COUNTS;
@@ -39,7 +41,9 @@ pub const CLOCK_AT: usize = PLAN;
 
 pub const UNITS_AT: usize = CLOCK_AT + CLOCK;
 
-pub const STATE: usize = UNITS_AT + 16 * UNIT;
+pub const SUMS_AT: usize = UNITS_AT + 16 * UNIT;
+
+pub const STATE: usize = SUMS_AT + 8 * SUM;
 
 // Fields of 8, 16, 32 and 48 bits.
 pub const BITS_8: u64 = 256;

@@ -1,9 +1,10 @@
--- Document 01, "In form", and the refusal 10: when a state is in form, and what is said where it is not.
+-- Document 01, "In form", and the refusal 10: when a state is in form, and what is said where it is not; document 02 (vii), the refusal 16.
 -- Assumes nothing.
 use Prim.Native.Nat.{ℕ, _≤_, _<_}
 use mathlib.Core.Path.{_≡_}
-use mathlib.Core.Bool.{Bool, not, _&&_}
-use lib.Dec.{leb}
+use mathlib.Core.Bool.{Bool, true, not, _&&_, _||_}
+use mathlib.Core.List.{List}
+use lib.Dec.{leb, eqb}
 use Rattle.laws.specs.All.{allTo}
 use Rattle.answer.specs.declared.Answer.{Answer}
 use Rattle.answer.specs.Answer.{bare, refuse, _andThen_}
@@ -11,20 +12,37 @@ use Rattle.plan.specs.Order.{InOrder, checked}
 use Rattle.unit.specs.Unit.{noUnit}
 use Rattle.unit.specs.Form.{UnitInForm, fitsPlace}
 use Rattle.rack.specs.declared.State.{State}
-use Rattle.rack.specs.State.{lastClock, unitOf, kindAt, InUse, used}
+use Rattle.rack.specs.State.{lastClock, unitOf, kindAt, InUse, used, ProjectInUse, projectUsed, sumAt}
+use Rattle.rack.specs.Sums.{sumsRight, SumsRight, leftRow}
 pub mod Properties
 
 -- place i
 abbrev pub placeInForm : State → ℕ → Bool
 placeInForm s i = fitsPlace (used s i) (s .clock) (kindAt s i .length) (unitOf s i)
 
+-- a stored sum at its place: "A sum beyond p that is not zero is 10"
+unfoldable pub sumFits : Bool → ℕ → Bool
+sumFits used sum = used || eqb sum 0
+
+-- place j
+abbrev pub sumInForm : State → ℕ → Bool
+sumInForm s j = sumFits (projectUsed s j) (sumAt s j)
+
+-- every place of a sum
+unfoldable pub sumsInForm : State → Bool
+sumsInForm s = allTo 8 (sumInForm s)
+
 -- "the clock within range" and every place in form
 unfoldable pub inForm : State → Bool
-inForm s = leb (s .clock) lastClock && allTo 16 (placeInForm s)
+inForm s = leb (s .clock) lastClock && (allTo 16 (placeInForm s) && sumsInForm s)
 
--- "the record order, 10"
+-- "16, directly after 10, in every call that takes a state, exactly when a stored sum differs"
+unfoldable pub sumsTold : State → Answer
+sumsTold s = refuse (not (sumsRight s)) (bare 16)
+
+-- "the record order, 10", and "16, directly after 10"
 unfoldable pub ready : State → Answer
-ready s = checked (s .plan) andThen refuse (not (inForm s)) (bare 10)
+ready s = checked (s .plan) andThen (refuse (not (inForm s)) (bare 10) andThen sumsTold s)
 
 -- ---- what a good answer says, place by place
 
@@ -33,8 +51,17 @@ pub record InForm (s : State) : Type 0 where
   pub clock-most : s .clock ≤ lastClock
   pub unit-at : (i : ℕ) → i < 16 → InUse s i → UnitInForm (s .clock) (kindAt s i .length) (unitOf s i)
   pub unused : (i : ℕ) → i < 16 → (InUse s i → ⊥) → unitOf s i ≡ noUnit
+  pub sums-unused : (j : ℕ) → j < 8 → (ProjectInUse s j → ⊥) → sumAt s j ≡ 0
 
--- "the record order, 10": a good answer says both, and nothing else is refused
+-- "the record order, 10", 16: a good answer says all three, and nothing else is refused
 pub record Ready (s : State) : Type 0 where
   pub order : InOrder (s .plan)
   pub form : InForm s
+  pub sums : SumsRight s
+
+-- ---- what one pass over the kinds finds
+
+-- whether the state is in form, and what is left of each project where it is
+pub record Looked (s : State) (in-form : Bool) (left : List ℕ) : Type 0 where
+  pub told : in-form ≡ inForm s
+  pub row : inForm s ≡ true → left ≡ leftRow s

@@ -1,6 +1,7 @@
--- The dispatcher: document 01, "Running", and the refusals 8 to 15. Seat says how a row is found.
+-- The dispatcher: document 01, "Running", and the refusals 8 to 16. Seat says how a row is found.
 -- Assumes nothing.
 pub mod State
+pub mod Sums
 pub mod Form
 pub mod View
 pub mod Rank

@@ -17,7 +17,7 @@ pub mod Properties
 unfoldable pub roomFor : State → ℕ → Answer
 roomFor s room = refuse (ltb room (s .plan .cards)) (bare 9)
 
--- "showing keeps the slice order with 9 and 11": the record order, 10, 9, 11
+-- "showing keeps the slice order with 9 and 11": the record order, 10, 16, 9, 11
 unfoldable pub showAnswer : State → ℕ → Answer
 showAnswer s room = ready s andThen (roomFor s room andThen timeLeft s)
 
@@ -31,7 +31,7 @@ Shows s bytes answer after = Leaves (showAnswer s (length bytes)) (bufferShown s
 
 -- ---- what a good answer says
 
--- none of the record order, 10, 9 and 11: what advancing needs, and the room of a row
+-- none of the record order, 10, 16, 9 and 11: what advancing needs, and the room of a row
 pub record Showable (s : State) (room : ℕ) : Type 0 where
   pub advance : Advanceable s
   pub enough : s .plan .cards ≤ room

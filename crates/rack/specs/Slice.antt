@@ -16,7 +16,7 @@ use Rattle.rack.specs.Advance.{advanced, timeLeft}
 use Rattle.rack.specs.Show.{roomFor}
 pub mod Properties
 
--- "Slice: the record order, 10, 9, 11"
+-- "Slice: the record order, 10, 9, 11", with "16, directly after 10"
 unfoldable pub sliceAnswer : State → ℕ → Answer
 sliceAnswer s room = ready s andThen (roomFor s room andThen timeLeft s)
 

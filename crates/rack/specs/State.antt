@@ -1,9 +1,10 @@
 -- Document 01, "Running": the state and its places, and what a call that may be refused hands back.
 -- Assumes nothing.
 use Prim.Native.Nat.{ℕ, _<_}
+use mathlib.Core.Path.{_≡_}
 use mathlib.Core.Bool.{Bool}
 use lib.Dec.{ltb}
-use lib.ListN.{getD, replicate}
+use lib.ListN.{length, getD, replicate}
 use Rattle.plan.specs.declared.Plan.{Plan}
 use Rattle.plan.specs.declared.Kind.{Kind}
 use Rattle.answer.specs.declared.Answer.{Answer}
@@ -20,9 +21,9 @@ pub mod Properties
 abbrev pub lastClock : ℕ
 lastClock = 1000000000
 
--- the plan at clock 0, with no kind ever released
+-- the plan at clock 0, with no kind ever released and every sum "set by a fresh start"
 abbrev pub freshOf : Plan → State
-freshOf p = record { plan = p; clock = 0; unit = replicate 16 noUnit }
+freshOf p = record { plan = p; clock = 0; unit = replicate 16 noUnit; sum = replicate 8 0 }
 
 -- "an all-zero state"
 abbrev pub noState : State
@@ -31,6 +32,10 @@ noState = freshOf noPlan
 -- "for each kind: whether ever released, the clock at its last accepted release, and slices left"
 abbrev pub unitOf : State → ℕ → Unit
 unitOf s i = getD (s .unit) i noUnit
+
+-- document 02 (vii), "Keep each sum in the state": the stored sum of project j
+abbrev pub sumAt : State → ℕ → ℕ
+sumAt s j = getD (s .sum) j 0
 
 -- kind i of the state's plan
 abbrev pub kindAt : State → ℕ → Kind
@@ -57,6 +62,15 @@ projectPlaces s = s .plan .projects
 -- place j is a project's: "places beyond p .. hold zeros"
 abbrev pub ProjectInUse : State → ℕ → Type 0
 ProjectInUse s j = j < s .plan .projects
+
+-- the same, as a test
+abbrev pub projectUsed : State → ℕ → Bool
+projectUsed s j = ltb j (s .plan .projects)
+
+-- the places that a state of the language's type has
+pub record Places (s : State) : Type 0 where
+  pub sixteen : length (s .unit) ≡ 16
+  pub eight : length (s .sum) ≡ 8
 
 -- ---- what a call hands back
 

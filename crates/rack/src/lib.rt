@@ -1,8 +1,8 @@
 // The dispatcher: a state that is started on a plan, takes releases, and runs slice by slice.
 //
-// Document 01, "Running", and the refusals 8 to 15 of "Numbers given back when we say no". A state
-// goes in by value and the next one is handed back. Every record is answered, whatever its fields
-// hold.
+// Document 01, "Running", and the refusals 8 to 15 of "Numbers given back when we say no"; document
+// 02 (vii), the row of sums and the refusal 16. A state goes in by value and the next one is handed
+// back. Every record is answered, whatever its fields hold.
 mod advance;
 mod form;
 mod release;
@@ -10,25 +10,36 @@ mod row;
 mod show;
 
 ghost use mathlib.Core.Path.{_≡_};
+ghost use Prim.Native.Nat.{_<_};
 ghost use Rattle.rack.specs.State.{freshOf, noState, kindPlaces, used};
 ghost use Rattle.rack.specs.Start.{startOf};
 use answer::Answer;
+use plan::Kind;
 use plan::Plan;
 use unit::Unit;
 use verdict::judge;
 
-// The plan that runs, the clock, and a place for each kind's unit. Places beyond the plan's kinds
-// hold zeros.
+// The plan that runs, the clock, a place for each kind's unit, and a place for each project's sum of
+// slices left. Places beyond the plan's kinds and projects hold zeros.
 pub struct State {
     pub plan: Plan,
     pub clock: u32,
     pub unit: [Unit; Plan::KINDS],
+    pub sum: [u16; Plan::PROJECTS],
 }
 
 // What a call answers, and the state that it hands back.
 pub struct Next {
     pub answer: Answer,
     pub state: State,
+}
+
+// The place of a kind's project.
+pub(crate) fn project_place(kind: Kind) -> usize
+    requires { ⌜ kind .project < 8 ⌝ }
+    ensures { λ r. ⌜ (r ≡ kind .project) × (r < 8) ⌝ }
+{
+    kind.project as usize
 }
 
 impl State {
@@ -49,7 +60,7 @@ impl State {
         place < self.plan.kinds as usize
     }
 
-    // The plan at clock 0, with no kind ever released.
+    // The plan at clock 0, with no kind ever released and nothing left.
     pub(crate) fn fresh(plan: Plan) -> Self
         ensures { λ r. ⌜ r ≡ freshOf plan ⌝ }
     {
@@ -57,6 +68,7 @@ impl State {
             plan,
             clock: 0,
             unit: [Unit::empty(); Plan::KINDS],
+            sum: [0; Plan::PROJECTS],
         }
     }
 

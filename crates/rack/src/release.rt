@@ -3,11 +3,12 @@ ghost use mathlib.Core.Path.{_≡_};
 ghost use Rattle.rack.specs.Release.{releaseAnswer, releaseOf};
 use crate::Next;
 use crate::State;
+use crate::project_place;
 use answer::Answer;
 use unit::Unit;
 
 impl State {
-    // The record order, 10, 12, 13, 14, 15.
+    // The record order, 10, 16, 12, 13, 14, 15.
     fn may_release(self, kind: usize, length: u32) -> Answer
         ensures { λ r. ⌜ r ≡ releaseAnswer self kind length ⌝ }
     {
@@ -23,7 +24,7 @@ impl State {
         unit.may_start(plan.kind[kind], self.clock - unit.at, length)
     }
 
-    // Starts a unit of the kind, with that length.
+    // Starts a unit of the kind, with that length, by which its project's sum rises.
     pub fn release(mut self, kind: usize, length: u32) -> Next
         ensures { λ r. ⌜ r ≡ releaseOf self kind length ⌝ }
     {
@@ -34,11 +35,14 @@ impl State {
                 state: self,
             };
         };
+        let plan = self.plan;
+        let project = project_place(plan.kind[kind]);
         self.unit[kind] = Unit {
             at: self.clock,
             left: length as u16,
             released: true,
         };
+        self.sum[project] += length as u16;
         Next {
             answer,
             state: self,

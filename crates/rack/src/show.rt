@@ -8,7 +8,7 @@ use crate::State;
 use answer::Answer;
 
 impl State {
-    // The record order, 10, 9, 11.
+    // The record order, 10, 16, 9, 11.
     fn may_show(self, room: usize) -> Answer
         ensures { λ r. ⌜ r ≡ showAnswer self room ⌝ }
     {

@@ -78,6 +78,8 @@ static uint64_t called(unsigned function, uint8_t *a, size_t a_len, uint8_t *b, 
         return parchbeetle_show(a, a_len, b, b_len);
     case 10:
         return parchbeetle_advance(a, a_len);
+    case 11:
+        return parchbeetle_figures(a, a_len, x, b, b_len);
     default:
         fprintf(stderr, "bridge: no function %u\n", function);
         exit(2);

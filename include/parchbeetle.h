@@ -86,6 +86,16 @@ extern "C" {
 #define PARCHBEETLE_VERDICT_BYTES 32u
 #define PARCHBEETLE_SLICES_AT 16u
 
+/*
+ * What the figures of a kind are: its workload W in 4 bytes, then S(k,D) for each k of
+ * 1..8 in 4 bytes each, then the bad slice of each in a byte; numbers have the high
+ * byte first. Beyond the ceiling q of its project there is 0. The kind fits at k when k
+ * times its length plus W is at most S(k,D).
+ */
+#define PARCHBEETLE_FIGURES_BYTES 44u
+#define PARCHBEETLE_FIGURES_SUPPLY_AT(k) (4u * (k))
+#define PARCHBEETLE_FIGURES_SLICE_AT(k) (35u + (k))
+
 /* The most bytes that a plan, a slot table or a row can take. */
 #define PARCHBEETLE_MOST_PLAN_BYTES 99u
 #define PARCHBEETLE_MOST_TABLE_BYTES 512u
@@ -116,9 +126,9 @@ extern "C" {
  *
  *   bits 0-7    number: 0 for a good answer, else one of those below
  *   bits 8-15   place: the project (with 4) or the kind (with 5, 6, 8); else 0
- *   bits 16-31  count: bytes taken (read) or written (write, slot_table), or the
- *               least budget (smallest_budget); 0 for the other functions and on a
- *               refusal
+ *   bits 16-31  count: bytes taken (read) or written (write, slot_table), the least
+ *               budget (smallest_budget), or how many k there are (figures); 0 for
+ *               the other functions and on a refusal
  *   bits 32-55  excess (with 8): the slices by which the unit is too long. With a
  *               length that is shorter by so much or more the kind has a k, by less it
  *               has none; where no length fits it is the whole length. Else 0
@@ -260,6 +270,16 @@ uint64_t parchbeetle_show(const uint8_t *state, size_t state_len, uint8_t *row, 
  * Refusals: 9 (state_len below 272), the plan's 2 to 7, 10, 16, 11.
  */
 uint64_t parchbeetle_advance(uint8_t *state, size_t state_len);
+
+/* ---- Figures */
+
+/*
+ * Writes the figures of a kind to the first 44 bytes at `out`, whether the plan is
+ * admitted or not. The count is q, the ceiling of its project: how many k there are.
+ * Refusals: as parchbeetle_check, then 12, then 9 (out_len below 44).
+ */
+uint64_t parchbeetle_figures(const uint8_t *plan, size_t plan_len, uint64_t kind, uint8_t *out,
+                             size_t out_len);
 
 /* ---- What the lists above make */
 

@@ -34,6 +34,7 @@ static const uint8_t bytes_a[22] = {0x22, 0x18, 0x40, 0x10, 0x0c, 0x20, 0x14, 0x
                                     0x0c, 0x20, 0x08, 0x00, 0x80, 0x04, 0x20, 0x10, 0x01, 0x00, 0x04};
 static const uint8_t slots_a[8] = {1, 1, 1, 2, 2, 2, 2, 2};
 static const uint8_t verdict_a[32] = {1, 1, 1};
+static const uint8_t figures_a[PARCHBEETLE_FIGURES_BYTES] = {0, 0, 0, 2, 0, 0, 0, 4, 0, 0, 0, 5};
 
 static void make_plan_a(uint8_t *plan) {
     static const unsigned kinds[3][4] = {{0, 8, 8, 6}, {1, 4, 4, 2}, {1, 8, 8, 2}};
@@ -57,7 +58,7 @@ static void make_plan_a(uint8_t *plan) {
 /* Every function, on good answers and on refusals with each part. */
 static void functions(void) {
     uint8_t plan[PLAN], made[PLAN], wrong[PLAN], state[STATE], kept[STATE];
-    uint8_t bytes[22], slots[8], verdict[32], row[2];
+    uint8_t bytes[22], slots[8], verdict[32], row[2], figures[PARCHBEETLE_FIGURES_BYTES];
 
     answers("read", parchbeetle_read(bytes_a, 22, plan, PLAN), 0, 0, 22, 0);
     make_plan_a(made);
@@ -101,6 +102,16 @@ static void functions(void) {
     parchbeetle_set_kind_length(wrong, 1, 4);
     answers("verdict, kind 1 by 2", parchbeetle_verdict(wrong, PLAN, verdict, 32), 8, 1, 0, 2);
     answers("fresh, kind 1 by 2", parchbeetle_fresh(wrong, PLAN, state, STATE), 8, 1, 0, 2);
+
+    answers("figures", parchbeetle_figures(plan, PLAN, 1, figures, sizeof figures), 0, 0, 2, 0);
+    expect("the figures of kind 1", memcmp(figures, figures_a, sizeof figures) == 0);
+    expect("S(2,4)", figures[PARCHBEETLE_FIGURES_SUPPLY_AT(2) + 3] == 5 && figures[PARCHBEETLE_FIGURES_SLICE_AT(2)] == 0);
+    answers("figures, short", parchbeetle_figures(plan, PLAN - 1, 3, figures, sizeof figures), 9, 0, 0, 0);
+    answers("figures, no kind", parchbeetle_figures(plan, PLAN, (uint64_t)1 << 32, figures, 0), 12, 0, 0, 0);
+    answers("figures, no room", parchbeetle_figures(plan, PLAN, 0, figures, sizeof figures - 1), 9, 0, 0, 0);
+    expect("a refusal keeps the figures", memcmp(figures, figures_a, sizeof figures) == 0);
+    answers("figures, of a refused plan", parchbeetle_figures(wrong, PLAN, 1, figures, sizeof figures), 0, 0, 2, 0);
+    expect("the same figures", memcmp(figures, figures_a, sizeof figures) == 0);
 
     answers("smallest_budget, project 0", parchbeetle_smallest_budget(plan, PLAN, 0), 0, 0, 3, 0);
     answers("smallest_budget, project 1", parchbeetle_smallest_budget(plan, PLAN, 1), 0, 0, 4, 0);

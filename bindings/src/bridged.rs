@@ -146,3 +146,7 @@ pub fn show(state: &[u8], row: &mut [u8]) -> u64 {
 pub fn advance(state: &mut [u8]) -> u64 {
     changing(10, state, [0; 2])
 }
+
+pub fn figures(plan: &[u8], kind: u64, out: &mut [u8]) -> u64 {
+    reading(11, plan, out, kind)
+}

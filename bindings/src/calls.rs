@@ -61,3 +61,8 @@ pub fn show(state: &[u8], row: &mut [u8]) -> Answer {
 pub fn advance(state: &mut [u8]) -> Answer {
     Answer::of_word(library::advance(state))
 }
+
+/// The figures of a kind of an image's plan, admitted or not; the count is how many k there are.
+pub fn figures(plan: &[u8], kind: u64, out: &mut [u8]) -> Answer {
+    Answer::of_word(library::figures(plan, kind, out))
+}

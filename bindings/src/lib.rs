@@ -17,9 +17,10 @@ mod record;
 
 pub use answer::{in_words, Answer, NUMBERS};
 pub use calls::{
-    advance, build, check, fresh, read, release, show, slot_table, smallest_budget, verdict, write,
+    advance, build, check, figures, fresh, read, release, show, slot_table, smallest_budget,
+    verdict, write,
 };
-pub use record::{Kind, Plan, Project, State, Unit, Verdict};
+pub use record::{Figures, Kind, Plan, Project, State, Unit, Verdict};
 
 /// Whether the library is linked, so that a call takes no more than its own time.
 pub const LINKED: bool = cfg!(target_arch = "x86_64");
@@ -30,6 +31,8 @@ pub const PLAN_IMAGE: usize = 140;
 pub const STATE_IMAGE: usize = 272;
 /// Bytes of a verdict: the k of each kind, then the slice of each.
 pub const VERDICT_BYTES: usize = 32;
+/// Bytes of a kind's figures: the workload, the supply at each k, then the slice of each.
+pub const FIGURES_BYTES: usize = 44;
 /// The most bytes that a plan takes.
 pub const MOST_PLAN_BYTES: usize = 99;
 /// The most bytes that a slot table takes.

@@ -28,6 +28,13 @@ extern "C" {
     fn parchbeetle_release(state: *mut u8, state_len: usize, kind: u64, e: u64) -> u64;
     fn parchbeetle_show(state: *const u8, state_len: usize, row: *mut u8, row_len: usize) -> u64;
     fn parchbeetle_advance(state: *mut u8, state_len: usize) -> u64;
+    fn parchbeetle_figures(
+        plan: *const u8,
+        plan_len: usize,
+        kind: u64,
+        out: *mut u8,
+        out_len: usize,
+    ) -> u64;
 }
 
 pub fn check(plan: &[u8]) -> u64 {
@@ -80,4 +87,8 @@ pub fn show(state: &[u8], row: &mut [u8]) -> u64 {
 
 pub fn advance(state: &mut [u8]) -> u64 {
     unsafe { parchbeetle_advance(state.as_mut_ptr(), state.len()) }
+}
+
+pub fn figures(plan: &[u8], kind: u64, out: &mut [u8]) -> u64 {
+    unsafe { parchbeetle_figures(plan.as_ptr(), plan.len(), kind, out.as_mut_ptr(), out.len()) }
 }

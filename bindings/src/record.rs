@@ -2,7 +2,8 @@
 //! more than one byte with the high byte first.
 
 use crate::{
-    calls, Answer, MOST_PLAN_BYTES, MOST_TABLE_BYTES, PLAN_IMAGE, STATE_IMAGE, VERDICT_BYTES,
+    calls, Answer, FIGURES_BYTES, MOST_PLAN_BYTES, MOST_TABLE_BYTES, PLAN_IMAGE, STATE_IMAGE,
+    VERDICT_BYTES,
 };
 
 /// What an image is made of.
@@ -150,6 +151,16 @@ records! {
         pub slice: [u8; 16],
     }
 
+    /// What a kind asks and is given, in a plan that is admitted or not.
+    pub struct Figures {
+        /// W: what the other kinds of its project add up to.
+        pub workload: u32,
+        /// S(k,D) at place k - 1, for each k of 1 to its project's ceiling; 0 beyond.
+        pub supply: [u32; 8],
+        /// The bad slice of the frame to arrive in, for that k.
+        pub slice: [u8; 8],
+    }
+
     /// A plan that runs.
     pub struct State {
         /// The plan.
@@ -165,7 +176,7 @@ records! {
 
 // The records and the header agree on the sizes.
 const _: () = assert!(Plan::BYTES == PLAN_IMAGE && State::BYTES == STATE_IMAGE);
-const _: () = assert!(Verdict::BYTES == VERDICT_BYTES);
+const _: () = assert!(Verdict::BYTES == VERDICT_BYTES && Figures::BYTES == FIGURES_BYTES);
 
 /// What a call gives, or its refusal.
 type Given<T> = Result<T, Answer>;
@@ -235,6 +246,13 @@ impl Plan {
         let mut k = [0; VERDICT_BYTES];
         let answer = calls::verdict(&self.image(), &mut k);
         given(answer, Part::of(&k))
+    }
+
+    /// The figures of one of its kinds, whether it is admitted or not, and how many k there are.
+    pub fn figures(&self, kind: u64) -> Given<(Figures, usize)> {
+        let mut out = [0; FIGURES_BYTES];
+        let answer = calls::figures(&self.image(), kind, &mut out);
+        given(answer, (Part::of(&out), usize::from(answer.count)))
     }
 
     /// The smallest budget of one of its projects, whose stored budget is not looked at.

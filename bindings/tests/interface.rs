@@ -381,10 +381,11 @@ fn spoken_of(header: &str) -> BTreeSet<u64> {
     numbers
 }
 
-const SIZES: [&str; 6] = [
+const SIZES: [&str; 7] = [
     "PLAN_IMAGE",
     "STATE_IMAGE",
     "VERDICT_BYTES",
+    "FIGURES_BYTES",
     "MOST_PLAN_BYTES",
     "MOST_TABLE_BYTES",
     "MOST_ROW_BYTES",
@@ -609,6 +610,7 @@ fn one_thing_changed_on_one_side_is_found() {
         // A function that the bridge has under another number or not at all.
         (bridge, "return parchbeetle_verdict(", "return parchbeetle_fresh("),
         (bridged, "changing(10", "changing(9"),
+        (bridge, "return parchbeetle_figures(", "return parchbeetle_verdict("),
         (bridged, "pub fn verdict(plan: &[u8], k", "pub fn verdict(k: &[u8], plan"),
         // A field's name, width and order, and how many places.
         (header, "field(budget, 2)", "field(budget, 4)"),
@@ -629,6 +631,7 @@ fn one_thing_changed_on_one_side_is_found() {
         // A size.
         (header, "PLAN_IMAGE 140u", "PLAN_IMAGE 141u"),
         (header, "VERDICT_BYTES 32u", "VERDICT_BYTES 16u"),
+        (header, "FIGURES_BYTES 44u", "FIGURES_BYTES 40u"),
         (bindings, "MOST_ROW_BYTES: usize = 8", "MOST_ROW_BYTES: usize = 16"),
         // A number: its words, one that is not given, one that is not listed or not said of any function.
         (header, "there is no such kind", "no such kind"),
@@ -711,6 +714,17 @@ fn the_records_are_what_the_library_reads_and_writes() {
         Err(27)
     );
 
+    let (figures, widths) = plan.figures(1).unwrap();
+    assert_eq!((widths, figures.workload), (2, 2));
+    assert_eq!(figures.supply[..3], [4, 5, 0]);
+    let (figures, widths) = due.figures(0).unwrap();
+    assert_eq!((widths, figures.workload), (1, 0));
+    assert_eq!(
+        (figures.supply[..2].to_vec(), figures.slice[0]),
+        (vec![2, 0], 1)
+    );
+    assert_eq!(due.figures(3).map_err(|answer| answer.number), Err(12));
+
     let alone = Plan::build(2, &[(3, 2), (6, 4), (6, 3)]).unwrap();
     assert_eq!((alone.frame, alone.kinds), (3, 3));
     assert_eq!(
@@ -774,13 +788,15 @@ fn the_sizes_are_the_librarys() {
     let state = plan_a().fresh().unwrap().image();
     let copy = |size: usize| state[..size].to_vec();
     type Call<'a> = &'a dyn Fn(usize) -> Answer;
-    let calls: [(usize, Call); 13] = [
+    let calls: [(usize, Call); 15] = [
         (PLAN_IMAGE, &|size| check(&plan[..size])),
         (PLAN_IMAGE, &|size| read(&PLAN_A, &mut vec![0; size])),
         (PLAN_IMAGE, &|size| write(&plan[..size], &mut [0; 99])),
         (PLAN_IMAGE, &|size| slot_table(&plan[..size], &mut [0; 512])),
         (PLAN_IMAGE, &|size| verdict(&plan[..size], &mut [0; 32])),
         (VERDICT_BYTES, &|size| verdict(&plan, &mut vec![0; size])),
+        (PLAN_IMAGE, &|size| figures(&plan[..size], 0, &mut [0; 44])),
+        (FIGURES_BYTES, &|size| figures(&plan, 0, &mut vec![0; size])),
         (PLAN_IMAGE, &|size| smallest_budget(&plan[..size], 0)),
         (PLAN_IMAGE, &|size| {
             build(1, &[0, 2, 0, 1], &mut vec![0; size])

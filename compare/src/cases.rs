@@ -6,8 +6,7 @@
 //! bytes whole and damaged, states on it, and a run from its fresh start, step by step.
 
 use crate::interface::{
-    plan_image, plan_of, state_image, state_of, Case, Op, PLAN_IMAGE, STATE_IMAGE, SUMS_AT,
-    UNITS_AT, VERDICT_BYTES,
+    plan_image, plan_of, state_image, state_of, Case, Op, FIGURES_BYTES, PLAN_IMAGE, STATE_IMAGE, SUMS_AT, UNITS_AT, VERDICT_BYTES,
 };
 use generate::{
     fixed_lists, fixed_open_budgets, fixed_plan_records, fixed_state_records, fixed_streams,
@@ -33,6 +32,7 @@ fn needed(op: Op, plan: &Plan) -> usize {
         Op::Write => plan_bytes(plan.p, plan.n),
         Op::SlotTable => usize::from(plan.m) * usize::from(plan.frame),
         Op::Verdict => VERDICT_BYTES,
+        Op::Figures => FIGURES_BYTES,
         Op::Fresh => STATE_IMAGE,
         Op::Show => usize::from(plan.m),
     }
@@ -118,6 +118,16 @@ fn on_plan(plan: &Plan) -> Record {
             record.push(Case::new(op, image.clone(), vec![0xEE; less]));
         }
     }
+    // Each kind, and the first that is not there; one byte short, once.
+    for kind in 0..=plan.used_kinds().len() as u64 {
+        let room = FIGURES_BYTES - usize::from(kind == 0);
+        record.push(Case::figures(image.clone(), kind, vec![0xEE; room]));
+        record.push(Case::figures(
+            image.clone(),
+            kind,
+            vec![0xEE; FIGURES_BYTES],
+        ));
+    }
     // Each project, and the first that is not there.
     for project in 0..=plan.used_projects().len() as u64 {
         if open_effort(plan, project) <= 1_000_000 {
@@ -192,6 +202,7 @@ fn lengths() -> Vec<Case> {
         (Op::Write, &image),
         (Op::SlotTable, &image),
         (Op::Verdict, &image),
+        (Op::Figures, &image),
         (Op::SmallestBudget, &image),
         (Op::Fresh, &image),
         (Op::Show, &running),
@@ -467,6 +478,9 @@ fn plan_record(g: &mut Generator, image: &[u8; PLAN_IMAGE], effort: u64) -> Reco
         };
         record.push(Case::new(op, image.clone(), lent));
     }
+    let kind = g.kind_number(&plan);
+    let room = lent(g, FIGURES_BYTES);
+    record.push(Case::figures(image.clone(), kind, room));
     let project = g.project_number(&plan);
     if g.one_in(1 + open_effort(&plan, project) / 100_000) {
         record.push(Case::smallest_budget(image, project));

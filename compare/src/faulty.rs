@@ -5,10 +5,9 @@
 //! agree with the second program, so that a fault is found for what it is.
 
 use crate::interface::{
-    number, plan_image, plan_of, refused, state_image, word, Op, Side, PLAN_IMAGE, STATE_IMAGE,
-    SUMS_AT, UNITS_AT, VERDICT_BYTES,
+    number, plan_image, plan_of, refused, state_image, word, Op, Side, FIGURES_BYTES, PLAN_IMAGE, STATE_IMAGE, SUMS_AT, UNITS_AT, VERDICT_BYTES,
 };
-use crate::second_side::{state_or_refuse, Second};
+use crate::second_side::{figures_bytes, state_or_refuse, Second};
 use second::layout::{cards_held, cells, h, h_of_cells};
 use second::one_kind::listed;
 use second::plan::budgets_sum_above;
@@ -93,6 +92,14 @@ pub enum Fault {
     BuildCutOff,
     BuildSixPlace,
     BuildNineFirst,
+    FiguresAdmitted,
+    FiguresPastQ,
+    FiguresFromNone,
+    FiguresAllKinds,
+    FiguresLowByte,
+    FiguresTwelveFirst,
+    FiguresNineFirst,
+    FiguresNoCount,
     PlayEnd,
     PlayLeftOver,
     PlayClock,
@@ -128,7 +135,7 @@ pub enum Fault {
 use Fault::*;
 
 /// Each fault that records must show: its name and what it is.
-pub const RECORD_FAULTS: [(Fault, &str, &str); 87] = [
+pub const RECORD_FAULTS: [(Fault, &str, &str); 95] = [
     (SumFirst, "sum-first", "7 is told before 4"),
     (FiveFirst, "five-first", "all kinds for 5 before any 6"),
     (
@@ -459,6 +466,46 @@ pub const RECORD_FAULTS: [(Fault, &str, &str); 87] = [
         SixteenPlace,
         "sixteen-place",
         "16 has the first such project for its place",
+    ),
+    (
+        FiguresAdmitted,
+        "figures-admitted",
+        "figures of admitted plans only",
+    ),
+    (
+        FiguresPastQ,
+        "figures-past-q",
+        "figures of each k of 1..8, past the ceiling",
+    ),
+    (
+        FiguresFromNone,
+        "figures-from-0",
+        "figures of the k from 0 on",
+    ),
+    (
+        FiguresAllKinds,
+        "figures-all-kinds",
+        "a figure W of the other projects' kinds too",
+    ),
+    (
+        FiguresLowByte,
+        "figures-low-byte",
+        "figures by the low byte of a kind",
+    ),
+    (
+        FiguresTwelveFirst,
+        "figures-12-first",
+        "figures tell 12 before the record order",
+    ),
+    (
+        FiguresNineFirst,
+        "figures-9-first",
+        "figures tell a short buffer before 12",
+    ),
+    (
+        FiguresNoCount,
+        "figures-no-count",
+        "figures with a count of 0",
     ),
 ];
 
@@ -960,6 +1007,50 @@ impl Faulty {
         (Answer::GOOD, plan)
     }
 
+    /// The figures of a kind.
+    fn figured(&self, plan: &Plan, kind: u64) -> (Answer, second::Figures) {
+        let none = second::Figures::default();
+        let kind = match self.0 {
+            FiguresLowByte => kind % 256,
+            _ => kind,
+        };
+        let absent = kind >= u64::from(plan.n);
+        let answer = match self.0 {
+            FiguresAdmitted if !absent => self.judge(plan).0,
+            _ => second::check(plan),
+        };
+        if absent && (answer.is_good() || self.is(FiguresTwelveFirst)) {
+            return (Answer::refused(12), none);
+        }
+        if !answer.is_good() {
+            return (answer, none);
+        }
+        let i = kind as usize;
+        let own = plan.kinds[i];
+        let mut seen = *plan;
+        if self.is(FiguresAllKinds) {
+            for place in &mut seen.kinds {
+                place.project = own.project;
+            }
+        }
+        let mut told = second::Figures {
+            widths: ceiling_of(plan, i),
+            workload: self.workload(&seen, i),
+            ..none
+        };
+        let ks = match self.0 {
+            FiguresPastQ => 1..=8,
+            FiguresFromNone => 0..=told.widths - 1,
+            _ => 1..=told.widths,
+        };
+        for (place, k) in ks.enumerate() {
+            let (supply, slice) =
+                self.supply(plan, usize::from(own.project), k, own.deadline.into());
+            (told.supply[place], told.slice[place]) = (supply, slice);
+        }
+        (answer, told)
+    }
+
     fn start(&self, plan: &Plan) -> (Answer, State) {
         let (answer, _) = self.judge(plan);
         let mut state = State::default();
@@ -1194,6 +1285,27 @@ impl Side for Faulty {
             plan[..PLAN_IMAGE].copy_from_slice(&plan_image(&built));
         }
         self.after(word, plan, PLAN_IMAGE)
+    }
+
+    fn figures(&self, plan: &[u8], kind: u64, out: &mut [u8]) -> u64 {
+        let word = self.on_plan(plan, |plan| {
+            if plan.len() < PLAN_IMAGE {
+                return refused(9);
+            }
+            let (answer, told) = self.figured(&plan_of(plan), kind);
+            let early = self.is(FiguresNineFirst) && answer.number == 12;
+            if out.len() < FIGURES_BYTES && (answer.is_good() || early) {
+                return refused(9);
+            }
+            if answer.is_good() {
+                out[..FIGURES_BYTES].copy_from_slice(&figures_bytes(&told));
+            }
+            match self.0 {
+                FiguresNoCount => word(answer, 0),
+                _ => word(answer, told.widths as usize),
+            }
+        });
+        self.after(word, out, FIGURES_BYTES)
     }
 
     fn fresh(&self, plan: &[u8], state: &mut [u8]) -> u64 {

@@ -13,8 +13,10 @@ pub const UNITS_AT: usize = PLAN_IMAGE + 4;
 pub const SUMS_AT: usize = UNITS_AT + 16 * 7;
 /// Bytes of a verdict: the k of each kind, then the slice of each.
 pub const VERDICT_BYTES: usize = 32;
+/// Bytes of a kind's figures: the workload, the supply at each k, then the slice of each.
+pub const FIGURES_BYTES: usize = 44;
 
-/// The eleven functions on bytes. The word: number in bits 0-7, place 8-15, count 16-31, excess 32-55, slice 56-63.
+/// The twelve functions on bytes. The word: number in bits 0-7, place 8-15, count 16-31, excess 32-55, slice 56-63.
 pub trait Side {
     /// Is the plan in order?
     fn check(&self, plan: &[u8]) -> u64;
@@ -38,6 +40,8 @@ pub trait Side {
     fn show(&self, state: &[u8], row: &mut [u8]) -> u64;
     /// Runs a slice.
     fn advance(&self, state: &mut [u8]) -> u64;
+    /// Gives the figures of a kind.
+    fn figures(&self, plan: &[u8], kind: u64, out: &mut [u8]) -> u64;
 }
 
 /// The word that carries an answer and a count.
@@ -196,7 +200,7 @@ pub fn state_image(state: &State) -> [u8; STATE_IMAGE] {
     bytes
 }
 
-/// Which of the eleven functions.
+/// Which of the twelve functions.
 #[derive(Clone, Copy, Debug, PartialEq, Eq, PartialOrd, Ord)]
 #[allow(missing_docs)]
 pub enum Op {
@@ -211,10 +215,11 @@ pub enum Op {
     Release,
     Show,
     Advance,
+    Figures,
 }
 
 /// Each function with its name.
-pub const OPS: [(Op, &str); 11] = [
+pub const OPS: [(Op, &str); 12] = [
     (Op::Check, "check"),
     (Op::Read, "read"),
     (Op::Write, "write"),
@@ -226,6 +231,7 @@ pub const OPS: [(Op, &str); 11] = [
     (Op::Release, "release"),
     (Op::Show, "show"),
     (Op::Advance, "advance"),
+    (Op::Figures, "figures"),
 ];
 
 impl Op {
@@ -244,7 +250,7 @@ pub struct Case {
     pub given: Vec<u8>,
     /// The second buffer, as it is lent; empty for `check`, `smallest_budget`, `release` and `advance`.
     pub lent: Vec<u8>,
-    /// The kind and the length e of `release`, the project of `smallest_budget`, the cards of `build`.
+    /// The kind and the length e of `release`, the project of `smallest_budget`, the cards of `build`, the kind of `figures`.
     pub numbers: [u64; 2],
 }
 
@@ -322,6 +328,14 @@ impl Case {
         }
     }
 
+    /// The figures of a kind.
+    pub fn figures(given: Vec<u8>, kind: u64, lent: Vec<u8>) -> Case {
+        Case {
+            numbers: [kind, 0],
+            ..Case::new(Op::Figures, given, lent)
+        }
+    }
+
     /// The call on one side, with buffers of its own.
     pub fn run(&self, side: &impl Side) -> Outcome {
         let (mut given, mut lent) = (Fenced::new(&self.given), Fenced::new(&self.lent));
@@ -339,6 +353,7 @@ impl Case {
             Op::Release => side.release(first, number, e),
             Op::Show => side.show(first, second),
             Op::Advance => side.advance(first),
+            Op::Figures => side.figures(first, number, second),
         };
         Outcome {
             word,

@@ -50,4 +50,8 @@ impl Side for Proved {
     fn advance(&self, state: &mut [u8]) -> u64 {
         bindings::advance(state).word()
     }
+
+    fn figures(&self, plan: &[u8], kind: u64, out: &mut [u8]) -> u64 {
+        bindings::figures(plan, kind, out).word()
+    }
 }

@@ -1,8 +1,8 @@
 //! The second program behind the same interface.
 
 use crate::interface::{
-    plan_image, plan_of, refused, state_image, state_of, word, Side, PLAN_IMAGE, STATE_IMAGE,
-    VERDICT_BYTES,
+    plan_image, plan_of, refused, state_image, state_of, word, Side, FIGURES_BYTES, PLAN_IMAGE,
+    STATE_IMAGE, VERDICT_BYTES,
 };
 use second::State;
 
@@ -20,6 +20,18 @@ pub fn state_or_refuse(image: &[u8]) -> Result<State, u64> {
         answer if answer.is_good() => refused(10),
         answer => word(answer, 0),
     })
+}
+
+/// The bytes of a kind's figures.
+pub fn figures_bytes(told: &second::Figures) -> [u8; FIGURES_BYTES] {
+    let mut bytes = [0; FIGURES_BYTES];
+    bytes[..4].copy_from_slice(&(told.workload as u32).to_be_bytes());
+    for place in 0..8 {
+        let supply = (told.supply[place] as u32).to_be_bytes();
+        bytes[4 + 4 * place..8 + 4 * place].copy_from_slice(&supply);
+        bytes[36 + place] = told.slice[place] as u8;
+    }
+    bytes
 }
 
 impl Side for Second {
@@ -135,5 +147,20 @@ impl Side for Second {
             }
             Err(word) => word,
         }
+    }
+
+    fn figures(&self, plan: &[u8], kind: u64, out: &mut [u8]) -> u64 {
+        if plan.len() < PLAN_IMAGE {
+            return refused(9);
+        }
+        let (answer, told) = second::figures(&plan_of(plan), kind);
+        if !answer.is_good() {
+            return word(answer, 0);
+        }
+        if out.len() < FIGURES_BYTES {
+            return refused(9);
+        }
+        out[..FIGURES_BYTES].copy_from_slice(&figures_bytes(&told));
+        word(answer, told.widths as usize)
     }
 }

@@ -152,7 +152,7 @@ fn without_kind(case: &Case, kind: usize) -> Case {
     if matches!(case.op, Op::Release | Op::Show | Op::Advance) && case.given.len() >= STATE_IMAGE {
         move_up(UNITS_AT);
     }
-    if case.op == Op::Release && tried.numbers[0] > kind as u64 {
+    if matches!(case.op, Op::Release | Op::Figures) && tried.numbers[0] > kind as u64 {
         tried.numbers[0] -= 1;
     }
     tried

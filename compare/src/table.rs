@@ -2,10 +2,12 @@
 //! document 02's requests what the proved table has of them.
 //!
 //! Here the expected outcome is written down, so that both sides are held to it. P3 and P4 speak of
-//! supply, which no function on bytes gives; the second program's own tests have them.
+//! supply: the figures of a kind have it at the kind's deadline (at t = 0, which no deadline is, the
+//! second program's own tests have it).
 
 use crate::interface::{
-    plan_image, state_image, word, Case, Op, Outcome, PLAN_IMAGE, STATE_IMAGE, VERDICT_BYTES,
+    plan_image, state_image, word, Case, Op, Outcome, FIGURES_BYTES, PLAN_IMAGE, STATE_IMAGE,
+    VERDICT_BYTES,
 };
 use generate::{list_bytes, release_bytes, SLICE};
 use second::bytes::pack;
@@ -124,11 +126,32 @@ fn open(plan: &Plan, project: u64) -> Case {
     Case::smallest_budget(plan_image(plan).to_vec(), project)
 }
 
+fn figuring(plan: &Plan, kind: u64) -> Case {
+    Case::figures(plan_image(plan).to_vec(), kind, lent(FIGURES_BYTES + 2))
+}
+
+/// Plan A with another deadline, and the length 1, for a kind.
+fn due(kind: usize, deadline: u16) -> Plan {
+    let mut plan = Plan::a();
+    (plan.kinds[kind].deadline, plan.kinds[kind].length) = (deadline, 1);
+    plan
+}
+
+/// The bytes of figures.
+fn figures(workload: u32, supply: &[u32], slice: &[u8]) -> [u8; FIGURES_BYTES] {
+    let mut bytes = [0; FIGURES_BYTES];
+    for (place, number) in [workload].iter().chain(supply).enumerate() {
+        bytes[4 * place..4 * place + 4].copy_from_slice(&number.to_be_bytes());
+    }
+    bytes[36..36 + slice.len()].copy_from_slice(slice);
+    bytes
+}
+
 fn advancing(state: &State) -> Case {
     Case::new(Op::Advance, state_image(state).to_vec(), Vec::new())
 }
 
-/// P1 to P11 (without P3 and P4), "Run and compared", and the requests.
+/// P1 to P11, "Run and compared", the requests and the figures.
 pub fn table() -> Vec<Named> {
     let mut table = Table { rows: Vec::new() };
     let (a, b) = (Plan::a(), Plan::b());
@@ -145,6 +168,14 @@ pub fn table() -> Vec<Named> {
     table.good("P1, written", on(&a, Op::Write, 25), 22, &PLAN_A);
     let slots = [1, 1, 1, 2, 2, 2, 2, 2];
     table.good("P2", on(&a, Op::SlotTable, 10), 8, &slots);
+    for (deadline, supply, slice) in [(1, 0, 3), (3, 2, 1), (4, 3, 0), (8, 6, 0)] {
+        let told = figures(0, &[supply], &[slice]);
+        table.good("P3", figuring(&due(0, deadline), 0), 1, &told);
+    }
+    for (deadline, workload, supply) in [(4, 2, [4, 5]), (1, 1, [1, 1]), (3, 2, [3, 3])] {
+        let told = figures(workload, &supply, &[0, 0]);
+        table.good("P4", figuring(&due(1, deadline), 1), 2, &told);
+    }
     table.admitted("P5", &a, &[1, 1, 1], &[0, 0, 0]);
     let mut longer = a;
     longer.kinds[0].length = 7;
@@ -185,6 +216,17 @@ pub fn table() -> Vec<Named> {
     table.refused_by_8("(i), a guess too small", &smaller, 1, 0);
     table.good("(i), a guess too small", open(&smaller, 0), 7, &[]);
     table.refused("(i), none serves", open(&opening, 0), 8, 0, 2);
+
+    // The figures of plan A, of a plan that is not admitted, of no kind, and in a buffer that is short.
+    let mut longer = a;
+    longer.kinds[0].length = 7;
+    let told = figures(2, &[4, 5], &[0, 0]);
+    table.good("F1", figuring(&a, 1), 2, &told);
+    let told = figures(0, &[6], &[0]);
+    table.good("F2", figuring(&longer, 0), 1, &told);
+    table.refused("F3", figuring(&a, 3), 12, 0, 0);
+    let short = Case::figures(plan_image(&a).to_vec(), 0, lent(FIGURES_BYTES - 1));
+    table.refused("figures, one byte short", short, 9, 0, 0);
 
     // (vi): 000's opening kinds, each a project of its own; sums of exactly m; within m and not of multiples.
     let build =

@@ -254,6 +254,17 @@ impl Generator {
         }
     }
 
+    /// The number of a kind of this plan, in the same way.
+    pub fn kind_number(&mut self, plan: &Plan) -> u64 {
+        let n = u64::from(plan.n);
+        match self.below(16) {
+            0 => n,
+            1 => self.one_of(&[16, 17, 255, 256, 1 << 16, 1 << 32, u64::MAX, self.seed]),
+            2 => self.below(n) + self.one_of(&[1 << 4, 1 << 8, 1 << 16, 1 << 32]),
+            _ => self.below(n),
+        }
+    }
+
     /// A lent buffer of arbitrary bytes, from none to a few more than needed.
     pub fn buffer(&mut self, needed: usize) -> Vec<u8> {
         let needed = needed as u64;

@@ -10,6 +10,7 @@
 
 pub mod answer;
 pub mod bytes;
+pub mod figures;
 pub mod layout;
 pub mod one_kind;
 pub mod plan;
@@ -21,6 +22,7 @@ pub mod verdict;
 
 pub use answer::Answer;
 pub use bytes::{read, write};
+pub use figures::{figures, Figures};
 pub use layout::slot_table;
 pub use one_kind::build;
 pub use plan::{check, Kind, Plan, Project};

@@ -20,6 +20,7 @@ use Rattle.plan_bytes.specs.Reading.{spareZero, bodyAnswer, readAnswer, readOf}
 use Rattle.plan_bytes.specs.Writing.{writeAnswer}
 use Rattle.layout.specs.Table.{tableAnswer, tableLength}
 use Rattle.verdict.specs.Verdict.{widthOf, excessOf, badSliceOf, fitted, admitted, judged}
+use Rattle.verdict.specs.Figures.{figuresAnswer, figuresOf}
 use Rattle.verdict.specs.Steps.{fitOn}
 use Rattle.verdict.specs.Steps.Properties.{excess-room, slice-room}
 use Rattle.smallest_budget.specs.Smallest.{excessWith, sliceWith, lacks, mostBudget, leastBudget, fittedWith, servedWith, smallestAnswer}
@@ -60,6 +61,10 @@ writeOrder = 9 ∷ recordOrder
 -- "Starting fresh and the verdict add 8"
 abbrev pub verdictOrder : List ℕ
 verdictOrder = 8 ∷ recordOrder
+
+-- the record order, then "12: kind not below n"
+abbrev pub figuresOrder : List ℕ
+figuresOrder = 12 ∷ recordOrder
 
 -- "2, 3, then 27 for a project not below p; the rest of the record order, 4 skipping that one budget, without 7"
 abbrev pub openOrder : List ℕ
@@ -148,6 +153,13 @@ pub judge-numbers : (p : Plan) → Numbered verdictOrder (judged p .answer)
 unfolding judged covers among
 judge-numbers p =
     andThen-numbered _ _ _ (wider _ recordOrder _ refl (check-numbers p)) (λ e. admitted-numbers p (in-order p e))
+
+-- `kind_figures`
+pub figures-numbers : (p : Plan) (i : ℕ) → Numbered figuresOrder (figuresOf p i .answer)
+unfolding figuresOf figuresAnswer covers among
+figures-numbers p i =
+    andThen-numbered _ _ _ (wider _ recordOrder _ refl (check-numbers p))
+    (λ e. refuse-numbered _ (leb (p .kinds) i) _ (bare-numbered _ 12 (λ z. omega arith) refl))
 
 -- ---- the smallest budget
 

@@ -24,6 +24,8 @@ use Rattle.layout.specs.OneOutcome.{slot-table-one-outcome}
 use Rattle.verdict.specs.Verdict.{judged}
 use Rattle.verdict.specs.OneOutcome.{judge-one-outcome}
 use Rattle.verdict.specs.Admission.Properties.{none-refused, no-slice-refused}
+use Rattle.verdict.specs.OneOutcome.{kind-figures-one-outcome}
+use Rattle.verdict.specs.Figures.{noFigures, figuresAnswer, figuresOf}
 use Rattle.smallest_budget.specs.Smallest.{smallestAnswer, smallestOf}
 use Rattle.smallest_budget.specs.OneOutcome.{smallest-budget-one-outcome}
 use Rattle.one_kind.specs.Wanted.{kindsIn, separationIn, lengthIn}
@@ -91,6 +93,16 @@ judging = judge-one-outcome
 -- "A refused verdict gives k 0 for every kind", and no slice beside it
 pub judging-refused : (p : Plan) → number (judged p .answer) ≢ 0 → (judged p .width ≡ replicate 16 0) × (judged p .slice ≡ replicate 16 0)
 judging-refused p h = let t = refusal (judged p .answer) h in (none-refused p (t .0) (t .1), no-slice-refused p (t .0) (t .1))
+
+-- ---- the figures of a kind
+
+pub figuring : (p : Plan) (i : ℕ) → One (λ r. r ≡ figuresOf p i)
+figuring = kind-figures-one-outcome
+
+-- a refusal gives none
+pub figuring-refused : (p : Plan) (i : ℕ) → number (figuresOf p i .answer) ≢ 0 → figuresOf p i ≡ noFigures (figuresOf p i .answer)
+unfolding figuresOf
+figuring-refused p i h = let t = refusal (figuresAnswer p i) h in rw (t .1)
 
 -- ---- the smallest budget
 

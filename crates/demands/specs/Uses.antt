@@ -69,6 +69,7 @@ pub mod Smallest
 pub mod Five
 pub mod OneKind
 pub mod RowOfSums
+pub mod KindFigures
 
 -- ---- demand 1: one outcome, and a refusal that changes nothing
 

@@ -21,20 +21,24 @@ use Rattle.plan_bytes.specs.Reading.{readOf}
 use Rattle.plan_bytes.specs.Writing.{writeAnswer}
 use Rattle.layout.specs.Table.{tableAnswer, tableLength}
 use Rattle.verdict.specs.Verdict.{judged}
+use Rattle.verdict.specs.Figures.{figuresOf}
 use Rattle.smallest_budget.specs.Smallest.{smallestOf}
 use Rattle.images.specs.Image.{planSize, stateSize, planFrom, stateFrom, releasedTold}
 use Rattle.images.specs.Lent.{room}
+use Rattle.images.specs.FiguresImage.{figuresSize}
 use Rattle.demands.specs.Numbers.{recordOrder, bytesOrder, writeOrder, verdictOrder, smallestOrder, stateOrder, releaseOrder}
 use Rattle.demands.specs.Numbers.{showOrder, advanceOrder}
 use Rattle.demands.specs.Numbers.{check-numbers, read-numbers, write-numbers, slot-table-numbers, judge-numbers, smallest-numbers}
 use Rattle.demands.specs.Numbers.{buildOrder, build-numbers, start-numbers, release-numbers, show-numbers, advance-numbers}
+use Rattle.demands.specs.Numbers.{figuresOrder, figures-numbers}
 use Rattle.parchbeetle.specs.Outcome.{Outcome}
 use Rattle.parchbeetle.specs.Exports.{checkAnswer, readsAnswer, writesAnswer, slotsAnswer, verdictAnswer, budgetAnswer, buildsAnswer}
 use Rattle.parchbeetle.specs.Exports.{freshAnswer}
 use Rattle.parchbeetle.specs.Exports.{stateAnswer, releasesAnswer, showsAnswer, advancesAnswer}
 use Rattle.parchbeetle.specs.Exports.{Reads, WritesBytes, WritesSlots, Judges, budgetTold}
 use Rattle.parchbeetle.specs.Exports.{Builds, Starts, Releases, ShowsRow, Advances}
-use Rattle.parchbeetle.specs.Exports.Properties.{read-count, good-size, good-table, budget-most}
+use Rattle.parchbeetle.specs.Exports.{kindFiguresAnswer, WritesFigures}
+use Rattle.parchbeetle.specs.Exports.Properties.{read-count, good-size, good-table, budget-most, figures-most}
 
 -- ---- the numbers that each function lists
 
@@ -69,6 +73,13 @@ unfolding verdictAnswer among covers
 verdict-listed plan k =
     andThen-numbered _ _ _ (room-numbers _ refl plan planSize)
     (λ e. andThen-numbered _ _ _ (wider _ verdictOrder _ refl (judge-numbers (planFrom plan))) (λ f. room-numbers _ refl k 32))
+
+-- `parchbeetle_figures`
+pub figures-listed : (plan : List ℕ) (kind : ℕ) (out : List ℕ) → Numbered (9 ∷ figuresOrder) (kindFiguresAnswer plan kind out)
+unfolding kindFiguresAnswer among covers
+figures-listed plan kind out =
+    andThen-numbered _ _ _ (room-numbers _ refl plan planSize)
+    (λ e. andThen-numbered _ _ _ (wider _ figuresOrder _ refl (figures-numbers (planFrom plan) kind)) (λ f. room-numbers _ refl out figuresSize))
 
 -- `parchbeetle_smallest_budget`
 pub smallest-listed : (plan : List ℕ) (project : ℕ) → Numbered (9 ∷ smallestOrder) (budgetAnswer plan project)
@@ -174,6 +185,14 @@ slot-table-decodes plan out r after =
 pub verdict-decodes : (plan k : List ℕ) (r : ℕ) (after : List ℕ) → Judges plan k r after → Decodes (verdictAnswer plan k) 0 r
 unfolding small
 verdict-decodes plan k r after = read-again-none (9 ∷ verdictOrder) _ _ _ r after refl (verdict-listed plan k)
+
+-- `parchbeetle_figures`: the count is how many k there are
+pub figures-decodes : (plan : List ℕ) (kind : ℕ) (out : List ℕ) (r : ℕ) (after : List ℕ) → WritesFigures plan kind out r after →
+    Decodes (kindFiguresAnswer plan kind out) (ifGood (kindFiguresAnswer plan kind out) (figuresOf (planFrom plan) kind .widths) 0) r
+unfolding small
+figures-decodes plan kind out r after =
+    read-again (9 ∷ figuresOrder) (kindFiguresAnswer plan kind out) (figuresOf (planFrom plan) kind .widths) _ _ r after refl
+    (figures-listed plan kind out) (figures-most plan kind out)
 
 -- `parchbeetle_smallest_budget`: the count is the least budget
 pub smallest-decodes : (plan : List ℕ) (project r : ℕ) → r ≡ budgetTold plan project →

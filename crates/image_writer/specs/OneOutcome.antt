@@ -7,6 +7,8 @@ use Rattle.answer.specs.Outcome.Properties.{leaves-one}
 use Rattle.plan.specs.declared.Plan.{Plan}
 use Rattle.answer.specs.declared.Answer.{Answer}
 use Rattle.rack.specs.declared.State.{State}
+use Rattle.verdict.specs.declared.figures.Figures.{Figures}
+use Rattle.images.specs.FiguresImage.{StoresFigures}
 use Rattle.images.specs.Lent.{StoresPlan, StoresState}
 
 -- `put_plan`
@@ -16,3 +18,7 @@ put-plan-one-outcome plan image = leaves-one _ _
 -- `put_state`
 pub put-state-one-outcome : (state : State) (image : List ℕ) → One (λ (o : Lent Answer). StoresState state image (o .result) (o .buffer))
 put-state-one-outcome state image = leaves-one _ _
+
+-- `put_figures`
+pub put-figures-one-outcome : (figures : Figures) (out : List ℕ) → One (λ (o : Lent Answer). StoresFigures figures out (o .result) (o .buffer))
+put-figures-one-outcome figures out = leaves-one _ _

@@ -1,5 +1,8 @@
 // A plan or a state stored as an image. Offsets and widths are those that crate `images` states.
 // Every buffer is answered, whatever its length.
+mod figures;
+
+pub use figures::put_figures;
 ghost use mathlib.Core.Path.{_≡_};
 ghost use mathlib.Core.Bool.{cond};
 ghost use mathlib.Core.List.{[], _∷_, _++_};

@@ -2,5 +2,6 @@
 -- Assumes nothing.
 pub mod Image
 pub mod Lent
+pub mod FiguresImage
 pub mod Typed
 pub mod RoundTrip

@@ -15,6 +15,7 @@ use Rattle.plan_bytes.specs.Reading.{readOf}
 use Rattle.plan_bytes.specs.Writing.{writeAnswer}
 use Rattle.layout.specs.Table.{tableAnswer, tableLength, tableOver}
 use Rattle.verdict.specs.Verdict.{judged}
+use Rattle.verdict.specs.Figures.{figuresOf}
 use Rattle.smallest_budget.specs.Smallest.{smallestOf}
 use Rattle.one_kind.specs.Built.{builtOf}
 use Rattle.rack.specs.State.{freshOf}
@@ -25,6 +26,7 @@ use Rattle.rack.specs.Show.{showAnswer}
 use Rattle.rack.specs.Advance.{advanced, advanceAnswer}
 use Rattle.images.specs.Image.{planSize, stateSize, planFrom, planImage, stateFrom, stateImage, releasedTold}
 use Rattle.images.specs.Lent.{room}
+use Rattle.images.specs.FiguresImage.{figuresSize, figuresImage}
 use Rattle.parchbeetle.specs.Outcome.{Outcome}
 pub mod Properties
 
@@ -73,6 +75,16 @@ abbrev pub Judges : List ℕ → List ℕ → ℕ → List ℕ → Type 0
 Judges plan k r after =
     let v = judged (planFrom plan) in
     Outcome (verdictAnswer plan k) 0 (written 32 (verdictByte (v .width) (v .slice)) k) k r after
+
+-- `parchbeetle_figures`: 9 for the image, the record order, 12, then 9 for the lent buffer
+unfoldable pub kindFiguresAnswer : List ℕ → ℕ → List ℕ → Answer
+kindFiguresAnswer plan kind out = room plan planSize andThen (figuresOf (planFrom plan) kind .answer andThen room out figuresSize)
+
+-- the figures of the kind, and how many k there are
+abbrev pub WritesFigures : List ℕ → ℕ → List ℕ → ℕ → List ℕ → Type 0
+WritesFigures plan kind out r after =
+    let f = figuresOf (planFrom plan) kind in
+    Outcome (kindFiguresAnswer plan kind out) (f .widths) (figuresImage f ++ drop figuresSize out) out r after
 
 -- `parchbeetle_smallest_budget`: 9 for the image, then as the smallest budget answers
 unfoldable pub budgetAnswer : List ℕ → ℕ → Answer

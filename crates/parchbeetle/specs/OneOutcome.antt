@@ -8,6 +8,7 @@ use Rattle.answer.specs.Outcome.Properties.{is-one, leaves-one}
 use Rattle.answer.specs.Word.{told}
 use Rattle.parchbeetle.specs.Exports.{checkAnswer, Reads, WritesBytes, WritesSlots, Judges, budgetTold, Builds, Starts, Releases}
 use Rattle.parchbeetle.specs.Exports.{ShowsRow, Advances}
+use Rattle.parchbeetle.specs.Exports.{WritesFigures}
 
 -- `parchbeetle_check`
 pub parchbeetle-check-one-outcome : (plan : List ℕ) → One (λ r. r ≡ told (checkAnswer plan) 0)
@@ -28,6 +29,11 @@ parchbeetle-slot-table-one-outcome plan out = leaves-one _ _
 -- `parchbeetle_verdict`
 pub parchbeetle-verdict-one-outcome : (plan k : List ℕ) → One (λ (o : Lent ℕ). Judges plan k (o .result) (o .buffer))
 parchbeetle-verdict-one-outcome plan k = leaves-one _ _
+
+-- `parchbeetle_figures`
+pub parchbeetle-figures-one-outcome : (plan : List ℕ) (kind : ℕ) (out : List ℕ) →
+    One (λ (o : Lent ℕ). WritesFigures plan kind out (o .result) (o .buffer))
+parchbeetle-figures-one-outcome plan kind out = leaves-one _ _
 
 -- `parchbeetle_smallest_budget`
 pub parchbeetle-smallest-budget-one-outcome : (plan : List ℕ) (project : ℕ) → One (λ r. r ≡ budgetTold plan project)

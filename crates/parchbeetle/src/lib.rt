@@ -7,6 +7,7 @@ ghost use Rattle.laws.specs.Written.{written};
 ghost use Rattle.answer.specs.Word.{told};
 ghost use Rattle.parchbeetle.specs.Exports.{checkAnswer, Reads, WritesBytes, WritesSlots, verdictByte, Judges, budgetTold};
 ghost use Rattle.parchbeetle.specs.Exports.{Builds, Starts, Releases, ShowsRow, Advances};
+ghost use Rattle.parchbeetle.specs.Exports.{WritesFigures};
 use answer::Answer;
 use plan::Plan;
 use rack::State;
@@ -121,6 +122,29 @@ pub extern "C" fn parchbeetle_verdict(plan: &[u8], k: &mut [u8]) -> u64
     let slice = verdict.slice;
     put_verdict(width, slice, k);
     answer.told(0)
+}
+
+// Writes the figures of a kind of an image's plan, admitted or not. The count is how many k there are.
+#[no_mangle]
+pub extern "C" fn parchbeetle_figures(plan: &[u8], kind: u64, out: &mut [u8]) -> u64
+    ensures { λ r. ⌜ WritesFigures (now (plan .entry)) kind (now (out .entry)) r (now (out .exit)) ⌝ }
+{
+    let found = image_reader::plan_of(plan);
+    let seen = found.answer;
+    let Answer::Good = seen else {
+        return seen.told(0);
+    };
+    let figures = verdict::kind_figures(found.plan, kind as usize);
+    let answer = figures.answer;
+    let Answer::Good = answer else {
+        return answer.told(0);
+    };
+    let done = image_writer::put_figures(figures, out);
+    let Answer::Good = done else {
+        return done.told(0);
+    };
+    let widths = figures.widths as u16;
+    done.told(widths)
 }
 
 // The least budget of a project of an image's plan, in the bits of a count.

@@ -11,6 +11,7 @@ use Rattle.laws.specs.First.{firstTo}
 use Rattle.supply.specs.Supply.{supply, badSlice}
 use Rattle.supply.specs.Greatest.{greatestTo}
 use Rattle.supply.specs.declared.Fit.{Fit}
+use Rattle.supply.specs.declared.Supplied.{Supplied}
 use Rattle.supply.specs.declared.Least.{Least}
 pub mod Properties
 
@@ -58,6 +59,13 @@ fitOf frame held ceiling length workload deadline =
       excess = leastExcess frame (heldAt frame held) length workload deadline ceiling;
       slice = namedSlice frame (heldAt frame held) length workload deadline ceiling;
     })
+
+-- "Its supply S(k,t)", and "the earliest starting slice that attains it"; both 0 where the frame is out of range
+unfoldable pub suppliedOf : ℕ → List ℕ → ℕ → ℕ → Supplied
+suppliedOf frame held k t =
+    cond (noFrame frame)
+    (record { value = 0; slice = 0 })
+    (record { value = supply frame (heldAt frame held) k t; slice = badSlice frame (heldAt frame held) k t })
 
 -- ---- the steps of the search
 

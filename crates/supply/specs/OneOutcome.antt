@@ -6,7 +6,7 @@ use Prim.Native.Nat.{ℕ}
 use Rattle.answer.specs.Outcome.{One}
 use Rattle.answer.specs.Outcome.Properties.{is-one}
 use Rattle.supply.specs.Workload.{workloadPart}
-use Rattle.supply.specs.Fit.{fitOf}
+use Rattle.supply.specs.Fit.{fitOf, suppliedOf}
 
 -- `workload_part`
 pub workload-part-one-outcome : (separation deadline length t : ℕ) → One (λ r. r ≡ workloadPart separation deadline length t)
@@ -16,3 +16,7 @@ workload-part-one-outcome separation deadline length t = is-one _
 pub least-fit-one-outcome : (held : List ℕ) (frame ceiling length workload deadline : ℕ) →
     One (λ r. r ≡ fitOf frame held ceiling length workload deadline)
 least-fit-one-outcome held frame ceiling length workload deadline = is-one _
+
+-- `supply`
+pub supply-one-outcome : (held : List ℕ) (frame width t : ℕ) → One (λ r. r ≡ suppliedOf frame held width t)
+supply-one-outcome held frame width t = is-one _

@@ -6,7 +6,7 @@ ghost use Prim.Native.Nat.{_+_, _-_, _*_, _≤_, _<_, min};
 ghost use lib.ListN.{replicate};
 ghost use Rattle.laws.specs.Written.{written};
 ghost use Rattle.supply.specs.Workload.{wholeUnits, workloadPart};
-ghost use Rattle.supply.specs.Fit.{heldAt, leastWith, shortBy, fitOf};
+ghost use Rattle.supply.specs.Fit.{heldAt, leastWith, shortBy, fitOf, suppliedOf};
 
 // The least k at which a unit fits, or 0 where there is none, and then the excess. Document 01's
 // k is a width here: the most cards that count at one slice. The slice is the bad one to arrive in,
@@ -212,5 +212,43 @@ pub fn least_fit(
         width: found,
         excess: excess as u64,
         slice: short.slice,
+    }
+}
+
+// S(k,t), and the bad slice to arrive in for it.
+pub struct Supplied {
+    pub value: u32,
+    pub slice: u8,
+}
+
+// What one width is given in t slices. It goes the way of `least_fit`, which tries one width after the
+// other until the unit fits.
+pub fn supply(held: [u8; 64], frame: u8, width: u8, t: u16) -> Supplied
+    ensures { λ r. ⌜ r ≡ suppliedOf frame held width t ⌝ }
+{
+    if frame == 0 {
+        return Supplied { value: 0, slice: 0 };
+    }
+    if Fit::FRAME < frame {
+        return Supplied { value: 0, slice: 0 };
+    }
+    let slices = frame as usize;
+    let frames = (t as usize) / slices;
+    let rest = (t as usize) % slices;
+    let cards = two_frames(held, slices);
+    let mut one_frame: u16 = 0;
+    let mut least = Least { value: 0, slice: 0 };
+    for start in 0..slices {
+        let mut sum: u16 = 0;
+        for x in 0..rest {
+            sum += counted(width, cards[start + x]);
+        }
+        least = least_with(start, least, sum as usize, start as u8);
+        one_frame += counted(width, cards[start]);
+    }
+    let value = (product(frames, one_frame as usize) + least.value) as u32;
+    Supplied {
+        value,
+        slice: least.slice,
     }
 }

@@ -1,5 +1,9 @@
 // The admission verdict: document 01, "Supply and verdict". Any record is answered: the record
 // order first, then 8 with the first kind that has no k.
+mod figures;
+
+pub use figures::Figures;
+pub use figures::kind_figures;
 ghost use mathlib.Core.Path.{_≡_};
 ghost use Prim.Native.Nat.{_+_, _*_, _≤_, _<_};
 ghost use lib.Dec.{eqb};

@@ -29,6 +29,9 @@ use Rattle.layout.specs.declared.table.TableWritten.{TableWritten}
 use Rattle.layout.specs.Table.{tableAnswer, tableLength, Tabled}
 use Rattle.verdict.specs.declared.Verdict.{Verdict}
 use Rattle.verdict.specs.Verdict.{judged}
+use Rattle.verdict.specs.declared.figures.Figures.{Figures}
+use Rattle.verdict.specs.Figures.{figuresOf}
+use Rattle.verdict.specs.Figures.Properties.{widths-most}
 use Rattle.smallest_budget.specs.declared.Smallest.{Smallest}
 use Rattle.smallest_budget.specs.Smallest.{smallestOf}
 use Rattle.smallest_budget.specs.Smallest.Properties.{found-most}
@@ -56,6 +59,8 @@ use Rattle.parchbeetle.specs.Outcome.Properties.{refused-outcome, good-o
 use Rattle.parchbeetle.specs.Exports.{checkAnswer, readsAnswer, Reads, writesAnswer, WritesBytes, slotsAnswer, WritesSlots}
 use Rattle.parchbeetle.specs.Exports.{verdictAnswer, verdictByte, Judges, budgetAnswer, budgetTold, buildsAnswer, Builds}
 use Rattle.parchbeetle.specs.Exports.{freshAnswer, Starts, stateAnswer}
+use Rattle.images.specs.FiguresImage.{figuresSize, figuresImage, StoresFigures}
+use Rattle.parchbeetle.specs.Exports.{kindFiguresAnswer, WritesFigures}
 use Rattle.parchbeetle.specs.Exports.{releasesAnswer, Releases, showsAnswer, ShowsRow, advancesAnswer, Advances}
 
 -- ---- `parchbeetle_check`
@@ -198,6 +203,48 @@ judge-good plan k after f v r e g h n l m t =
     good-outcome (verdictAnswer plan k) 0 _ k r after (judge-room plan k f v Good e g h n (long-room k 32 l))
     (t ∙ ap (λ (x : Answer). told x 0) n)
     (m ∙ ap (λ (x : Verdict). written 32 (verdictByte (x .width) (x .slice)) k) (judge-is plan f v e g h))
+
+-- ---- `parchbeetle_figures`: v is the figures
+
+-- what the bits of a count hold
+pub figures-most : (plan : List ℕ) (kind : ℕ) (out : List ℕ) → kindFiguresAnswer plan kind out ≡ Good →
+    figuresOf (planFrom plan) kind .widths < 65536
+unfolding kindFiguresAnswer
+figures-most plan kind out e =
+    let p = planFrom plan in
+    let a = figuresOf p kind .answer in
+    let good = andThen-left a (room out figuresSize) (andThen-right (room plan planSize) (a andThen room out figuresSize) e) in
+    omega (arith, widths-most p kind good)
+
+module _ (plan : List ℕ) (kind : ℕ) (out : List ℕ) (f : PlanFound) (v : Figures) (e : f ≡ planFound plan) (g : f .answer ≡ Good)
+    (h : v ≡ figuresOf (f .plan) kind) where
+  figures-is : v ≡ figuresOf (planFrom plan) kind
+  figures-is = h ∙ ap (λ (p : Plan). figuresOf p kind) (plan-is plan f e g)
+
+  figures-stage : (x : Answer) → x ≡ (v .answer andThen room out figuresSize) → x ≡ kindFiguresAnswer plan kind out
+  unfolding kindFiguresAnswer
+  figures-stage x m =
+      plan-on plan f (figuresOf (planFrom plan) kind .answer andThen room out figuresSize) x e g
+      (m ∙ ap (λ (y : Figures). y .answer andThen room out figuresSize) figures-is)
+
+  pub figures-refused : (w : Refusal) (r : ℕ) → v .answer ≡ No w → r ≡ told (v .answer) 0 → WritesFigures plan kind out r out
+  figures-refused w r n t =
+      refused-outcome (kindFiguresAnswer plan kind out) (v .answer) w _ _ out r n t
+      (figures-stage (v .answer) (opened-no (v .answer) (v .answer) (room out figuresSize) w n refl))
+
+  figures-stored : (after : List ℕ) (b : Answer) (r : ℕ) → v .answer ≡ Good → StoresFigures v out b after →
+      r ≡ told b (ifGood b (v .widths) 0) → WritesFigures plan kind out r after
+  figures-stored after b r n s t =
+      rw (← figures-is) (stored-outcome (kindFiguresAnswer plan kind out) b (v .widths) figuresSize (figuresImage v) out after r s
+      (figures-stage b (opened-on (v .answer) (v .answer) (room out figuresSize) b n refl (s .result))) t)
+
+  pub figures-short : (after : List ℕ) (b : Answer) (w : Refusal) (r : ℕ) → v .answer ≡ Good → StoresFigures v out b after → b ≡ No w →
+      r ≡ told b 0 → WritesFigures plan kind out r after
+  figures-short after b w r n s m t = figures-stored after b r n s (t ∙ rw m)
+
+  pub figures-good : (after : List ℕ) (b : Answer) (r : ℕ) → v .answer ≡ Good → StoresFigures v out b after → b ≡ Good →
+      r ≡ told b (v .widths) → WritesFigures plan kind out r after
+  figures-good after b r n s m t = figures-stored after b r n s (t ∙ rw m)
 
 -- ---- `parchbeetle_smallest_budget`: v is what was found
 

@@ -21,7 +21,7 @@ use Rattle.supply.specs.Supply.Properties.{window-none, window-more, sup
 use Rattle.supply.specs.Greatest.{greatestTo}
 use Rattle.supply.specs.Greatest.Properties.{greatest-le, greatest-holds, greatest-above, greatest-only}
 use Rattle.supply.specs.Fit.{fitsAt, leastWidth, allowedLength, leastExcess, namedWidth, namedSlice, heldAt, fitOf}
-use Rattle.supply.specs.Fit.{leastWith, leastOf, suppliedTo, shortBy, shortAt, shortTo}
+use Rattle.supply.specs.Fit.{suppliedOf, leastWith, leastOf, suppliedTo, shortBy, shortAt, shortTo}
 use Rattle.supply.specs.declared.Fit.{Fit}
 use Rattle.supply.specs.declared.Least.{Least}
 
@@ -487,3 +487,31 @@ module _ (F : ℕ) (held cards : List ℕ) (some : F ≡ 0 → ⊥) (most : F �
         fit-of q C W D w y (x .slice) (v ∙ e ∙ ap (leastWidth F h C W D) z)
         (u ∙ ap (λ (m : Least). min (m .value) C) so ∙ excess-found F h C W D q)
         (ap (λ (m : Least). m .slice) so ∙ slice-found F h C W D (omega arith) q)
+
+-- ---- the supply of one k
+
+pub supplied-no-frame : (F : ℕ) (held : List ℕ) (k t : ℕ) → F ≡ 0 → record { value = 0; slice = 0 } ≡ suppliedOf F held k t
+unfolding suppliedOf
+supplied-no-frame F held k t e = rw (eq-eqb F 0 e)
+
+pub supplied-long-frame : (F : ℕ) (held : List ℕ) (k t : ℕ) → (F ≡ 0 → ⊥) → 64 < F →
+    record { value = 0; slice = 0 } ≡ suppliedOf F held k t
+unfolding suppliedOf
+supplied-long-frame F held k t n l = rw (ne-eqb F 0 n, lt-ltb 64 F l)
+
+-- in a frame that there can be
+pub supplied-framed : (F : ℕ) (held : List ℕ) (k t : ℕ) → (F ≡ 0 → ⊥) → F ≤ 64 →
+    suppliedOf F held k t ≡ record { value = supply F (heldAt F held) k t; slice = badSlice F (heldAt F held) k t }
+unfolding suppliedOf
+supplied-framed F held k t n l = rw (ne-eqb F 0 n, le-ltb 64 F l)
+
+-- after all starts
+pub supplied-here : (F : ℕ) (held cards : List ℕ) → (F ≡ 0 → ⊥) → F ≤ 64 → cards ≡ written (2 * F) (heldAt F held) (replicate 128 0) →
+    (k t p one start : ℕ) (least : Least) → p ≡ t / F * one → one ≡ window k (heldAt F cards) 0 start →
+    least ≡ suppliedTo start (heldAt F cards) k (t % F) → start ≤ F → F ≤ start →
+    record { value = p + least .value; slice = least .slice } ≡ suppliedOf F held k t
+supplied-here F held cards some most two k t p one start least e f g l m =
+    let same = two-held F held cards some most two in
+    let v = supplied F held cards some most two k t p one start least e f g l m ∙ ap (λ (h : ℕ → ℕ). supply F h k t) same in
+    let a = bad-found F held cards some most two k t start least g l m ∙ ap (λ (h : ℕ → ℕ). badSlice F h k t) same in
+    (λ i. record { value = v i; slice = a i }) ∙ sym (supplied-framed F held k t some most)

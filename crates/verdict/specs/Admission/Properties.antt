@@ -91,7 +91,7 @@ module _ (p : Plan) (i : ℕ) where
 
   module _ (slices : 0 < p .frame) where
     -- that of a k, on the cards that its project really holds
-    bad-on : (k : ℕ) → BadSlice p i k (badSlice (p .frame) (heldOn p i) k (kindOf p i .deadline))
+    pub bad-on : (k : ℕ) → BadSlice p i k (badSlice (p .frame) (heldOn p i) k (kindOf p i .deadline))
     bad-on k =
         record {
           in-frame = bad-below (p .frame) (heldOn p i) slices k (kindOf p i .deadline);

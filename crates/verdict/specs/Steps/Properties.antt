@@ -90,7 +90,7 @@ module _ (p : Plan) (o : InOrder p) (i : ℕ) (l : i < p .kinds) where
       rw e (written-at (p .projects) (projectCards p) (replicate 8 (replicate 64 0)) d (projectOn p i) (o .kind-at i l .its-project)
       (omega (arith, length-replicate 8 (replicate {A = ℕ} 64 0), o .counts .projects-most)))
 
-  cards-held : heldAt (p .frame) (projectCards p (projectOn p i)) ≡ heldOn p i
+  pub cards-held : heldAt (p .frame) (projectCards p (projectOn p i)) ≡ heldOn p i
   unfolding heldAt projectCards
   cards-held =
       fun-ext (λ s. written-at (p .frame) (heldOn p i) (replicate 64 0) 0 (s % p .frame) (mod-lt s (o .counts .some-slice))

@@ -16,7 +16,7 @@ use Rattle.plan.specs.Order.Properties.{sizes-says, in-order}
 use Rattle.plan.specs.Open.{withBudget, rangesOpen, checkedOpen, InOrderOpen}
 use Rattle.plan.specs.Open.Properties.{open-order}
 use Rattle.plan_bytes.specs.Parts.{headed, decoded, size}
-use Rattle.plan_bytes.specs.Reading.{spareZero, bodyAnswer, readAnswer, readOf}
+use Rattle.plan_bytes.specs.Reading.{spareZero, bodyAnswer, readAnswer, readOf, countsAnswer}
 use Rattle.plan_bytes.specs.Writing.{writeAnswer}
 use Rattle.layout.specs.Table.{tableAnswer, tableLength}
 use Rattle.verdict.specs.Verdict.{widthOf, excessOf, badSliceOf, fitted, admitted, judged}
@@ -30,6 +30,7 @@ use Rattle.smallest_budget.specs.Steps.Properties.{with-room, with-slice}
 use Rattle.one_kind.specs.Wanted.{kindsIn, separationIn, lengthIn}
 use Rattle.one_kind.specs.Built.{offered, counts, frameFor, frameFits, timedAlone, kindTimed, kindsTimed, planFor, answerFor, builtOf}
 use Rattle.one_kind.specs.Built.Properties.{counts-say}
+use Rattle.rescue.specs.Rescue.{rescuedPlan, listSize, restAnswer, rescueAnswer, rescueOf}
 use Rattle.unit.specs.Start.{early, startable}
 use Rattle.rack.specs.declared.State.{State}
 use Rattle.rack.specs.State.{lastClock, unitOf, kindAt, used}
@@ -77,6 +78,10 @@ smallestOrder = 8 ∷ 7 ∷ openOrder
 -- "Refusals, in order: 17 ..; 18 ..; 6 by kind; 19 ..; 7"
 abbrev pub buildOrder : List ℕ
 buildOrder = 17 ∷ 18 ∷ 6 ∷ 19 ∷ 7 ∷ []
+
+-- "Refusals: 1 and 2 as in reading; 20 when no kind remains; 9 when the list's entries don't all fit"
+abbrev pub rescueOrder : List ℕ
+rescueOrder = 1 ∷ 2 ∷ 20 ∷ 9 ∷ []
 
 -- "the record order, 10" and "16, directly after 10": what every call on a state begins with
 abbrev pub stateOrder : List ℕ
@@ -210,6 +215,19 @@ build-numbers m list =
     build-counts k n =
         andThen-numbered _ _ _ (refuse-numbered _ (not (offered k n)) _ (bare-numbered _ 17 (λ z. omega arith) refl))
         (λ e. refuse-numbered _ (not (leb n 8)) _ (bare-numbered _ 18 (λ z. omega arith) refl))
+
+-- ---- a rescued plan
+
+-- `rescue`
+pub rescue-numbers : (bytes list : List ℕ) → Numbered rescueOrder (rescueOf bytes list .answer)
+unfolding rescueOf rescueAnswer countsAnswer restAnswer among
+rescue-numbers bytes list =
+    andThen-numbered _ _ _
+    (andThen-numbered _ _ _ (refuse-numbered _ (ltb (length bytes) 3) _ (bare-numbered _ 1 (λ z. omega arith) refl))
+    (λ e. andThen-numbered _ _ _ (sizes-numbers _ (headed bytes) refl)
+    (λ f. refuse-numbered _ (ltb (length bytes) (size (headed bytes))) _ (bare-numbered _ 1 (λ z. omega arith) refl))))
+    (λ g. andThen-numbered _ _ _ (refuse-numbered _ (eqb (rescuedPlan bytes .kinds) 0) _ (bare-numbered _ 20 (λ z. omega arith) refl))
+    (λ h. refuse-numbered _ (ltb (length list) (listSize bytes)) _ (bare-numbered _ 9 (λ z. omega arith) refl)))
 
 -- `State::start`
 pub start-numbers : (p : Plan) → Numbered verdictOrder (startAnswer p)

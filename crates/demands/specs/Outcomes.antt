@@ -31,6 +31,9 @@ use Rattle.smallest_budget.specs.OneOutcome.{smallest-budget-one-outcome}
 use Rattle.one_kind.specs.Wanted.{kindsIn, separationIn, lengthIn}
 use Rattle.one_kind.specs.Built.{answerFor, builtOf}
 use Rattle.one_kind.specs.OneOutcome.{build-one-outcome}
+use Rattle.rescue.specs.declared.Rescued.{Rescued}
+use Rattle.rescue.specs.Rescue.{rescueAnswer, rescueOf, listOver, Rescues}
+use Rattle.rescue.specs.OneOutcome.{rescue-one-outcome}
 use Rattle.rack.specs.declared.State.{State}
 use Rattle.rack.specs.State.{noState}
 use Rattle.rack.specs.Start.{startOf}
@@ -124,6 +127,20 @@ pub building-refused : (cards : ℕ) (list : List ℕ) → number (builtOf cards
 unfolding builtOf
 building-refused cards list h =
     let t = refusal (answerFor cards (kindsIn list) (separationIn list) (lengthIn list)) h in rw (t .1)
+
+-- ---- a rescued plan
+
+pub rescuing : (bytes list : List ℕ) → One (λ (o : Lent Rescued). Rescues bytes list (o .result) (o .buffer))
+rescuing = rescue-one-outcome
+
+-- "any plan, figure or place that its answer carries is zero when refused"; "Lent buffers keep every byte on a refusal"
+pub rescuing-refused : (bytes list after : List ℕ) (r : Rescued) → Rescues bytes list r after → number (r .answer) ≢ 0 →
+    (r .plan ≡ noPlan) × (r .count ≡ 0) × (after ≡ list)
+unfolding rescueOf listOver
+rescuing-refused bytes list after r c h =
+    let t = refusal (r .answer) h in
+    let a : rescueAnswer bytes list ≡ No (t .0) = ap (λ (x : Rescued). x .answer) (sym (c .result)) ∙ t .1 in
+    (ap (λ (x : Rescued). x .plan) (c .result) ∙ (rw a), ap (λ (x : Rescued). x .count) (c .result) ∙ (rw a), c .buffer ∙ (rw a))
 
 -- ---- a fresh start
 

@@ -3,14 +3,11 @@
 -- Assumes nothing.
 use mathlib.Core.Path.{_≡_, refl, sym, ap, _∙_}
 use mathlib.Core.Logic.{_≢_}
-use mathlib.Core.Bool.{Bool, true, false, _&&_, true≢false}
+use mathlib.Core.Bool.{Bool, true, false, true≢false}
 use mathlib.Core.List.{List, [], _∷_, _++_}
 use Prim.Native.Nat.{ℕ, zero, suc, _+_, _-_, _≤_, _<_}
 use native.Mathlib.Omega.{arith}
-use lib.Dec.{ltb}
 use lib.ListN.{length, getD, take, drop, replicate}
-use borrow.Author.Tests.{ltb-true}
-use Rattle.laws.specs.Tests.{and-left, and-right}
 use Rattle.laws.specs.Count.{countTo}
 use Rattle.answer.specs.declared.Answer.{Answer}
 use Rattle.answer.specs.declared.Answer.the-variants.{Good}
@@ -19,7 +16,6 @@ use Rattle.answer.specs.Numbers.{among, placed}
 use Rattle.plan.specs.Example.{planA, planB, bytesA}
 use Rattle.plan.specs.Order.{checked}
 use Rattle.plan.specs.Order.Properties.{in-order}
-use Rattle.codec.specs.Bytes.{AreBytes}
 use Rattle.plan_bytes.specs.Parts.{encoded}
 use Rattle.plan_bytes.specs.declared.Reading.{Reading}
 use Rattle.plan_bytes.specs.Reading.{readOf}
@@ -60,7 +56,9 @@ use Rattle.demands.specs.Showing.{row-shown, shown-twice, shown-alike, p
 use Rattle.demands.specs.Showing.{showings-move-nothing, slices-shown}
 use Rattle.demands.specs.Sufficient.{runs-well}
 use Rattle.demands.specs.Uses.Figures.{tick, releases, threeSlices, fourSlices, example, rows, earlier, later, begun, fourRows}
+use Rattle.demands.specs.Uses.Bytes.{are-bytes}
 use Rattle.demands.specs.Uses.Figures.{oneSlice, ended, running, longer, both, waiting, verdicts, ranks, answers}
+pub mod Bytes
 pub mod Figures
 pub mod Worst
 pub mod BadSlices
@@ -70,6 +68,7 @@ pub mod Five
 pub mod OneKind
 pub mod RowOfSums
 pub mod KindFigures
+pub mod Rescue
 
 -- ---- demand 1: one outcome, and a refusal that changes nothing
 
@@ -273,15 +272,6 @@ told-by-eight = refused-when longer 0 1 .1 (in-order longer (verdicts .order-lon
     }
 
 -- ---- demand 2: plan bytes
-
-abbrev allSmall : List ℕ → Bool
-allSmall [] = true
-allSmall (x ∷ l) = ltb x 256 && allSmall l
-
-are-bytes : (l : List ℕ) → allSmall l ≡ true → AreBytes l
-are-bytes [] e i = omega arith
-are-bytes (x ∷ l) e zero = ltb-true x 256 (and-left (ltb x 256) (allSmall l) e)
-are-bytes (x ∷ l) e (suc i) = are-bytes l (and-right (ltb x 256) (allSmall l) e) i
 
 -- a byte behind plan A's is not taken
 pub twenty-two : readOf (encoded planA ++ 7 ∷ []) .taken ≡ 22

@@ -23,17 +23,19 @@ use Rattle.layout.specs.Table.{tableAnswer, tableLength}
 use Rattle.verdict.specs.Verdict.{judged}
 use Rattle.verdict.specs.Figures.{figuresOf}
 use Rattle.smallest_budget.specs.Smallest.{smallestOf}
+use Rattle.rescue.specs.Rescue.{listSize, rescueAnswer, rescueOf}
+use Rattle.rescue.specs.Roomy.{list-most, good-counts}
 use Rattle.images.specs.Image.{planSize, stateSize, planFrom, stateFrom, releasedTold}
 use Rattle.images.specs.Lent.{room}
 use Rattle.images.specs.FiguresImage.{figuresSize}
 use Rattle.demands.specs.Numbers.{recordOrder, bytesOrder, writeOrder, verdictOrder, smallestOrder, stateOrder, releaseOrder}
-use Rattle.demands.specs.Numbers.{showOrder, advanceOrder}
+use Rattle.demands.specs.Numbers.{rescueOrder, showOrder, advanceOrder, rescue-numbers}
 use Rattle.demands.specs.Numbers.{check-numbers, read-numbers, write-numbers, slot-table-numbers, judge-numbers, smallest-numbers}
 use Rattle.demands.specs.Numbers.{buildOrder, build-numbers, start-numbers, release-numbers, show-numbers, advance-numbers}
 use Rattle.demands.specs.Numbers.{figuresOrder, figures-numbers}
 use Rattle.parchbeetle.specs.Outcome.{Outcome}
 use Rattle.parchbeetle.specs.Exports.{checkAnswer, readsAnswer, writesAnswer, slotsAnswer, verdictAnswer, budgetAnswer, buildsAnswer}
-use Rattle.parchbeetle.specs.Exports.{freshAnswer}
+use Rattle.parchbeetle.specs.Exports.{rescuesAnswer, freshAnswer, RescuesPlan}
 use Rattle.parchbeetle.specs.Exports.{stateAnswer, releasesAnswer, showsAnswer, advancesAnswer}
 use Rattle.parchbeetle.specs.Exports.{Reads, WritesBytes, WritesSlots, Judges, budgetTold}
 use Rattle.parchbeetle.specs.Exports.{Builds, Starts, Releases, ShowsRow, Advances}
@@ -93,6 +95,11 @@ pub build-listed : (cards : ℕ) (list plan : List ℕ) → Numbered (9 ∷ buil
 unfolding buildsAnswer among covers
 build-listed cards list plan =
     andThen-numbered _ _ _ (wider _ buildOrder _ refl (build-numbers cards list)) (λ e. room-numbers _ refl plan planSize)
+
+-- `parchbeetle_rescue`
+pub rescue-listed : (bytes plan list : List ℕ) → Numbered rescueOrder (rescuesAnswer bytes plan list)
+unfolding rescuesAnswer rescueOf among
+rescue-listed bytes plan list = andThen-numbered _ _ _ (rescue-numbers bytes list) (λ e. room-numbers _ refl plan planSize)
 
 -- `parchbeetle_fresh`
 pub fresh-listed : (plan state : List ℕ) → Numbered (9 ∷ verdictOrder) (freshAnswer plan state)
@@ -207,6 +214,16 @@ pub build-decodes : (cards : ℕ) (list plan : List ℕ) (r : ℕ) (after : List
     Decodes (buildsAnswer cards list plan) 0 r
 unfolding small
 build-decodes cards list plan r after = read-again-none (9 ∷ buildOrder) _ _ _ r after refl (build-listed cards list plan)
+
+-- `parchbeetle_rescue`: the count is how many bytes of the list were written
+pub rescue-decodes : (bytes plan list : List ℕ) (r : ℕ) (after later : List ℕ) → RescuesPlan bytes plan list r after later →
+    Decodes (rescuesAnswer bytes plan list) (ifGood (rescuesAnswer bytes plan list) (listSize bytes) 0) r
+unfolding small rescuesAnswer
+rescue-decodes bytes plan list r after later o =
+    let a = rescuesAnswer bytes plan list in
+    rw (o .result) (told-decodes a (ifGood a (listSize bytes) 0) (numbered-holds rescueOrder a refl (rescue-listed bytes plan list))
+    (counted a (listSize bytes)
+    (λ e. let m = list-most bytes (good-counts bytes list (andThen-left (rescueAnswer bytes list) (room plan planSize) e)) in omega arith)))
 
 -- `parchbeetle_fresh`
 pub fresh-decodes : (plan state : List ℕ) (r : ℕ) (after : List ℕ) → Starts plan state r after → Decodes (freshAnswer plan state) 0 r

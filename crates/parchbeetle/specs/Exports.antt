@@ -9,6 +9,7 @@ use Rattle.laws.specs.Written.{written}
 use Rattle.answer.specs.declared.Answer.{Answer}
 use Rattle.answer.specs.Word.{told}
 use Rattle.answer.specs.Answer.{bare, refuse, _andThen_, ifGood}
+use Rattle.answer.specs.Outcome.{LeavesTwo}
 use Rattle.plan.specs.Order.{checked}
 use Rattle.plan_bytes.specs.Parts.{encoded, size}
 use Rattle.plan_bytes.specs.Reading.{readOf}
@@ -18,6 +19,7 @@ use Rattle.verdict.specs.Verdict.{judged}
 use Rattle.verdict.specs.Figures.{figuresOf}
 use Rattle.smallest_budget.specs.Smallest.{smallestOf}
 use Rattle.one_kind.specs.Built.{builtOf}
+use Rattle.rescue.specs.Rescue.{rescueAnswer, rescuedPlan, listOf, listSize}
 use Rattle.rack.specs.State.{freshOf}
 use Rattle.rack.specs.Start.{startAnswer}
 use Rattle.rack.specs.Release.{releaseAnswer, released}
@@ -103,6 +105,17 @@ buildsAnswer cards list plan = builtOf cards list .answer andThen room plan plan
 abbrev pub Builds : ℕ → List ℕ → List ℕ → ℕ → List ℕ → Type 0
 Builds cards list plan r after =
     Outcome (buildsAnswer cards list plan) 0 (planImage (builtOf cards list .plan) ++ drop planSize plan) plan r after
+
+-- `parchbeetle_rescue`: the order of rescuing, then 9 for the lent image
+unfoldable pub rescuesAnswer : List ℕ → List ℕ → List ℕ → Answer
+rescuesAnswer bytes plan list = rescueAnswer bytes list andThen room plan planSize
+
+-- the rescued plan as an image, the list of changes, and the count of the list's bytes
+abbrev pub RescuesPlan : List ℕ → List ℕ → List ℕ → ℕ → List ℕ → List ℕ → Type 0
+RescuesPlan bytes plan list =
+    let a = rescuesAnswer bytes plan list in
+    LeavesTwo (told a (ifGood a (listSize bytes) 0)) (ifGood a (planImage (rescuedPlan bytes) ++ drop planSize plan) plan)
+    (ifGood a (listOf bytes ++ drop (listSize bytes) list) list)
 
 -- ---- a state's image
 

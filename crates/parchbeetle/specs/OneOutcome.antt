@@ -3,11 +3,11 @@
 use mathlib.Core.Path.{_≡_}
 use mathlib.Core.List.{List}
 use Prim.Native.Nat.{ℕ}
-use Rattle.answer.specs.Outcome.{One, Lent}
-use Rattle.answer.specs.Outcome.Properties.{is-one, leaves-one}
+use Rattle.answer.specs.Outcome.{One, Lent, LentTwo}
+use Rattle.answer.specs.Outcome.Properties.{is-one, leaves-one, leaves-two-one}
 use Rattle.answer.specs.Word.{told}
 use Rattle.parchbeetle.specs.Exports.{checkAnswer, Reads, WritesBytes, WritesSlots, Judges, budgetTold, Builds, Starts, Releases}
-use Rattle.parchbeetle.specs.Exports.{ShowsRow, Advances}
+use Rattle.parchbeetle.specs.Exports.{RescuesPlan, ShowsRow, Advances}
 use Rattle.parchbeetle.specs.Exports.{WritesFigures}
 
 -- `parchbeetle_check`
@@ -43,6 +43,11 @@ parchbeetle-smallest-budget-one-outcome plan project = is-one _
 pub parchbeetle-build-one-outcome : (cards : ℕ) (list plan : List ℕ) →
     One (λ (o : Lent ℕ). Builds cards list plan (o .result) (o .buffer))
 parchbeetle-build-one-outcome cards list plan = leaves-one _ _
+
+-- `parchbeetle_rescue`
+pub parchbeetle-rescue-one-outcome : (bytes plan list : List ℕ) →
+    One (λ (o : LentTwo ℕ). RescuesPlan bytes plan list (o .result) (o .buffer) (o .second))
+parchbeetle-rescue-one-outcome bytes plan list = leaves-two-one _ _ _
 
 -- `parchbeetle_fresh`
 pub parchbeetle-fresh-one-outcome : (plan state : List ℕ) → One (λ (o : Lent ℕ). Starts plan state (o .result) (o .buffer))

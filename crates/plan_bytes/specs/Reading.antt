@@ -63,3 +63,13 @@ reading a p n = record { answer = a; plan = ifGood a p noPlan; taken = ifGood a 
 -- what reading answers
 unfoldable pub readOf : List ℕ → Reading
 readOf s = reading (readAnswer s) (decoded s) (size (headed s))
+
+-- ---- what stands in bytes that pass 1 and 2, whatever else is wrong with them
+
+-- "1 for the first three bytes, 2, 1 for the total" and nothing after it
+unfoldable pub countsAnswer : List ℕ → Answer
+countsAnswer s = refuse (ltb (length s) 3) (bare 1) andThen (sizes (headed s) andThen refuse (ltb (length s) (size (headed s))) (bare 1))
+
+-- the plan that such bytes say, and how many bytes it takes
+unfoldable pub standingIn : List ℕ → Reading
+standingIn s = reading (countsAnswer s) (decoded s) (size (headed s))

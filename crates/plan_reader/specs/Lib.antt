@@ -1,3 +1,3 @@
--- Reading plan bytes: what `read` answers is stated in crate `plan_bytes`.
+-- Reading plan bytes: what `read` and `standing` answer is stated in crate `plan_bytes`.
 -- Assumes nothing.
 pub mod OneOutcome

@@ -10,6 +10,7 @@ ghost use Rattle.plan.specs.Order.{sizes};
 ghost use Rattle.plan.specs.Record.{noPlan};
 ghost use Rattle.plan_bytes.specs.Parts.{projectsFrom, kindsFrom, headed, decoded, size};
 ghost use Rattle.plan_bytes.specs.Reading.{projectsSpare, kindsSpare, placesSpare, headerSpare, bodyAnswer, readOf, reading};
+ghost use Rattle.plan_bytes.specs.Reading.{standingIn};
 use answer::Answer;
 use plan::Kind;
 use plan::Plan;
@@ -154,4 +155,31 @@ pub fn read(bytes: &[u8]) -> Reading
         return refused(sizes);
     };
     body(bytes, plan, header.spare)
+}
+
+// The plan that stands at the front of bytes: 1 and 2 are asked, and nothing after them.
+pub fn standing(bytes: &[u8]) -> Reading
+    ensures { λ r. ⌜ r ≡ standingIn (now (bytes .entry)) ⌝ }
+{
+    let held = bytes.len();
+    if held < HEADER {
+        return refused(Answer::bare(1));
+    }
+    let header = part::header_from(bytes);
+    let plan = header.plan;
+    let sizes = plan.sizes();
+    let Answer::Good = sizes else {
+        return refused(sizes);
+    };
+    let total = size(plan);
+    if held < total {
+        return refused(Answer::bare(1));
+    }
+    let placed = places(bytes, plan);
+    let whole = placed.plan;
+    Reading {
+        answer: Answer::Good,
+        plan: whole,
+        taken: total,
+    }
 }

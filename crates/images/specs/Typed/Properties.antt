@@ -22,7 +22,7 @@ use Rattle.plan.specs.Order.{projectOf, kindOf, emptyProject, emptyKind, InOrde
 use Rattle.plan.specs.Order.Properties.{in-order}
 use Rattle.plan_bytes.specs.Parts.{Shaped}
 use Rattle.plan_bytes.specs.Reading.{readOf}
-use Rattle.plan_bytes.specs.RoundTrip.Reads.{empty-project, empty-kind, unused-place}
+use Rattle.plan_bytes.specs.RoundTrip.Reads.{Passes, order-passes, empty-project, empty-kind, unused-place}
 use Rattle.plan_bytes.specs.RoundTrip.Writes.{read-shaped, read-checked}
 use Rattle.rack.specs.declared.State.{State}
 use Rattle.unit.specs.Unit.{noUnit}
@@ -109,7 +109,7 @@ none-typed =
       kind-fits = λ i l. rw (getD-replicate 16 i noKind noKind l) (omega arith, (omega arith, (omega arith, (omega arith, tt))));
     }
 
-module _ (p : Plan) (shaped : Shaped p) (order : InOrder p) where
+module _ (p : Plan) (shaped : Shaped p) (order : Passes p) where
   order-project : (j : ℕ) → j < 8 → Dec (j < p .projects) → Fitting projectWidths (projectFields (projectOf p j))
   order-project j l (yes u) =
       let v = projectOf p j in
@@ -136,9 +136,9 @@ module _ (p : Plan) (shaped : Shaped p) (order : InOrder p) where
       rw (empty-kind (kindOf p i) (unused-place i (p .kinds) (emptyKind (kindOf p i)) (omega arith) (order .kinds-tidy i l)))
       (omega arith, (omega arith, (omega arith, (omega arith, tt))))
 
-  -- a plan in order
-  pub order-typed : PlanTyped p
-  order-typed =
+  -- a plan that passes 2 to 6
+  pub passes-typed : PlanTyped p
+  passes-typed =
       let c = order .counts in
       let m = c .cards-most in
       let k = c .projects-most in
@@ -160,7 +160,7 @@ pub read-typed : (s : List ℕ) → PlanTyped (readOf s .plan)
 read-typed s = go (readOf s .answer) refl
   where
     go : (a : Answer) → readOf s .answer ≡ a → PlanTyped (readOf s .plan)
-    go Good e = order-typed (readOf s .plan) (read-shaped s e) (in-order (readOf s .plan) (read-checked s e))
+    go Good e = passes-typed (readOf s .plan) (read-shaped s e) (order-passes (readOf s .plan) (in-order (readOf s .plan) (read-checked s e)))
     go (No w) e = rw (read-none s w e) none-typed
 
 -- ---- handed back by the rack

@@ -26,7 +26,7 @@ use Rattle.plan_bytes.specs.Parts.{projectAt, kindAt, projectFrom, kindF
 use Rattle.plan_bytes.specs.Parts.{headed, decoded, size}
 use Rattle.codec.specs.Places.Properties.{handed-on}
 use Rattle.plan_bytes.specs.Reading.{headerSpare, projectSpare, kindSpare, projectsSpare, kindsSpare, placesSpare, spareZero}
-use Rattle.plan_bytes.specs.Reading.{bodyAnswer, readAnswer, reading, readOf}
+use Rattle.plan_bytes.specs.Reading.{bodyAnswer, readAnswer, reading, readOf, countsAnswer, standingIn}
 
 -- ---- the steps of the loops over the spare bits
 
@@ -178,3 +178,45 @@ read-body s p x r l e h q f =
     let a : bodyAnswer s ≡ readAnswer s =
     read-long s (bodyAnswer s) l (opened-on x (sizes (headed s)) (bodyAnswer s) (bodyAnswer s) h (q ∙ ap sizes e) refl) in
     f ∙ ap₂ (λ (b : Answer) (n : ℕ). reading b (decoded s) n) a (ap size e)
+
+-- ---- the ways out where only 1 and 2 are asked
+
+pub counts-short : (s : List ℕ) (x : Answer) → x ≡ bare 1 → length s < 3 → x ≡ countsAnswer s
+unfolding countsAnswer
+counts-short s x b l =
+    opened-no x (refuse (ltb (length s) 3) (bare 1)) (sizes (headed s) andThen refuse (ltb (length s) (size (headed s))) (bare 1)) _ b
+    (rw (lt-ltb (length s) 3 l) b)
+
+counts-long : (s : List ℕ) (x : Answer) → 3 ≤ length s
+    → x ≡ (sizes (headed s) andThen refuse (ltb (length s) (size (headed s))) (bare 1)) → x ≡ countsAnswer s
+unfolding countsAnswer
+counts-long s x l q =
+    stage-on (refuse (ltb (length s) 3) (bare 1)) (sizes (headed s) andThen refuse (ltb (length s) (size (headed s))) (bare 1)) x
+    (rw (le-ltb (length s) 3 l)) q
+
+pub counts-sizes : (s : List ℕ) (p : Plan) (x : Answer) (w : Refusal) → 3 ≤ length s → p ≡ headed s → x ≡ No w → x ≡ sizes p
+    → x ≡ countsAnswer s
+counts-sizes s p x w l e h q =
+    counts-long s x l (opened-no x (sizes (headed s)) (refuse (ltb (length s) (size (headed s))) (bare 1)) w h (q ∙ ap sizes e))
+
+pub counts-total : (s : List ℕ) (p : Plan) (a x : Answer) (total : ℕ) → 3 ≤ length s → p ≡ headed s → a ≡ Good → a ≡ sizes p
+    → x ≡ bare 1 → total ≡ size p → length s < total → x ≡ countsAnswer s
+counts-total s p a x total l e h q b t k =
+    let n = ap size e in
+    counts-long s x l
+    (opened-on a (sizes (headed s)) (refuse (ltb (length s) (size (headed s))) (bare 1)) x h (q ∙ ap sizes e)
+    (rw (lt-ltb (length s) (size (headed s)) (omega arith)) b))
+
+pub counts-good : (s : List ℕ) (p : Plan) (a : Answer) (total : ℕ) → 3 ≤ length s → p ≡ headed s → a ≡ Good → a ≡ sizes p
+    → total ≡ size p → total ≤ length s → Good ≡ countsAnswer s
+counts-good s p a total l e h q t k =
+    let n = ap size e in
+    counts-long s Good l
+    (opened-on a (sizes (headed s)) (refuse (ltb (length s) (size (headed s))) (bare 1)) Good h (q ∙ ap sizes e)
+    (rw (le-ltb (length s) (size (headed s)) (omega arith))))
+
+pub standing-good : (s : List ℕ) (p q : Plan) (a : Answer) (total : ℕ) → 3 ≤ length s → p ≡ headed s → a ≡ Good → a ≡ sizes p
+    → total ≡ size p → total ≤ length s → q ≡ decoded s → record { answer = Good; plan = q; taken = total } ≡ standingIn s
+unfolding standingIn
+standing-good s p q a total l e h z t k f =
+    good-reading Good (countsAnswer s) (decoded s) (size (headed s)) q total refl (counts-good s p a total l e h z t k) f (t ∙ ap size e)

@@ -56,15 +56,15 @@ module _ (s t : List ℕ) (long : size (headed s) ≤ length s) (other : size (h
       (λ i m. getD-drop off (drop at s) i 0 ∙ getD-drop at s (off + i) 0 ∙ same (at + (off + i)) (omega arith)
       ∙ sym (getD-drop off (drop at t) i 0 ∙ getD-drop at t (off + i) 0))
 
-  header-same : headerFields s ≡ headerFields t
+  pub header-same : headerFields s ≡ headerFields t
   unfolding headerFields
   header-same = ap (unpack headerWidths) (numbers 3 0 0 (omega (arith, total)))
 
-  headed-same : headed s ≡ headed t
+  pub headed-same : headed s ≡ headed t
   unfolding headed
   headed-same = rw header-same
 
-  project-same : (j : ℕ) → j < headed s .projects
+  pub project-same : (j : ℕ) → j < headed s .projects
       → projectFields (projectAt (afterHeader s) j) ≡ projectFields (projectAt (afterHeader t) j)
   unfolding projectFields
   project-same j l = ap (unpack projectWidths) (numbers 2 3 (2 * j) (omega (arith, total)))
@@ -73,7 +73,7 @@ module _ (s t : List ℕ) (long : size (headed s) ≤ length s) (other : size (h
   after-same : afterProjects t ≡ drop (3 + 2 * headed s .projects) t
   after-same = ap (λ (p : Plan). drop (3 + 2 * p .projects) t) (sym headed-same)
 
-  kind-same : (i : ℕ) → i < headed s .kinds → kindFields (kindAt (afterProjects s) i) ≡ kindFields (kindAt (afterProjects t) i)
+  pub kind-same : (i : ℕ) → i < headed s .kinds → kindFields (kindAt (afterProjects s) i) ≡ kindFields (kindAt (afterProjects t) i)
   unfolding kindFields
   kind-same i l =
       ap (unpack kindWidths) (numbers 5 (3 + 2 * headed s .projects) (5 * i) (omega (arith, total)))
@@ -99,7 +99,7 @@ module _ (s t : List ℕ) (long : size (headed s) ≤ length s) (other : size (h
       made : List ℕ → Kind
       made l = record { project = getD l 0 0; separation = getD l 1 0; deadline = getD l 2 0; length = getD l 3 0 }
 
-  decoded-same : decoded s ≡ decoded t
+  pub decoded-same : decoded s ≡ decoded t
   unfolding decoded
   decoded-same =
       let h = headed-same in

@@ -21,10 +21,10 @@ use Rattle.plan.specs.declared.Plan.{Plan}
 use Rattle.answer.specs.declared.Answer.the-variants.{Good}
 use Rattle.plan.specs.Record.{noProject, noKind}
 use Rattle.answer.specs.Answer.{_andThen_}
-use Rattle.answer.specs.Answer.Properties.{andThen-left, andThen-right}
+use Rattle.answer.specs.Answer.Properties.{andThen-right}
 use Rattle.plan.specs.Order.{projectOf, kindOf, emptyProject, emptyKind, sized, sizes, unused, ranges, checked, InOrder, ProjectInRange}
-use Rattle.plan.specs.Order.{KindInRange}
-use Rattle.plan.specs.Order.Properties.{in-order}
+use Rattle.plan.specs.Order.{KindInRange, Sized, tidyProject, tidyKind}
+use Rattle.plan.specs.Order.Properties.{in-order, sizes-of}
 use Rattle.codec.specs.Pack.{unpack}
 use Rattle.codec.specs.Bytes.{numberTo}
 use Rattle.codec.specs.Place.{placed, fieldsOf}
@@ -93,27 +93,34 @@ sizes-same p q a b c d = rw (a, b, c, d)
 pub unused-place : (j n : ℕ) (e : Bool) → n ≤ j → (ltb j n || e) ≡ true → e ≡ true
 unused-place j n e l t = rw (le-ltb j n l) at t
 
--- ---- a plan in order, its bytes and what follows them
+-- ---- a plan that passes 2 to 6, its bytes and what follows them
 
-module _ (p : Plan) (shaped : Shaped p) (good : checked p ≡ Good) (rest : List ℕ) where
-  order : InOrder p
-  order = in-order p good
+-- what a plan in order is but for the sum of its budgets
+pub record Passes (p : Plan) : Type 0 where
+  pub counts : Sized p
+  pub projects-tidy : (j : ℕ) → j < 8 → tidyProject p j ≡ true
+  pub kinds-tidy : (i : ℕ) → i < 16 → tidyKind p i ≡ true
+  pub project-at : (j : ℕ) → j < p .projects → ProjectInRange p (projectOf p j)
+  pub kind-at : (i : ℕ) → i < p .kinds → KindInRange p (kindOf p i)
 
+pub order-passes : (p : Plan) → InOrder p → Passes p
+order-passes p o =
+    record {
+      counts = o .counts;
+      projects-tidy = o .projects-tidy;
+      kinds-tidy = o .kinds-tidy;
+      project-at = o .project-at;
+      kind-at = o .kind-at;
+    }
+
+module _ (p : Plan) (shaped : Shaped p) (order : Passes p) (rest : List ℕ) where
   projects-part : List ℕ
   projects-part = partsTo (p .projects) (projectBytesAt p)
 
   kinds-part : List ℕ
   kinds-part = partsTo (p .kinds) (kindBytesAt p)
 
-  stage-one : sizes p ≡ Good
-  unfolding checked
-  stage-one = andThen-left (sizes p) (unused p andThen ranges p) good
-
-  stage-ranges : ranges p ≡ Good
-  unfolding checked
-  stage-ranges = andThen-right (unused p) (ranges p) (andThen-right (sizes p) (unused p andThen ranges p) good)
-
-  all : List ℕ
+  unfoldable pub all : List ℕ
   all = encoded p ++ rest
 
   all-split : all ≡ headerBytes p ++ (projects-part ++ (kinds-part ++ rest))
@@ -121,7 +128,7 @@ module _ (p : Plan) (shaped : Shaped p) (good : checked p ≡ Good) (rest : List
   all-split = simp append-assoc
 
   -- the header
-  header-all : headerFields all ≡ p .cards ∷ p .projects ∷ p .kinds ∷ p .frame ∷ 0 ∷ []
+  pub header-all : headerFields all ≡ p .cards ∷ p .projects ∷ p .kinds ∷ p .frame ∷ 0 ∷ []
   unfolding headerFields headerBytes placed fieldsOf
   header-all =
       let c = order .counts in
@@ -137,11 +144,11 @@ module _ (p : Plan) (shaped : Shaped p) (good : checked p ≡ Good) (rest : List
   unfolding headed
   headed-cards = ap (λ (s : List ℕ). getD s 0 0) header-all
 
-  headed-projects : headed all .projects ≡ p .projects
+  pub headed-projects : headed all .projects ≡ p .projects
   unfolding headed
   headed-projects = ap (λ (s : List ℕ). getD s 1 0) header-all
 
-  headed-kinds : headed all .kinds ≡ p .kinds
+  pub headed-kinds : headed all .kinds ≡ p .kinds
   unfolding headed
   headed-kinds = ap (λ (s : List ℕ). getD s 2 0) header-all
 
@@ -149,7 +156,7 @@ module _ (p : Plan) (shaped : Shaped p) (good : checked p ≡ Good) (rest : List
   unfolding headed
   headed-frame = ap (λ (s : List ℕ). getD s 3 0) header-all
 
-  headed-size : size (headed all) ≡ size p
+  pub headed-size : size (headed all) ≡ size p
   unfolding size
   headed-size = ap₂ (λ (k n : ℕ). 3 + 2 * k + 5 * n) headed-projects headed-kinds
 
@@ -170,7 +177,7 @@ module _ (p : Plan) (shaped : Shaped p) (good : checked p ≡ Good) (rest : List
       ∙ ap (drop (3 + 2 * p .projects)) (all-split ∙ sym (append-assoc (headerBytes p) projects-part (kinds-part ++ rest)))
       ∙ drop-at (headerBytes p ++ projects-part) (kinds-part ++ rest) (3 + 2 * p .projects) k
 
-  project-all : (j : ℕ) → j < p .projects
+  pub project-all : (j : ℕ) → j < p .projects
       → projectFields (projectAt (afterHeader all) j) ≡ projectOf p j .ceiling ∷ projectOf p j .budget ∷ 0 ∷ []
   unfolding projects-part
   project-all j l =
@@ -178,7 +185,7 @@ module _ (p : Plan) (shaped : Shaped p) (good : checked p ≡ Good) (rest : List
       ap (λ (s : List ℕ). projectFields (drop (2 * j) s)) after-header ∙ ap projectFields (t .1)
       ∙ project-fields p (projectOf p j) (t .0) (order .counts .cards-most) (order .counts .frame-most) (order .project-at j l)
 
-  kind-all : (i : ℕ) → i < p .kinds
+  pub kind-all : (i : ℕ) → i < p .kinds
       → kindFields
       (kindAt (afterProjects all) i) ≡ kindOf p i .project ∷ kindOf p i .separation ∷ kindOf p i .deadline ∷ kindOf p i .length ∷ 0 ∷ []
   unfolding kinds-part
@@ -244,7 +251,7 @@ module _ (p : Plan) (shaped : Shaped p) (good : checked p ≡ Good) (rest : List
                 ∙ sym (empty-kind (kindOf p i) (unused-place i (p .kinds) (emptyKind (kindOf p i)) (omega arith) (order .kinds-tidy i m)))
           ]
 
-  decoded-all : decoded all ≡ p
+  pub decoded-all : decoded all ≡ p
   unfolding decoded
   decoded-all =
       λ i. record {
@@ -258,8 +265,8 @@ module _ (p : Plan) (shaped : Shaped p) (good : checked p ≡ Good) (rest : List
       }
 
   -- the stages
-  sizes-all : sizes (headed all) ≡ Good
-  sizes-all = sizes-same (headed all) p headed-cards headed-projects headed-kinds headed-frame ∙ stage-one
+  pub sizes-all : sizes (headed all) ≡ Good
+  sizes-all = sizes-same (headed all) p headed-cards headed-projects headed-kinds headed-frame ∙ sizes-of p (order .counts)
 
   header-clean : eqb (headerSpare all) 0 ≡ true
   unfolding headerSpare
@@ -286,7 +293,7 @@ module _ (p : Plan) (shaped : Shaped p) (good : checked p ≡ Good) (rest : List
       (and-both (projectsSpare (headed all .projects) (afterHeader all))
       (kindsSpare (headed all .kinds) (afterProjects all)) projects-clean kinds-clean)
 
-  all-long : size p ≤ length all
+  pub all-long : size p ≤ length all
   unfolding all size encoded projects-part kinds-part
   all-long =
       let h = header-length p in
@@ -300,24 +307,32 @@ module _ (p : Plan) (shaped : Shaped p) (good : checked p ≡ Good) (rest : List
         projects-length,
       )
 
-  ranges-all : ranges (decoded all) ≡ Good
-  ranges-all = ap ranges decoded-all ∙ stage-ranges
+  -- one where the budgets fit too
+  module _ (good : checked p ≡ Good) where
+    ranges-all : ranges (decoded all) ≡ Good
+    unfolding checked
+    ranges-all = ap ranges decoded-all
+        ∙ andThen-right (unused p) (ranges p) (andThen-right (sizes p) (unused p andThen ranges p) good)
 
-  answer-all : readAnswer all ≡ Good
-  unfolding readAnswer bodyAnswer
-  answer-all =
-      let l = all-long in
-      let e = headed-size in
-      rw (
-        le-ltb (length all) 3 (size-header p (length all) l),
-        sizes-all,
-        le-ltb (length all) (size (headed all))
-            (omega arith),
-        spare-all,
-        ranges-all,
-      )
+    answer-all : readAnswer all ≡ Good
+    unfolding readAnswer bodyAnswer
+    answer-all =
+        let l = all-long in
+        let e = headed-size in
+        rw (
+          le-ltb (length all) 3 (size-header p (length all) l),
+          sizes-all,
+          le-ltb (length all) (size (headed all))
+              (omega arith),
+          spare-all,
+          ranges-all,
+        )
 
-  pub read-encoded : readOf (encoded p ++ rest) ≡ record { answer = Good; plan = p; taken = size p }
-  unfolding readOf all
-  read-encoded = ap (λ a. reading a (decoded all) (size (headed all))) answer-all
-      ∙ (λ i. record { answer = Good; plan = decoded-all i; taken = headed-size i })
+    read-all : readOf (encoded p ++ rest) ≡ record { answer = Good; plan = p; taken = size p }
+    unfolding readOf all
+    read-all = ap (λ a. reading a (decoded all) (size (headed all))) answer-all
+        ∙ (λ i. record { answer = Good; plan = decoded-all i; taken = headed-size i })
+
+pub read-encoded : (p : Plan) → Shaped p → checked p ≡ Good → (rest : List ℕ)
+    → readOf (encoded p ++ rest) ≡ record { answer = Good; plan = p; taken = size p }
+read-encoded p shaped good rest = read-all p shaped (order-passes p (in-order p good)) rest good

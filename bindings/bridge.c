@@ -1,8 +1,8 @@
 /* The library for a Rust program on a machine that cannot link it: makes the calls that come on standard input.
  *
- * A call is the function's number in a byte; the lengths of its two buffers in 4 bytes each, and its two numbers
- * in 8 bytes each, high byte first; and the bytes of both buffers. What comes back is the answer in 8 bytes, and
- * the bytes of both buffers. A byte that is changed beside a buffer ends it with 3. */
+ * A call is the function's number in a byte; the lengths of its three buffers in 4 bytes each, and its two numbers
+ * in 8 bytes each, high byte first; and the bytes of the buffers. What comes back is the answer in 8 bytes, and
+ * the bytes of the buffers. A byte that is changed beside a buffer ends it with 3. */
 #include <stdio.h>
 #include <stdlib.h>
 #include <string.h>
@@ -54,7 +54,8 @@ static void give_fenced(uint8_t *room, size_t count) {
     free(room);
 }
 
-static uint64_t called(unsigned function, uint8_t *a, size_t a_len, uint8_t *b, size_t b_len, uint64_t x, uint64_t y) {
+static uint64_t called(unsigned function, uint8_t *a, size_t a_len, uint8_t *b, size_t b_len, uint8_t *c, size_t c_len, uint64_t x,
+                       uint64_t y) {
     switch (function) {
     case 0:
         return parchbeetle_check(a, a_len);
@@ -71,14 +72,16 @@ static uint64_t called(unsigned function, uint8_t *a, size_t a_len, uint8_t *b, 
     case 6:
         return parchbeetle_build(x, a, a_len, b, b_len);
     case 7:
-        return parchbeetle_fresh(a, a_len, b, b_len);
+        return parchbeetle_rescue(a, a_len, b, b_len, c, c_len);
     case 8:
-        return parchbeetle_release(a, a_len, x, y);
+        return parchbeetle_fresh(a, a_len, b, b_len);
     case 9:
-        return parchbeetle_show(a, a_len, b, b_len);
+        return parchbeetle_release(a, a_len, x, y);
     case 10:
-        return parchbeetle_advance(a, a_len);
+        return parchbeetle_show(a, a_len, b, b_len);
     case 11:
+        return parchbeetle_advance(a, a_len);
+    case 12:
         return parchbeetle_figures(a, a_len, x, b, b_len);
     default:
         fprintf(stderr, "bridge: no function %u\n", function);
@@ -90,17 +93,18 @@ int main(void) {
     setvbuf(stdin, NULL, _IOFBF, 1 << 16);
     setvbuf(stdout, NULL, _IOFBF, 1 << 16);
     for (;;) {
-        uint8_t head[25], tail[8];
+        uint8_t head[29], tail[8];
         take(head, sizeof head);
-        size_t a_len = number(head + 1, 4), b_len = number(head + 5, 4);
-        uint8_t *a = fenced(a_len), *b = fenced(b_len);
-        uint64_t answer = called(head[0], a + FENCE, a_len, b + FENCE, b_len, number(head + 9, 8), number(head + 17, 8));
+        size_t a_len = number(head + 1, 4), b_len = number(head + 5, 4), c_len = number(head + 9, 4);
+        uint8_t *a = fenced(a_len), *b = fenced(b_len), *c = fenced(c_len);
+        uint64_t answer = called(head[0], a + FENCE, a_len, b + FENCE, b_len, c + FENCE, c_len, number(head + 13, 8), number(head + 21, 8));
         for (int i = 0; i < 8; i++) {
             tail[i] = (uint8_t)(answer >> 8 * (7 - i));
         }
         give(tail, sizeof tail);
         give_fenced(a, a_len);
         give_fenced(b, b_len);
+        give_fenced(c, c_len);
         fflush(stdout);
     }
 }

@@ -30,9 +30,9 @@ extern "C" {
  * change them; an image belongs to the version that made it. Plan bytes are read by
  * every later version.
  */
-#define PARCHBEETLE_VERSION "0.7.0"
+#define PARCHBEETLE_VERSION "0.8.0"
 #define PARCHBEETLE_VERSION_MAJOR 0
-#define PARCHBEETLE_VERSION_MINOR 7
+#define PARCHBEETLE_VERSION_MINOR 8
 #define PARCHBEETLE_VERSION_PATCH 0
 
 /* ---- Images */
@@ -96,9 +96,23 @@ extern "C" {
 #define PARCHBEETLE_FIGURES_SUPPLY_AT(k) (4u * (k))
 #define PARCHBEETLE_FIGURES_SLICE_AT(k) (35u + (k))
 
-/* The most bytes that a plan, a slot table or a row can take. */
+/*
+ * What a rescue lists: six bytes for each change. A place is the project's or the kind's
+ * number in the original; 0 for the header. A dropped kind has both values 0.
+ */
+#define PARCHBEETLE_CHANGE_FIELDS(field)                                                \
+    field(what, 1)        /* spare bits of 1 the header, 2 a project, 3 a kind; 4 a     \
+                             ceiling, 5 a budget, 6 a deadline; 7 a dropped kind */     \
+    field(place, 1)                                                                     \
+    field(old_value, 2)                                                                 \
+    field(new_value, 2)
+
+#define PARCHBEETLE_CHANGE_BYTES 6u
+
+/* The most bytes that a plan, a slot table, the list of a rescue or a row can take. */
 #define PARCHBEETLE_MOST_PLAN_BYTES 99u
 #define PARCHBEETLE_MOST_TABLE_BYTES 512u
+#define PARCHBEETLE_MOST_LIST_BYTES 342u
 #define PARCHBEETLE_MOST_ROW_BYTES 8u
 
 /*
@@ -113,7 +127,11 @@ extern "C" {
  *   uint32_t parchbeetle_unit_left(const uint8_t *state, size_t kind);
  *   uint32_t parchbeetle_sum_left(const uint8_t *state, size_t project);
  *
- * and so on. The image must be whole. A state image begins with its plan image, so
+ * and so on; a change of a list is only read:
+ *
+ *   uint32_t parchbeetle_change_what(const uint8_t *list, size_t change);
+ *
+ * The image must be whole. A state image begins with its plan image, so
  * the functions of plan, project and kind take either. A place that is not there
  * reads as 0 and is not written. A value too wide for its field is stored as the
  * widest that fits, which every call refuses.
@@ -126,9 +144,9 @@ extern "C" {
  *
  *   bits 0-7    number: 0 for a good answer, else one of those below
  *   bits 8-15   place: the project (with 4) or the kind (with 5, 6, 8); else 0
- *   bits 16-31  count: bytes taken (read) or written (write, slot_table), the least
- *               budget (smallest_budget), or how many k there are (figures); 0 for
- *               the other functions and on a refusal
+ *   bits 16-31  count: bytes taken (read) or written (write, slot_table; of the list:
+ *               rescue), the least budget (smallest_budget), or how many k there are
+ *               (figures); 0 for the other functions and on a refusal
  *   bits 32-55  excess (with 8): the slices by which the unit is too long. With a
  *               length that is shorter by so much or more the kind has a k, by less it
  *               has none; where no length fits it is the whole length. Else 0
@@ -168,6 +186,7 @@ extern "C" {
     number(17, "cards out of range, or no list of kinds")                       \
     number(18, "more than eight kinds are listed")                              \
     number(19, "the separations' greatest common divisor exceeds 64")           \
+    number(20, "no kind remains")                                               \
     number(27, "there is no such project")
 
 /* A number in words, as above. */
@@ -231,6 +250,23 @@ uint64_t parchbeetle_smallest_budget(const uint8_t *plan, size_t plan_len, uint6
  */
 uint64_t parchbeetle_build(uint64_t cards, const uint8_t *list, size_t list_len, uint8_t *plan,
                            size_t plan_len);
+
+/*
+ * Rescues damaged plan bytes: a plan that passes 2 to 6 (its budgets may still sum
+ * above the cards times the frame: parchbeetle_check then says 7) into the first 140
+ * bytes at `plan`, and each change into `list`. The count is the bytes of the list, six
+ * for each change, 0 where nothing was to be done. In this order: spare bits are
+ * cleared, of the header, the projects and the kinds; by project a ceiling of 0 becomes
+ * 1 and one above m becomes m, then a budget of 0 becomes 1 and one above qF becomes qF;
+ * by kind a deadline above its separation becomes that, and then the kind is dropped if
+ * its project is not there or its length is 0 or above its deadline; later kinds move
+ * up. A dropped kind is listed once, as that. Nothing behind the plan's bytes is looked
+ * at.
+ * Refusals, in order: 1 (first three bytes), 2, 1 (the total), 20; then 9 (list_len
+ * below the list's bytes, or plan_len below 140).
+ */
+uint64_t parchbeetle_rescue(const uint8_t *bytes, size_t bytes_len, uint8_t *plan, size_t plan_len,
+                            uint8_t *list, size_t list_len);
 
 /* ---- Running */
 
@@ -308,6 +344,9 @@ struct parchbeetle_plan {
     struct parchbeetle_project project[8];
     struct parchbeetle_kind kind[16];
 };
+struct parchbeetle_change {
+    PARCHBEETLE_CHANGE_FIELDS(PARCHBEETLE_BYTES_)
+};
 struct parchbeetle_unit {
     PARCHBEETLE_UNIT_FIELDS(PARCHBEETLE_BYTES_)
 };
@@ -324,7 +363,8 @@ struct parchbeetle_state {
 
 /* The lists have the images' sizes, else this does not compile. */
 typedef char parchbeetle_sizes_[sizeof(struct parchbeetle_plan) == PARCHBEETLE_PLAN_IMAGE &&
-                                        sizeof(struct parchbeetle_state) == PARCHBEETLE_STATE_IMAGE
+                                        sizeof(struct parchbeetle_state) == PARCHBEETLE_STATE_IMAGE &&
+                                        sizeof(struct parchbeetle_change) == PARCHBEETLE_CHANGE_BYTES
                                     ? 1
                                     : -1];
 
@@ -373,6 +413,11 @@ static inline void parchbeetle_put_(uint8_t *field, size_t bytes, uint64_t value
             parchbeetle_put_(image + parchbeetle_at_##part##_##field(part), bytes, value);       \
         }                                                                                        \
     }
+#define PARCHBEETLE_OF_CHANGE_(field, bytes)                                                 \
+    static inline uint32_t parchbeetle_change_##field(const uint8_t *list, size_t change) {  \
+        size_t at = change * sizeof(struct parchbeetle_change);                              \
+        return parchbeetle_get_(list + at + offsetof(struct parchbeetle_change, field), bytes); \
+    }
 #define PARCHBEETLE_OF_PLAN_(field, bytes) PARCHBEETLE_ONCE_(plan, field, bytes)
 #define PARCHBEETLE_OF_PROJECT_(field, bytes) PARCHBEETLE_EACH_(plan, project, 8, field, bytes)
 #define PARCHBEETLE_OF_KIND_(field, bytes) PARCHBEETLE_EACH_(plan, kind, 16, field, bytes)
@@ -385,6 +430,7 @@ PARCHBEETLE_KIND_FIELDS(PARCHBEETLE_OF_KIND_)
 PARCHBEETLE_STATE_FIELDS(PARCHBEETLE_OF_STATE_)
 PARCHBEETLE_UNIT_FIELDS(PARCHBEETLE_OF_UNIT_)
 PARCHBEETLE_SUM_FIELDS(PARCHBEETLE_OF_SUM_)
+PARCHBEETLE_CHANGE_FIELDS(PARCHBEETLE_OF_CHANGE_)
 #undef PARCHBEETLE_ONCE_
 #undef PARCHBEETLE_EACH_
 #undef PARCHBEETLE_OF_PLAN_
@@ -393,6 +439,7 @@ PARCHBEETLE_SUM_FIELDS(PARCHBEETLE_OF_SUM_)
 #undef PARCHBEETLE_OF_STATE_
 #undef PARCHBEETLE_OF_UNIT_
 #undef PARCHBEETLE_OF_SUM_
+#undef PARCHBEETLE_OF_CHANGE_
 
 #ifdef __cplusplus
 }

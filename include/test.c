@@ -146,6 +146,35 @@ static void functions(void) {
     answers("build, no room", parchbeetle_build(2, alone, 12, wrong, PLAN - 1), 9, 0, 0, 0);
     expect("a refusal keeps the plan", memcmp(wrong, made, PLAN) == 0);
 
+    /* Plan A with a spare bit, ceiling 0 of project 1 (and so its budget of 5 above 4), and kind 0 of no project. */
+    static const uint8_t listed[24] = {1, 0, 0, 2, 0, 0, 4, 1, 0, 0, 0, 1, 5, 1, 0, 5, 0, 4, 7, 0, 0, 0, 0, 0};
+    uint8_t damaged[22], list[26];
+    memcpy(damaged, bytes_a, 22);
+    damaged[2] |= 2;
+    damaged[5] &= 0x0f;
+    damaged[7] |= 0x40;
+    memset(wrong, 0xee, PLAN);
+    memset(list, 0xee, sizeof list);
+    answers("rescue, no bytes", parchbeetle_rescue(damaged, 2, wrong, PLAN, list, 24), 1, 0, 0, 0);
+    answers("rescue, short", parchbeetle_rescue(damaged, 21, wrong, PLAN, list, 24), 1, 0, 0, 0);
+    answers("rescue, no room for the list", parchbeetle_rescue(damaged, 22, wrong, PLAN, list, 23), 9, 0, 0, 0);
+    answers("rescue, no room for the plan", parchbeetle_rescue(damaged, 22, wrong, PLAN - 1, list, 24), 9, 0, 0, 0);
+    damaged[0] = 0x02;
+    answers("rescue, no cards", parchbeetle_rescue(damaged, 22, wrong, PLAN, list, 24), 2, 0, 0, 0);
+    damaged[0] = 0x22;
+    expect("a refusal keeps both", wrong[0] == 0xee && wrong[PLAN - 1] == 0xee && list[0] == 0xee && list[23] == 0xee);
+    answers("rescue", parchbeetle_rescue(damaged, 22, wrong, PLAN, list, 26), 0, 0, 24, 0);
+    expect("the list", memcmp(list, listed, 24) == 0 && list[24] == 0xee && list[25] == 0xee);
+    expect("a change by its fields", parchbeetle_change_what(list, 2) == 5 && parchbeetle_change_place(list, 2) == 1 &&
+                                         parchbeetle_change_old_value(list, 2) == 5 && parchbeetle_change_new_value(list, 2) == 4);
+    expect("the plan rescued", parchbeetle_plan_kinds(wrong) == 2 && parchbeetle_kind_length(wrong, 1) == 2 &&
+                                   parchbeetle_kind_separation(wrong, 2) == 0 && parchbeetle_project_ceiling(wrong, 1) == 1);
+    answers("check, rescued", parchbeetle_check(wrong, PLAN), 0, 0, 0, 0);
+    answers("rescue, in order", parchbeetle_rescue(bytes_a, 22, wrong, PLAN, list, 0), 0, 0, 0, 0);
+    expect("the plan in order", memcmp(wrong, plan, PLAN) == 0);
+    memset(damaged + 7, 0, 15);
+    answers("rescue, no kind remains", parchbeetle_rescue(damaged, 22, wrong, PLAN, list, 0), 20, 0, 0, 0);
+
     answers("fresh", parchbeetle_fresh(plan, PLAN, state, STATE), 0, 0, 0, 0);
     expect("the plan in the state", memcmp(state, plan, PLAN) == 0);
     expect("the sums of a fresh start", parchbeetle_sum_left(state, 0) == 0 && parchbeetle_sum_left(state, 1) == 0);
@@ -276,7 +305,7 @@ static void words(void) {
     expect("0 in words", strcmp(parchbeetle_words(0), "good") == 0);
     for (unsigned number = 1; number < 28; number++) {
         int known = strcmp(parchbeetle_words(number), parchbeetle_words(28)) != 0;
-        expect("a number in words", known == (number < 20 || number == 27));
+        expect("a number in words", known == (number < 21 || number == 27));
     }
     expect("28 is no number", strcmp(parchbeetle_words(28), "no number of this version") == 0);
 }

@@ -7,7 +7,7 @@ pub struct Answer {
     pub number: u8,
     /// The project or the kind that a refusal is about, where its number has one.
     pub place: u8,
-    /// Bytes taken or written, or the least budget.
+    /// Bytes taken or written (of a rescue those of the list), or the least budget.
     pub count: u16,
     /// By how many slices a unit is too long; 24 bits.
     pub excess: u32,
@@ -46,7 +46,7 @@ impl Answer {
 }
 
 /// Each number with a short sentence, as in the header.
-pub const NUMBERS: [(u8, &str); 21] = [
+pub const NUMBERS: [(u8, &str); 22] = [
     (0, "good"),
     (1, "fewer bytes than a plan takes"),
     (2, "cards, projects, kinds or frame out of range"),
@@ -73,6 +73,7 @@ pub const NUMBERS: [(u8, &str); 21] = [
     (17, "cards out of range, or no list of kinds"),
     (18, "more than eight kinds are listed"),
     (19, "the separations' greatest common divisor exceeds 64"),
+    (20, "no kind remains"),
     (27, "there is no such project"),
 ];
 

@@ -47,7 +47,7 @@ impl Bridge {
     }
 
     /// Sends a call; the function's number is the bridge's.
-    fn send(&mut self, function: u8, buffers: [&[u8]; 2], numbers: [u64; 2]) {
+    fn send(&mut self, function: u8, buffers: [&[u8]; 3], numbers: [u64; 2]) {
         self.bytes.clear();
         self.bytes.push(function);
         for buffer in buffers {
@@ -75,19 +75,27 @@ impl Bridge {
     }
 }
 
-/// One call; the first buffer as it is after it comes back, the second is changed in place.
-fn call(function: u8, given: &[u8], lent: &mut [u8], numbers: [u64; 2]) -> (u64, Vec<u8>) {
+/// One call; the first buffer as it is after it comes back, the others are changed in place.
+fn call(function: u8, given: &[u8], lent: [&mut [u8]; 2], numbers: [u64; 2]) -> (u64, Vec<u8>) {
+    let [one, other] = lent;
     BRIDGE.with_borrow_mut(|bridge| {
-        bridge.send(function, [given, lent], numbers);
-        let (answer, buffers) = bridge.received(given.len() + lent.len());
-        let (first, second) = buffers.split_at(given.len());
-        lent.copy_from_slice(second);
+        bridge.send(function, [given, one, other], numbers);
+        let (answer, buffers) = bridge.received(given.len() + one.len() + other.len());
+        let (first, rest) = buffers.split_at(given.len());
+        let (second, third) = rest.split_at(one.len());
+        one.copy_from_slice(second);
+        other.copy_from_slice(third);
         (answer, first.to_vec())
     })
 }
 
 /// A call whose first buffer is only read.
 fn reading(function: u8, given: &[u8], lent: &mut [u8], number: u64) -> u64 {
+    with_both(function, given, [lent, &mut []], number)
+}
+
+/// A call whose first buffer is only read, with two that are written.
+fn with_both(function: u8, given: &[u8], lent: [&mut [u8]; 2], number: u64) -> u64 {
     let (answer, after) = call(function, given, lent, [number, 0]);
     assert!(
         after == given,
@@ -98,7 +106,7 @@ fn reading(function: u8, given: &[u8], lent: &mut [u8], number: u64) -> u64 {
 
 /// A call whose only buffer is changed in place.
 fn changing(function: u8, state: &mut [u8], numbers: [u64; 2]) -> u64 {
-    let (answer, after) = call(function, state, &mut [], numbers);
+    let (answer, after) = call(function, state, [&mut [], &mut []], numbers);
     state.copy_from_slice(&after);
     answer
 }
@@ -131,22 +139,26 @@ pub fn build(cards: u64, list: &[u8], plan: &mut [u8]) -> u64 {
     reading(6, list, plan, cards)
 }
 
+pub fn rescue(bytes: &[u8], plan: &mut [u8], list: &mut [u8]) -> u64 {
+    with_both(7, bytes, [plan, list], 0)
+}
+
 pub fn fresh(plan: &[u8], state: &mut [u8]) -> u64 {
-    reading(7, plan, state, 0)
+    reading(8, plan, state, 0)
 }
 
 pub fn release(state: &mut [u8], kind: u64, e: u64) -> u64 {
-    changing(8, state, [kind, e])
+    changing(9, state, [kind, e])
 }
 
 pub fn show(state: &[u8], row: &mut [u8]) -> u64 {
-    reading(9, state, row, 0)
+    reading(10, state, row, 0)
 }
 
 pub fn advance(state: &mut [u8]) -> u64 {
-    changing(10, state, [0; 2])
+    changing(11, state, [0; 2])
 }
 
 pub fn figures(plan: &[u8], kind: u64, out: &mut [u8]) -> u64 {
-    reading(11, plan, out, kind)
+    reading(12, plan, out, kind)
 }

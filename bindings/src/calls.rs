@@ -42,6 +42,11 @@ pub fn build(cards: u64, list: &[u8], plan: &mut [u8]) -> Answer {
     Answer::of_word(library::build(cards, list, plan))
 }
 
+/// Rescues damaged plan bytes: writes a plan image, and six bytes for each change; the count is how many bytes of these.
+pub fn rescue(bytes: &[u8], plan: &mut [u8], list: &mut [u8]) -> Answer {
+    Answer::of_word(library::rescue(bytes, plan, list))
+}
+
 /// Starts fresh on an image's plan: writes a state image.
 pub fn fresh(plan: &[u8], state: &mut [u8]) -> Answer {
     Answer::of_word(library::fresh(plan, state))

@@ -17,10 +17,10 @@ mod record;
 
 pub use answer::{in_words, Answer, NUMBERS};
 pub use calls::{
-    advance, build, check, figures, fresh, read, release, show, slot_table, smallest_budget,
-    verdict, write,
+    advance, build, check, figures, fresh, read, release, rescue, show, slot_table,
+    smallest_budget, verdict, write,
 };
-pub use record::{Figures, Kind, Plan, Project, State, Unit, Verdict};
+pub use record::{Change, Figures, Kind, Plan, Project, State, Unit, Verdict};
 
 /// Whether the library is linked, so that a call takes no more than its own time.
 pub const LINKED: bool = cfg!(target_arch = "x86_64");
@@ -37,5 +37,9 @@ pub const FIGURES_BYTES: usize = 44;
 pub const MOST_PLAN_BYTES: usize = 99;
 /// The most bytes that a slot table takes.
 pub const MOST_TABLE_BYTES: usize = 512;
+/// Bytes of a change in the list of a rescue.
+pub const CHANGE_BYTES: usize = 6;
+/// The most bytes that the list of a rescue takes.
+pub const MOST_LIST_BYTES: usize = 342;
 /// The most bytes that a row takes.
 pub const MOST_ROW_BYTES: usize = 8;

@@ -23,6 +23,14 @@ extern "C" {
         plan: *mut u8,
         plan_len: usize,
     ) -> u64;
+    fn parchbeetle_rescue(
+        bytes: *const u8,
+        bytes_len: usize,
+        plan: *mut u8,
+        plan_len: usize,
+        list: *mut u8,
+        list_len: usize,
+    ) -> u64;
     fn parchbeetle_fresh(plan: *const u8, plan_len: usize, state: *mut u8, state_len: usize)
         -> u64;
     fn parchbeetle_release(state: *mut u8, state_len: usize, kind: u64, e: u64) -> u64;
@@ -69,6 +77,19 @@ pub fn build(cards: u64, list: &[u8], plan: &mut [u8]) -> u64 {
             list.len(),
             plan.as_mut_ptr(),
             plan.len(),
+        )
+    }
+}
+
+pub fn rescue(bytes: &[u8], plan: &mut [u8], list: &mut [u8]) -> u64 {
+    unsafe {
+        parchbeetle_rescue(
+            bytes.as_ptr(),
+            bytes.len(),
+            plan.as_mut_ptr(),
+            plan.len(),
+            list.as_mut_ptr(),
+            list.len(),
         )
     }
 }

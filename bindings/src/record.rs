@@ -2,8 +2,8 @@
 //! more than one byte with the high byte first.
 
 use crate::{
-    calls, Answer, FIGURES_BYTES, MOST_PLAN_BYTES, MOST_TABLE_BYTES, PLAN_IMAGE, STATE_IMAGE,
-    VERDICT_BYTES,
+    calls, Answer, CHANGE_BYTES, FIGURES_BYTES, MOST_LIST_BYTES, MOST_PLAN_BYTES, MOST_TABLE_BYTES,
+    PLAN_IMAGE, STATE_IMAGE, VERDICT_BYTES,
 };
 
 /// What an image is made of.
@@ -161,6 +161,18 @@ records! {
         pub slice: [u8; 8],
     }
 
+    /// A change that a rescue made.
+    pub struct Change {
+        /// 1 to 3 spare bits of the header, of a project, of a kind; 4 a ceiling, 5 a budget, 6 a deadline, 7 a dropped kind.
+        pub what: u8,
+        /// The project or the kind, as it was numbered in the original.
+        pub place: u8,
+        /// What stood there.
+        pub old_value: u16,
+        /// What stands there now.
+        pub new_value: u16,
+    }
+
     /// A plan that runs.
     pub struct State {
         /// The plan.
@@ -177,6 +189,7 @@ records! {
 // The records and the header agree on the sizes.
 const _: () = assert!(Plan::BYTES == PLAN_IMAGE && State::BYTES == STATE_IMAGE);
 const _: () = assert!(Verdict::BYTES == VERDICT_BYTES && Figures::BYTES == FIGURES_BYTES);
+const _: () = assert!(Change::BYTES == CHANGE_BYTES);
 
 /// What a call gives, or its refusal.
 type Given<T> = Result<T, Answer>;
@@ -218,6 +231,17 @@ impl Plan {
         let mut image = [0; PLAN_IMAGE];
         let answer = calls::build(cards, &list, &mut image);
         given(answer, Plan::of_image(&image))
+    }
+
+    /// The plan that damaged bytes are rescued to, which its budgets' sum may still keep out of order (7); and each change.
+    pub fn rescue(bytes: &[u8]) -> Given<(Plan, Vec<Change>)> {
+        let (mut image, mut list) = ([0; PLAN_IMAGE], [0; MOST_LIST_BYTES]);
+        let answer = calls::rescue(bytes, &mut image, &mut list);
+        let list = list[..usize::from(answer.count)].chunks_exact(CHANGE_BYTES);
+        given(
+            answer,
+            (Plan::of_image(&image), list.map(Part::of).collect()),
+        )
     }
 
     /// Whether it is in order.

@@ -381,13 +381,15 @@ fn spoken_of(header: &str) -> BTreeSet<u64> {
     numbers
 }
 
-const SIZES: [&str; 7] = [
+const SIZES: [&str; 9] = [
     "PLAN_IMAGE",
     "STATE_IMAGE",
     "VERDICT_BYTES",
     "FIGURES_BYTES",
+    "CHANGE_BYTES",
     "MOST_PLAN_BYTES",
     "MOST_TABLE_BYTES",
+    "MOST_LIST_BYTES",
     "MOST_ROW_BYTES",
 ];
 
@@ -489,6 +491,14 @@ fn differences(texts: &Texts) -> Vec<String> {
         );
     }
 
+    same(
+        "Change",
+        &[
+            ("bindings", format!("{:?}", fields(bindings, "Change"))),
+            ("header", format!("{:?}", listed(header, "Change"))),
+        ],
+    );
+
     for (image, name) in [("Plan", "planRows"), ("State", "stateRows")] {
         same(
             name,
@@ -568,7 +578,7 @@ fn the_header_the_bindings_and_the_exported_functions_agree() {
     let texts = texts();
     let found = differences(&texts);
     assert!(found.is_empty(), "{}", found.join("\n"));
-    assert_eq!(declared(&texts.header).len(), 11);
+    assert_eq!(declared(&texts.header).len(), 13);
 }
 
 #[test]
@@ -599,6 +609,9 @@ fn one_thing_changed_on_one_side_is_found() {
         (header, "uint64_t cards, const", "uint64_t m, const"),
         (bindings, "list: *const u8", "list: *mut u8"),
         (exported, "cards: u64, list: &[u8]", "cards: u64, kinds: &[u8]"),
+        (header, "uint8_t *list, size_t list_len);", "const uint8_t *list, size_t list_len);"),
+        (bindings, "plan: &mut [u8], list: &mut [u8]) -> Answer", "list: &mut [u8], plan: &mut [u8]) -> Answer"),
+        (exported, "plan: &mut [u8], list: &mut [u8]", "list: &mut [u8], plan: &mut [u8]"),
         (header, "uint8_t *k,", "const uint8_t *k,"),
         (header, "show(const uint8_t *state", "show(uint8_t *state"),
         (bindings, "k: *mut u8", "k: *const u8"),
@@ -609,8 +622,9 @@ fn one_thing_changed_on_one_side_is_found() {
         (exported, "#[no_mangle]\npub extern \"C\" fn parchbeetle_advance", "pub fn parchbeetle_advance"),
         // A function that the bridge has under another number or not at all.
         (bridge, "return parchbeetle_verdict(", "return parchbeetle_fresh("),
-        (bridged, "changing(10", "changing(9"),
+        (bridged, "changing(11", "changing(9"),
         (bridge, "return parchbeetle_figures(", "return parchbeetle_verdict("),
+        (bridge, "parchbeetle_rescue(a, a_len, b, b_len, c", "parchbeetle_fresh(a, a_len, b, b_len, c"),
         (bridged, "pub fn verdict(plan: &[u8], k", "pub fn verdict(k: &[u8], plan"),
         // A field's name, width and order, and how many places.
         (header, "field(budget, 2)", "field(budget, 4)"),
@@ -626,6 +640,8 @@ fn one_thing_changed_on_one_side_is_found() {
         (images, "row 8 projectWidths", "row 9 projectWidths"),
         (header, "sum sum[8]", "sum sum[9]"),
         (header, "field(left, 2)        /* slices left of all", "field(left, 4)        /* slices left of all"),
+        (header, "field(old_value, 2)", "field(old_value, 1)"),
+        (bindings, "pub old_value: u16", "pub before: u16"),
         (bindings, "pub sum: [u16; 8]", "pub sum: [u32; 8]"),
         (code, "pub sum: [u16; ", "pub sums: [u16; "),
         // A size.
@@ -633,6 +649,7 @@ fn one_thing_changed_on_one_side_is_found() {
         (header, "VERDICT_BYTES 32u", "VERDICT_BYTES 16u"),
         (header, "FIGURES_BYTES 44u", "FIGURES_BYTES 40u"),
         (bindings, "MOST_ROW_BYTES: usize = 8", "MOST_ROW_BYTES: usize = 16"),
+        (header, "MOST_LIST_BYTES 342u", "MOST_LIST_BYTES 336u"),
         // A number: its words, one that is not given, one that is not listed or not said of any function.
         (header, "there is no such kind", "no such kind"),
         (bindings, "(13, ", "(28, "),
@@ -641,6 +658,7 @@ fn one_thing_changed_on_one_side_is_found() {
         (header, "12, 13, 14, 15.", "12, 13, 14."),
         (header, "2, 3, 27, 4", "2, 3, 4"),
         (header, "17 (cards", "28 (cards"),
+        (header, "1 (the total), 20;", "1 (the total);"),
         (version, ".", ".1."),
         (header, "VERSION_MINOR ", "VERSION_MINOR 9"),
     ] {
@@ -737,6 +755,31 @@ fn the_records_are_what_the_library_reads_and_writes() {
     );
     assert_eq!(Plan::build(9, &[]).map_err(|answer| answer.number), Err(17));
 
+    assert_eq!(Plan::rescue(&PLAN_A), Ok((plan, Vec::new())));
+    let mut damaged = PLAN_A;
+    // The B of project 1 is the low four bits of byte 5 and the high six of byte 6.
+    damaged[5] |= 0x0F;
+    damaged[6] |= 0xFC;
+    damaged[2] |= 1;
+    let (rescued, changes) = Plan::rescue(&damaged).unwrap();
+    let mut expected = plan;
+    expected.project[1].budget = 8;
+    assert_eq!(rescued, expected);
+    assert_eq!(rescued.check().map_err(|answer| answer.number), Err(7));
+    let change = |what, place, old_value, new_value| Change {
+        what,
+        place,
+        old_value,
+        new_value,
+    };
+    assert_eq!(changes, [change(1, 0, 1, 0), change(5, 1, 1023, 8)]);
+    damaged[7..].fill(0);
+    assert_eq!(
+        Plan::rescue(&damaged).map_err(|answer| answer.number),
+        Err(20)
+    );
+    assert_eq!(in_words(20), "no kind remains");
+
     let mut state = plan.fresh().unwrap();
     let fresh = State {
         plan,
@@ -788,7 +831,20 @@ fn the_sizes_are_the_librarys() {
     let state = plan_a().fresh().unwrap().image();
     let copy = |size: usize| state[..size].to_vec();
     type Call<'a> = &'a dyn Fn(usize) -> Answer;
-    let calls: [(usize, Call); 15] = [
+    // Every spare bit, every q and B, and every D: the longest list.
+    let mut longest = [0xFF; MOST_PLAN_BYTES];
+    longest[..3].copy_from_slice(&[0x18, 0x80, 0x1F]);
+    for kind in longest[19..].chunks_exact_mut(5) {
+        // T 2047, D 4095, C 2047.
+        kind.copy_from_slice(&[0x0F, 0xFF, 0xFF, 0xEF, 0xFF]);
+    }
+    let calls: [(usize, Call); 17] = [
+        (PLAN_IMAGE, &|size| {
+            rescue(&longest, &mut vec![0; size], &mut [0; MOST_LIST_BYTES])
+        }),
+        (MOST_LIST_BYTES, &|size| {
+            rescue(&longest, &mut [0; PLAN_IMAGE], &mut vec![0; size])
+        }),
         (PLAN_IMAGE, &|size| check(&plan[..size])),
         (PLAN_IMAGE, &|size| read(&PLAN_A, &mut vec![0; size])),
         (PLAN_IMAGE, &|size| write(&plan[..size], &mut [0; 99])),

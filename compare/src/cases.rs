@@ -6,11 +6,12 @@
 //! bytes whole and damaged, states on it, and a run from its fresh start, step by step.
 
 use crate::interface::{
-    plan_image, plan_of, state_image, state_of, Case, Op, FIGURES_BYTES, PLAN_IMAGE, STATE_IMAGE, SUMS_AT, UNITS_AT, VERDICT_BYTES,
+    plan_image, plan_of, state_image, state_of, Case, Op, FIGURES_BYTES, PLAN_IMAGE, STATE_IMAGE,
+    SUMS_AT, UNITS_AT, VERDICT_BYTES,
 };
 use generate::{
-    fixed_lists, fixed_open_budgets, fixed_plan_records, fixed_state_records, fixed_streams,
-    fixed_sums, list_bytes, spare_bits, Generator,
+    fixed_damage, fixed_lists, fixed_open_budgets, fixed_plan_records, fixed_state_records,
+    fixed_streams, fixed_sums, list_bytes, spare_bits, Generator,
 };
 use second::bytes::{pack, plan_bytes};
 use second::play::{command, Command};
@@ -21,6 +22,9 @@ use std::sync::OnceLock;
 /// The calls made on one image or one string of plan bytes.
 pub type Record = Vec<Case>;
 
+/// The bytes of the longest list of a rescue.
+const MOST_LIST: usize = 342;
+
 /// The functions that are given a plan image and no number.
 const ON_PLANS: [Op; 5] = [Op::Check, Op::Write, Op::SlotTable, Op::Verdict, Op::Fresh];
 
@@ -28,7 +32,7 @@ const ON_PLANS: [Op; 5] = [Op::Check, Op::Write, Op::SlotTable, Op::Verdict, Op:
 fn needed(op: Op, plan: &Plan) -> usize {
     match op {
         Op::Check | Op::SmallestBudget | Op::Release | Op::Advance => 0,
-        Op::Read | Op::Build => PLAN_IMAGE,
+        Op::Read | Op::Build | Op::Rescue => PLAN_IMAGE,
         Op::Write => plan_bytes(plan.p, plan.n),
         Op::SlotTable => usize::from(plan.m) * usize::from(plan.frame),
         Op::Verdict => VERDICT_BYTES,
@@ -52,14 +56,16 @@ pub enum Fixed {
     Sums(State),
     /// Plan bytes, read.
     Bytes(Vec<u8>),
+    /// Damaged plan bytes, rescued.
+    Damage(Vec<u8>),
     /// One call.
     Call(Case),
     /// A state of this plan with this byte for a kind's released.
     Released(Plan, usize, u8),
 }
 
-/// Each refusal at each place, each boundary of a budget left open and of a list, each sum that differs, each length of each buffer,
-/// each released byte, and all plans and states of a small size.
+/// Each refusal at each place, each boundary of a budget left open and of a list, each sum that differs, each change of a rescue, each
+/// length of each buffer, each released byte, and all plans and states of a small size.
 pub fn fixed() -> &'static [Fixed] {
     // The self-test takes them once for each fault.
     static FIXED: OnceLock<Vec<Fixed>> = OnceLock::new();
@@ -83,6 +89,7 @@ fn all_fixed() -> Vec<Fixed> {
         .chain(states.map(Fixed::State))
         .chain(fixed_sums().into_iter().map(Fixed::Sums))
         .chain(bytes.map(Fixed::Bytes))
+        .chain(fixed_damage().into_iter().map(Fixed::Damage))
         .chain(lengths().into_iter().map(Fixed::Call))
         .chain(released_bytes())
         .collect()
@@ -99,6 +106,7 @@ impl Fixed {
                 let read = |count| Case::new(Op::Read, bytes.clone(), vec![0xEE; count]);
                 vec![read(PLAN_IMAGE), read(PLAN_IMAGE - 1)]
             }
+            Fixed::Damage(bytes) => on_damage(bytes),
             Fixed::Call(case) => vec![case.clone()],
             Fixed::Released(plan, place, value) => on_released(plan, *place, *value),
         }
@@ -188,6 +196,22 @@ fn on_sums(state: &State) -> Record {
     ]
 }
 
+/// The bytes that the list of a rescue needs.
+fn list_needed(bytes: &[u8]) -> usize {
+    second::rescue(bytes, &mut [0; MOST_LIST]).2
+}
+
+/// A rescue with a list that is just long enough, and with one byte less.
+fn on_damage(bytes: &[u8]) -> Record {
+    let needed = list_needed(bytes);
+    let rescue =
+        |room: usize| Case::rescue(bytes.to_vec(), vec![0xEE; PLAN_IMAGE], vec![0xEE; room]);
+    match needed {
+        0 => vec![rescue(0)],
+        _ => vec![rescue(needed), rescue(needed - 1)],
+    }
+}
+
 /// Every length of every buffer, from none to two more than needed.
 fn lengths() -> Vec<Case> {
     let mut cases = Vec::new();
@@ -225,6 +249,23 @@ fn lengths() -> Vec<Case> {
     }
     for count in 0..=running.len() {
         cases.push(Case::release(running[..count].to_vec(), 0, 1));
+    }
+    // Lists of every length up to a little more than the needed one: of the longest, of damage with many changes, and of single flips.
+    let damaged = fixed_damage();
+    let many = damaged.iter().take(102).rev().step_by(7);
+    let single = damaged.iter().rev().step_by(5003);
+    for bytes in many.chain(single) {
+        let needed = list_needed(bytes);
+        for room in 0..=needed + 7 {
+            let (plan, list) = (vec![0xEE; PLAN_IMAGE + 1], vec![0xEE; room]);
+            cases.push(Case::rescue(bytes.clone(), plan, list));
+        }
+        for room in (0..=PLAN_IMAGE + 2).step_by(3).chain([PLAN_IMAGE - 1]) {
+            for list in [needed, needed.saturating_sub(1)] {
+                let (plan, list) = (vec![0xEE; room], vec![0xEE; list]);
+                cases.push(Case::rescue(bytes.clone(), plan, list));
+            }
+        }
     }
     cases
 }
@@ -367,6 +408,12 @@ impl Rounds {
             records.push(vec![Case::build(cards, list, lent)]);
         }
 
+        for _ in 0..6 {
+            let bytes = g.damaged(&plan);
+            let (plan, list) = (lent(&mut g, PLAN_IMAGE), list_lent(&mut g, &bytes));
+            records.push(vec![Case::rescue(bytes, plan, list)]);
+        }
+
         // Small plans, where ties and exact fits are common, and a state on each.
         for turn in 0..12 {
             let mut small = small_plan(&mut g);
@@ -443,6 +490,19 @@ fn lent(g: &mut Generator, needed: usize) -> Vec<u8> {
         2 => g.below(needed as u64 + 1) as usize,
         3..=8 => needed,
         _ => needed + g.between(1, 6) as usize,
+    };
+    arbitrary(g, count)
+}
+
+/// A list for the rescue of these bytes: of a length around the needed one, mostly enough.
+fn list_lent(g: &mut Generator, bytes: &[u8]) -> Vec<u8> {
+    let needed = list_needed(bytes);
+    let count = match g.below(8) {
+        0 => g.below(needed as u64 + 1) as usize,
+        1 => needed.saturating_sub(g.between(1, 7) as usize),
+        2 => MOST_LIST,
+        3 => needed + g.between(1, 13) as usize,
+        _ => needed,
     };
     arbitrary(g, count)
 }

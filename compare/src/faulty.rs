@@ -5,7 +5,8 @@
 //! agree with the second program, so that a fault is found for what it is.
 
 use crate::interface::{
-    number, plan_image, plan_of, refused, state_image, word, Op, Side, FIGURES_BYTES, PLAN_IMAGE, STATE_IMAGE, SUMS_AT, UNITS_AT, VERDICT_BYTES,
+    number, plan_image, plan_of, refused, state_image, word, Op, Side, FIGURES_BYTES, PLAN_IMAGE,
+    STATE_IMAGE, SUMS_AT, UNITS_AT, VERDICT_BYTES,
 };
 use crate::second_side::{figures_bytes, state_or_refuse, Second};
 use second::layout::{cards_held, cells, h, h_of_cells};
@@ -130,12 +131,34 @@ pub enum Fault {
     SixteenAfterNine,
     SixteenAfterTwelve,
     SixteenPlace,
+    RescueOldCeiling,
+    RescueLateDeadline,
+    RescueDroppedSpare,
+    RescueDroppedDeadline,
+    RescueDroppedValue,
+    RescuePlaceInResult,
+    RescueKindsFirst,
+    RescueSpareBeside,
+    RescueLowByte,
+    RescueUnchanged,
+    RescueHeaderSpare,
+    RescueCeilingOne,
+    RescueBudgetOne,
+    RescueProjectAtP,
+    RescueKindsCounted,
+    RescueHole,
+    RescueSeven,
+    RescueNoTwenty,
+    RescueNineFirst,
+    RescueCutList,
+    RescuePlanFirst,
+    RescueEntries,
 }
 
 use Fault::*;
 
 /// Each fault that records must show: its name and what it is.
-pub const RECORD_FAULTS: [(Fault, &str, &str); 95] = [
+pub const RECORD_FAULTS: [(Fault, &str, &str); 117] = [
     (SumFirst, "sum-first", "7 is told before 4"),
     (FiveFirst, "five-first", "all kinds for 5 before any 6"),
     (
@@ -506,6 +529,108 @@ pub const RECORD_FAULTS: [(Fault, &str, &str); 95] = [
         FiguresNoCount,
         "figures-no-count",
         "figures with a count of 0",
+    ),
+    (
+        RescueOldCeiling,
+        "rescue-old-q",
+        "a rescue judges B with the old q",
+    ),
+    (
+        RescueLateDeadline,
+        "rescue-late-d",
+        "a rescue judges C before D is lowered",
+    ),
+    (
+        RescueDroppedSpare,
+        "rescue-7-spare",
+        "the spare bit of a dropped kind is listed",
+    ),
+    (
+        RescueDroppedDeadline,
+        "rescue-7-d",
+        "the lowered D of a dropped kind is listed",
+    ),
+    (
+        RescueDroppedValue,
+        "rescue-7-value",
+        "a dropped kind's entry has its C for the old value",
+    ),
+    (
+        RescuePlaceInResult,
+        "rescue-place",
+        "a kind's place is that in the result",
+    ),
+    (
+        RescueKindsFirst,
+        "rescue-by-kind",
+        "D and dropped kinds are listed before q and B",
+    ),
+    (
+        RescueSpareBeside,
+        "rescue-beside",
+        "a project's spare bits are listed beside its q and B",
+    ),
+    (
+        RescueLowByte,
+        "rescue-low-byte",
+        "a value's low byte is listed first",
+    ),
+    (
+        RescueUnchanged,
+        "rescue-unchanged",
+        "a D of just T is listed",
+    ),
+    (
+        RescueHeaderSpare,
+        "rescue-header",
+        "the header's spare bits are passed by",
+    ),
+    (
+        RescueCeilingOne,
+        "rescue-q-one",
+        "a q above m is lowered to 1",
+    ),
+    (
+        RescueBudgetOne,
+        "rescue-b-one",
+        "a B above qF is lowered to 1",
+    ),
+    (
+        RescueProjectAtP,
+        "rescue-project-p",
+        "a kind of project p is kept",
+    ),
+    (
+        RescueKindsCounted,
+        "rescue-n",
+        "the count of kinds is not lowered",
+    ),
+    (RescueHole, "rescue-hole", "later kinds do not move up"),
+    (RescueSeven, "rescue-seven", "a rescue refuses 7"),
+    (
+        RescueNoTwenty,
+        "rescue-no-20",
+        "a plan without kinds is given instead of 20",
+    ),
+    (
+        RescueNineFirst,
+        "rescue-9-first",
+        "a short list is told before 20",
+    ),
+    (
+        RescueCutList,
+        "rescue-cut-list",
+        "the entries that fit are written beside 9",
+    ),
+    (
+        RescuePlanFirst,
+        "rescue-9-plan",
+        "the plan is written beside 9",
+    ),
+    (
+        RescueEntries,
+        "rescue-entries",
+        "the count is that of the entries",
     ),
 ];
 
@@ -1051,6 +1176,108 @@ impl Faulty {
         (answer, told)
     }
 
+    /// The plan of a rescue and its entries; no kind may remain.
+    fn mended(&self, bytes: &[u8]) -> (Plan, Vec<u8>) {
+        let mut plan = unpacked(bytes);
+        let (p, n) = (usize::from(plan.p), usize::from(plan.n));
+        let (m, frame) = (plan.m, u16::from(plan.frame));
+        let entry = |field: u8, place: usize, old: u16, new: u16| {
+            let mut values = [old.to_be_bytes(), new.to_be_bytes()];
+            if self.is(RescueLowByte) {
+                values.iter_mut().for_each(|value| value.reverse());
+            }
+            [vec![field, place as u8], values.concat()].concat()
+        };
+        // Each part of the list by itself; the order is made at the end.
+        let (mut spare, mut projects, mut kinds) = (Vec::new(), Vec::new(), Vec::new());
+        let header = u16::from(bytes[2] & 15);
+        if header > 0 && !self.is(RescueHeaderSpare) {
+            spare.extend(entry(1, 0, header, 0));
+        }
+        for place in 0..p {
+            let bits = u16::from(bytes[3 + 2 * place + 1] & 3);
+            let project = &mut plan.projects[place];
+            if bits > 0 {
+                match self.is(RescueSpareBeside) {
+                    true => projects.extend(entry(2, place, bits, 0)),
+                    false => spare.extend(entry(2, place, bits, 0)),
+                }
+            }
+            let old = *project;
+            project.ceiling = match old.ceiling {
+                q if q > m && self.is(RescueCeilingOne) => 1,
+                q => q.clamp(1, m),
+            };
+            let q = match self.0 {
+                RescueOldCeiling => old.ceiling,
+                _ => project.ceiling,
+            };
+            let most = (u16::from(q) * frame).max(1);
+            project.budget = match old.budget {
+                b if b > most && self.is(RescueBudgetOne) => 1,
+                b => b.clamp(1, most),
+            };
+            if project.ceiling != old.ceiling {
+                let (old, new) = (u16::from(old.ceiling), u16::from(project.ceiling));
+                projects.extend(entry(4, place, old, new));
+            }
+            if project.budget != old.budget {
+                projects.extend(entry(5, place, old.budget, project.budget));
+            }
+        }
+        let mut kept = 0;
+        for place in 0..n {
+            let bit = u16::from(bytes[3 + 2 * p + 5 * place + 4] & 1);
+            let old = plan.kinds[place];
+            let d = old.deadline.min(old.separation);
+            let judged = if self.is(RescueLateDeadline) {
+                old.deadline
+            } else {
+                d
+            };
+            let absent = match self.is(RescueProjectAtP) {
+                true => usize::from(old.project) > p,
+                false => usize::from(old.project) >= p,
+            };
+            let drops = absent || old.length == 0 || old.length > judged;
+            let told = if self.is(RescuePlaceInResult) {
+                kept
+            } else {
+                place
+            };
+            if bit > 0 && (!drops || self.is(RescueDroppedSpare)) {
+                spare.extend(entry(3, told, bit, 0));
+            }
+            let changed = d != old.deadline || self.is(RescueUnchanged) && d == old.separation;
+            if changed && (!drops || self.is(RescueDroppedDeadline)) {
+                kinds.extend(entry(6, told, old.deadline, d));
+            }
+            plan.kinds[place].deadline = d;
+            if drops {
+                let value = if self.is(RescueDroppedValue) {
+                    old.length
+                } else {
+                    0
+                };
+                kinds.extend(entry(7, told, value, 0));
+                plan.kinds[place] = Default::default();
+            } else {
+                if !self.is(RescueHole) {
+                    plan.kinds.swap(kept, place);
+                }
+                kept += 1;
+            }
+        }
+        if !self.is(RescueKindsCounted) || kept == 0 {
+            plan.n = kept as u8;
+        }
+        let list = match self.is(RescueKindsFirst) {
+            true => [spare, kinds, projects],
+            false => [spare, projects, kinds],
+        };
+        (plan, list.concat())
+    }
+
     fn start(&self, plan: &Plan) -> (Answer, State) {
         let (answer, _) = self.judge(plan);
         let mut state = State::default();
@@ -1306,6 +1533,41 @@ impl Side for Faulty {
             }
         });
         self.after(word, out, FIGURES_BYTES)
+    }
+
+    fn rescue(&self, bytes: &[u8], plan: &mut [u8], list: &mut [u8]) -> u64 {
+        // Reading tells 1 and 2; whatever else it tells is mended.
+        let read = second::read(bytes).0;
+        if matches!(read.number, 1 | 2) {
+            return word(read, 0);
+        }
+        let (mended, entries) = self.mended(bytes);
+        let short = list.len() < entries.len() || plan.len() < PLAN_IMAGE;
+        let told = match () {
+            _ if short && self.is(RescueNineFirst) => 9,
+            _ if mended.n == 0 && !self.is(RescueNoTwenty) => 20,
+            _ if self.is(RescueSeven) && budgets_sum_above(&mended) => 7,
+            _ if short => 9,
+            _ => 0,
+        };
+        if told == 9 && self.is(RescueCutList) {
+            let count = list.len().min(entries.len()) / 6 * 6;
+            list[..count].copy_from_slice(&entries[..count]);
+        }
+        if plan.len() >= PLAN_IMAGE && (told == 0 || told == 9 && self.is(RescuePlanFirst)) {
+            plan[..PLAN_IMAGE].copy_from_slice(&plan_image(&mended));
+        }
+        if told == 0 {
+            list[..entries.len()].copy_from_slice(&entries);
+        }
+        let count = match (told, self.0) {
+            (0, RescueEntries) => entries.len() / 6,
+            (0, _) => entries.len(),
+            _ => 0,
+        };
+        let word = word(Answer::refused(told), count);
+        self.after(word, list, entries.len());
+        self.after(word, plan, PLAN_IMAGE)
     }
 
     fn fresh(&self, plan: &[u8], state: &mut [u8]) -> u64 {

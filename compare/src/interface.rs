@@ -16,7 +16,7 @@ pub const VERDICT_BYTES: usize = 32;
 /// Bytes of a kind's figures: the workload, the supply at each k, then the slice of each.
 pub const FIGURES_BYTES: usize = 44;
 
-/// The twelve functions on bytes. The word: number in bits 0-7, place 8-15, count 16-31, excess 32-55, slice 56-63.
+/// The thirteen functions on bytes. The word: number in bits 0-7, place 8-15, count 16-31, excess 32-55, slice 56-63.
 pub trait Side {
     /// Is the plan in order?
     fn check(&self, plan: &[u8]) -> u64;
@@ -32,6 +32,8 @@ pub trait Side {
     fn smallest_budget(&self, plan: &[u8], project: u64) -> u64;
     /// Builds a plan of one-kind projects.
     fn build(&self, cards: u64, list: &[u8], plan: &mut [u8]) -> u64;
+    /// Rescues damaged plan bytes: writes a plan image and the list of changes.
+    fn rescue(&self, bytes: &[u8], plan: &mut [u8], list: &mut [u8]) -> u64;
     /// Starts fresh: writes a state image.
     fn fresh(&self, plan: &[u8], state: &mut [u8]) -> u64;
     /// Releases a unit.
@@ -200,7 +202,7 @@ pub fn state_image(state: &State) -> [u8; STATE_IMAGE] {
     bytes
 }
 
-/// Which of the twelve functions.
+/// Which of the thirteen functions.
 #[derive(Clone, Copy, Debug, PartialEq, Eq, PartialOrd, Ord)]
 #[allow(missing_docs)]
 pub enum Op {
@@ -211,6 +213,7 @@ pub enum Op {
     Verdict,
     SmallestBudget,
     Build,
+    Rescue,
     Fresh,
     Release,
     Show,
@@ -219,7 +222,7 @@ pub enum Op {
 }
 
 /// Each function with its name.
-pub const OPS: [(Op, &str); 12] = [
+pub const OPS: [(Op, &str); 13] = [
     (Op::Check, "check"),
     (Op::Read, "read"),
     (Op::Write, "write"),
@@ -227,6 +230,7 @@ pub const OPS: [(Op, &str); 12] = [
     (Op::Verdict, "verdict"),
     (Op::SmallestBudget, "smallest_budget"),
     (Op::Build, "build"),
+    (Op::Rescue, "rescue"),
     (Op::Fresh, "fresh"),
     (Op::Release, "release"),
     (Op::Show, "show"),
@@ -250,6 +254,8 @@ pub struct Case {
     pub given: Vec<u8>,
     /// The second buffer, as it is lent; empty for `check`, `smallest_budget`, `release` and `advance`.
     pub lent: Vec<u8>,
+    /// The third buffer, as it is lent: the list of `rescue`.
+    pub list: Vec<u8>,
     /// The kind and the length e of `release`, the project of `smallest_budget`, the cards of `build`, the kind of `figures`.
     pub numbers: [u64; 2],
 }
@@ -263,6 +269,8 @@ pub struct Outcome {
     pub given: Vec<u8>,
     /// The second buffer after the call.
     pub lent: Vec<u8>,
+    /// The third buffer after the call.
+    pub list: Vec<u8>,
     /// Whether a byte just outside a buffer was changed.
     pub outside: bool,
 }
@@ -300,7 +308,16 @@ impl Case {
             op,
             given,
             lent,
+            list: Vec::new(),
             numbers: [0; 2],
+        }
+    }
+
+    /// A rescue: a plan image and a list are lent.
+    pub fn rescue(given: Vec<u8>, lent: Vec<u8>, list: Vec<u8>) -> Case {
+        Case {
+            list,
+            ..Case::new(Op::Rescue, given, lent)
         }
     }
 
@@ -339,6 +356,7 @@ impl Case {
     /// The call on one side, with buffers of its own.
     pub fn run(&self, side: &impl Side) -> Outcome {
         let (mut given, mut lent) = (Fenced::new(&self.given), Fenced::new(&self.lent));
+        let mut list = Fenced::new(&self.list);
         let (first, second) = (given.inside(), lent.inside());
         let [number, e] = self.numbers;
         let word = match self.op {
@@ -349,6 +367,7 @@ impl Case {
             Op::Verdict => side.verdict(first, second),
             Op::SmallestBudget => side.smallest_budget(first, number),
             Op::Build => side.build(number, first, second),
+            Op::Rescue => side.rescue(first, second, list.inside()),
             Op::Fresh => side.fresh(first, second),
             Op::Release => side.release(first, number, e),
             Op::Show => side.show(first, second),
@@ -359,17 +378,19 @@ impl Case {
             word,
             given: given.inside().to_vec(),
             lent: lent.inside().to_vec(),
-            outside: given.broken() || lent.broken(),
+            list: list.inside().to_vec(),
+            outside: given.broken() || lent.broken() || list.broken(),
         }
     }
 
-    /// The call as one line: the function, the bytes given, the bytes lent, its two numbers; `-` for no bytes.
+    /// The call as one line: the function, the bytes given, the bytes lent, the list lent, its two numbers; `-` for no bytes.
     pub fn line(&self) -> String {
         format!(
-            "{} {} {} {} {}",
+            "{} {} {} {} {} {}",
             self.op.name(),
             hex(&self.given),
             hex(&self.lent),
+            hex(&self.list),
             self.numbers[0],
             self.numbers[1]
         )
@@ -378,13 +399,14 @@ impl Case {
     /// The call of such a line.
     pub fn of_line(line: &str) -> Option<Case> {
         let words: Vec<&str> = line.split_whitespace().collect();
-        let [op, given, lent, number, e] = words[..] else {
+        let [op, given, lent, list, number, e] = words[..] else {
             return None;
         };
         Some(Case {
             op: OPS.iter().find(|(_, name)| *name == op)?.0,
             given: of_hex(given)?,
             lent: of_hex(lent)?,
+            list: of_hex(list)?,
             numbers: [number.parse().ok()?, e.parse().ok()?],
         })
     }
@@ -404,6 +426,7 @@ pub fn outcome_in_words(own: &Outcome, other: &Outcome) -> String {
     for (name, own, other) in [
         ("given", &own.given, &other.given),
         ("lent", &own.lent, &other.lent),
+        ("list", &own.list, &other.list),
     ] {
         let differs = |&at: &usize| own.get(at) != other.get(at);
         let Some(first) = (0..own.len()).find(differs) else {
@@ -427,7 +450,7 @@ pub fn outcome_in_words(own: &Outcome, other: &Outcome) -> String {
 /// The image that a call is given, read aloud; nothing for plan bytes, lists and short images.
 pub fn image_in_words(case: &Case) -> Option<String> {
     let (image, running) = match case.op {
-        Op::Read | Op::Build => return None,
+        Op::Read | Op::Build | Op::Rescue => return None,
         Op::Release | Op::Show | Op::Advance => (case.given.get(..STATE_IMAGE)?, true),
         _ => (case.given.get(..PLAN_IMAGE)?, false),
     };

@@ -35,6 +35,10 @@ impl Side for Proved {
         bindings::build(cards, list, plan).word()
     }
 
+    fn rescue(&self, bytes: &[u8], plan: &mut [u8], list: &mut [u8]) -> u64 {
+        bindings::rescue(bytes, plan, list).word()
+    }
+
     fn fresh(&self, plan: &[u8], state: &mut [u8]) -> u64 {
         bindings::fresh(plan, state).word()
     }

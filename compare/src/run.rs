@@ -189,6 +189,7 @@ fn flip_differs(side: &impl Side, calls: Vec<Case>, tally: &mut Tally) -> Option
             let expected = Outcome {
                 word: refused(16),
                 given: case.given.clone(),
+                lent: case.lent.clone(),
                 ..outcome
             };
             return Some(RecordDifference {

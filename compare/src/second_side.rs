@@ -105,6 +105,20 @@ impl Side for Second {
         word(answer, 0)
     }
 
+    fn rescue(&self, bytes: &[u8], plan: &mut [u8], list: &mut [u8]) -> u64 {
+        let mut written = list.to_vec();
+        let (answer, rescued, count) = second::rescue(bytes, &mut written);
+        if !answer.is_good() {
+            return word(answer, 0);
+        }
+        if plan.len() < PLAN_IMAGE {
+            return refused(9);
+        }
+        plan[..PLAN_IMAGE].copy_from_slice(&plan_image(&rescued));
+        list.copy_from_slice(&written);
+        word(answer, count)
+    }
+
     fn fresh(&self, plan: &[u8], state: &mut [u8]) -> u64 {
         if plan.len() < PLAN_IMAGE {
             return refused(9);

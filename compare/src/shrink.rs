@@ -82,6 +82,9 @@ pub fn smaller_case(case: &Case, differs: &mut dyn FnMut(&Case) -> bool) -> Case
         for place in 0..smallest.best.lent.len() {
             better |= lower_byte(&mut smallest, place, |case| &mut case.lent);
         }
+        for place in 0..smallest.best.list.len() {
+            better |= lower_byte(&mut smallest, place, |case| &mut case.list);
+        }
         for cut in [8, 1] {
             while smallest.best.given.len() >= cut {
                 let mut tried = smallest.best.clone();
@@ -94,6 +97,14 @@ pub fn smaller_case(case: &Case, differs: &mut dyn FnMut(&Case) -> bool) -> Case
             while smallest.best.lent.len() >= cut {
                 let mut tried = smallest.best.clone();
                 tried.lent.truncate(tried.lent.len() - cut);
+                if !smallest.try_one(tried) {
+                    break;
+                }
+                better = true;
+            }
+            while smallest.best.list.len() >= cut {
+                let mut tried = smallest.best.clone();
+                tried.list.truncate(tried.list.len() - cut);
                 if !smallest.try_one(tried) {
                     break;
                 }
@@ -137,7 +148,16 @@ fn lower_byte(
 fn without_kind(case: &Case, kind: usize) -> Case {
     let mut tried = case.clone();
     let image = &mut tried.given;
-    if matches!(case.op, Op::Read | Op::Build)
+    if let (Op::Read | Op::Rescue, &[first, second, ..]) = (case.op, &image[..]) {
+        // Plan bytes: p is the low half of the first, n the high five bits of the second.
+        let at = 3 + 2 * usize::from(first & 15) + 5 * kind;
+        if kind < usize::from(second >> 3) && at + 5 <= image.len() {
+            image[1] -= 1 << 3;
+            image.drain(at..at + 5);
+        }
+        return tried;
+    }
+    if matches!(case.op, Op::Read | Op::Build | Op::Rescue)
         || image.len() < PLAN_IMAGE
         || kind >= usize::from(image[2])
     {

@@ -12,7 +12,7 @@ use crate::interface::{
 use generate::{list_bytes, release_bytes, SLICE};
 use second::bytes::pack;
 use second::rack::LAST_CLOCK;
-use second::{Answer, Kind, KindState, Plan, State};
+use second::{Answer, Kind, KindState, Plan, Project, State};
 
 /// A case of document 01 and what it must give.
 pub struct Named {
@@ -42,6 +42,7 @@ impl Table {
             word: word(Answer::GOOD, count),
             given: case.given.clone(),
             lent,
+            list: case.list.clone(),
             outside: false,
         };
         self.rows.push(Named {
@@ -66,6 +67,7 @@ impl Table {
             word: word(answer, 0),
             given: case.given.clone(),
             lent: case.lent.clone(),
+            list: case.list.clone(),
             outside: false,
         };
         self.rows.push(Named {
@@ -104,6 +106,13 @@ impl Table {
         }
         self.refused(name, reading(&pack(plan), PLAN_IMAGE), number, place, 0);
     }
+}
+
+/// P10's plan, whose budgets sum above mF.
+fn wider_by_7() -> Plan {
+    let mut plan = Plan::a();
+    plan.projects[1].budget = 6;
+    plan
 }
 
 fn lent(count: usize) -> Vec<u8> {
@@ -199,9 +208,7 @@ pub fn table() -> Vec<Named> {
     let mut longer = b;
     longer.kinds[0].length = 3;
     table.refused_by_8("(iii)", &longer, 2, 0);
-    let mut wider = a;
-    wider.projects[1].budget = 6;
-    table.out_of_order("P10", &wider, 7, 0);
+    table.out_of_order("P10", &wider_by_7(), 7, 0);
     let mut wider = a;
     wider.projects[0].budget = 5;
     table.out_of_order("P11", &wider, 4, 0);
@@ -254,6 +261,60 @@ pub fn table() -> Vec<Named> {
     table.refused("(vi), no list", cut, 17, 0, 0);
     let short = Case::build(1, list_bytes(&[(2, 1)]), lent(PLAN_IMAGE - 1));
     table.refused("(vi), one byte short", short, 9, 0, 0);
+
+    // (viii): plan A with a spare bit, q 0 of project 1 (and so its B of 5 above 4), and kind 0 of no project.
+    let rescuing =
+        |bytes: &[u8], room: usize| Case::rescue(bytes.to_vec(), lent(PLAN_IMAGE + 2), lent(room));
+    let mut damaged = PLAN_A;
+    damaged[2] |= 2;
+    damaged[5] &= 0x0F;
+    damaged[7] |= 0x40;
+    let mut rescued = a;
+    rescued.projects[1] = Project {
+        ceiling: 1,
+        budget: 4,
+    };
+    rescued.n = 2;
+    rescued.kinds.rotate_left(1);
+    rescued.kinds[15] = Kind::default();
+    let image = plan_image(&rescued);
+    table.good("(viii)", rescuing(&damaged, 26), 24, &image);
+    if let Some(row) = table.rows.last_mut() {
+        let entries = [
+            [1, 0, 0, 2, 0, 0],
+            [4, 1, 0, 0, 0, 1],
+            [5, 1, 0, 5, 0, 4],
+            [7, 0, 0, 0, 0, 0],
+        ];
+        row.expected.list[..24].copy_from_slice(&entries.concat());
+    }
+    table.refused("(viii), one byte short", rescuing(&damaged, 23), 9, 0, 0);
+    let mut short = rescuing(&damaged, 24);
+    short.lent.truncate(PLAN_IMAGE - 1);
+    table.refused("(viii), one byte short", short, 9, 0, 0);
+    let image = plan_image(&a);
+    table.good("(viii), in order", rescuing(&PLAN_A, 0), 0, &image);
+    let wide = pack(&wider_by_7());
+    let image = plan_image(&wider_by_7());
+    table.good("(viii), 7 or not", rescuing(&wide, 0), 0, &image);
+    table.good(
+        "(viii), the result's bytes",
+        rescuing(&pack(&rescued), 0),
+        0,
+        &plan_image(&rescued),
+    );
+    damaged[7..].fill(0);
+    table.refused("(viii), no kind remains", rescuing(&damaged, 0), 20, 0, 0);
+    table.refused("(viii), two bytes", rescuing(&damaged[..2], 342), 1, 0, 0);
+    table.refused(
+        "(viii), one byte fewer",
+        rescuing(&damaged[..21], 342),
+        1,
+        0,
+        0,
+    );
+    damaged[0] = 0x02;
+    table.refused("(viii), no cards", rescuing(&damaged[..3], 0), 2, 0, 0);
 
     let none = Plan {
         n: 0,

@@ -98,13 +98,17 @@ fn a_difference_is_found_made_small_and_printed_as_bytes() {
 #[test]
 fn a_call_is_read_back_from_its_line() {
     let case = Case::release(vec![1, 0xAB], 3, u64::MAX);
-    assert_eq!(case.line(), "release 01ab - 3 18446744073709551615");
+    assert_eq!(case.line(), "release 01ab - - 3 18446744073709551615");
+    assert_eq!(Case::of_line(&case.line()), Some(case));
+    let case = Case::rescue(vec![1], vec![2], vec![3, 4]);
+    assert_eq!(case.line(), "rescue 01 02 0304 0 0");
     assert_eq!(Case::of_line(&case.line()), Some(case));
     for wrong in [
         "",
-        "show 0 - 0 0",
-        "show 0g - 0 0",
-        "none 00 - 0 0",
+        "show 0 - - 0 0",
+        "show 0g - - 0 0",
+        "none 00 - - 0 0",
+        "show 00 - 0 0",
         "show 00 -",
     ] {
         assert_eq!(Case::of_line(wrong), None, "{wrong}");

@@ -42,7 +42,7 @@ pub fn limit_plans() -> Vec<Plan> {
 }
 
 /// A wide plan that is admitted: eight cards, `p` projects, sixteen kinds, frame 8.
-fn wide_plan(p: u8) -> Plan {
+pub(crate) fn wide_plan(p: u8) -> Plan {
     let kinds: Vec<_> = (0..16u8)
         .map(|j| (j % p, 60 + u16::from(j), 50 + u16::from(j), 1))
         .collect();

@@ -1,4 +1,4 @@
-//! Seeded input to compare by: streams for the player, and records with fields in and out of range.
+//! Seeded input to compare by: streams for the player, records with fields in and out of range, and damaged plan bytes.
 //!
 //! The same seed gives the same sequence. Nothing here decides what is right: the second program's
 //! `verdict`, `smallest_budget`, `release` and `slice` are used only to find plans that are admitted,
@@ -6,12 +6,14 @@
 
 #![forbid(unsafe_code)]
 
+mod damage;
 mod fixed;
 mod lists;
 mod plans;
 mod records;
 mod streams;
 
+pub use damage::fixed_damage;
 pub use fixed::{
     fixed_open_budgets, fixed_plan_records, fixed_state_records, fixed_streams, fixed_sums,
     limit_plans,

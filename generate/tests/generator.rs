@@ -1,8 +1,8 @@
 //! The generator: the same seed gives the same input, and what it reaches.
 
 use generate::{
-    fixed_lists, fixed_open_budgets, fixed_plan_records, fixed_state_records, fixed_streams,
-    fixed_sums, limit_plans, Generator,
+    fixed_damage, fixed_lists, fixed_open_budgets, fixed_plan_records, fixed_state_records,
+    fixed_streams, fixed_sums, limit_plans, Generator,
 };
 use second::*;
 use std::collections::{BTreeMap, BTreeSet};
@@ -243,6 +243,64 @@ fn fixed_lists_reach_each_number_at_each_place_and_each_boundary() {
     }
     for place in 0..8 {
         assert!(reached.contains(&(6, place)), "6 at {place}");
+    }
+}
+
+/// What damage leads to: the numbers, and each field at each place; with the most entries there were.
+fn reached_by(damaged: &[Vec<u8>]) -> (BTreeMap<u64, u64>, BTreeSet<(u8, u8)>, usize) {
+    let mut numbers = BTreeMap::new();
+    let (mut fields, mut most) = (BTreeSet::new(), 0);
+    for bytes in damaged {
+        let mut list = [0; 342];
+        let (answer, plan, count) = rescue(bytes, &mut list);
+        let number = match answer.number {
+            // 7 or not.
+            0 => check(&plan).number,
+            number => number,
+        };
+        *numbers.entry(number).or_default() += 1;
+        for entry in list[..count].chunks(6) {
+            fields.insert((entry[0], entry[1]));
+        }
+        most = most.max(count / 6);
+    }
+    (numbers, fields, most)
+}
+
+#[test]
+fn fixed_damage_reaches_each_number_and_each_field_at_each_place() {
+    let damaged = fixed_damage();
+    let (numbers, fields, most) = reached_by(&damaged);
+    println!(
+        "fixed damage {}, {numbers:?}, at most {most}",
+        damaged.len()
+    );
+    for number in [0, 1, 2, 7, 20] {
+        assert!(numbers.contains_key(&number), "{number}");
+    }
+    for (field, places) in [(1, 1), (2, 8), (3, 16), (4, 8), (5, 8), (6, 16), (7, 16)] {
+        for place in 0..places {
+            assert!(fields.contains(&(field, place)), "{field} at {place}");
+        }
+    }
+    assert_eq!(most, 57);
+}
+
+#[test]
+fn random_damage_reaches_each_number_and_each_field() {
+    let mut generator = Generator::new(35);
+    let mut damaged = Vec::new();
+    for _ in 0..RUNS / 4 {
+        let plan = generator.good_plan();
+        damaged.extend((0..8).map(|_| generator.damaged(&plan)));
+    }
+    let (numbers, fields, most) = reached_by(&damaged);
+    println!("damage {}, {numbers:?}, at most {most}", damaged.len());
+    for number in [0, 1, 2, 7, 20] {
+        assert!(numbers.contains_key(&number), "{number}");
+    }
+    for field in 1..=7 {
+        assert!(fields.iter().any(|one| one.0 == field), "{field}");
     }
 }
 

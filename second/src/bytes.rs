@@ -21,9 +21,9 @@ pub fn plan_bytes(p: u8, n: u8) -> usize {
 }
 
 /// "Bit-packed, most significant bit first": takes one field after the other.
-struct BitsIn<'a> {
-    bytes: &'a [u8],
-    next: usize,
+pub(crate) struct BitsIn<'a> {
+    pub(crate) bytes: &'a [u8],
+    pub(crate) next: usize,
 }
 
 impl BitsIn<'_> {
@@ -60,29 +60,29 @@ impl BitsOut {
     }
 }
 
-/// The header's fields in order: "m 4, p 4, n 5, F 7, spare 4"; gives back whether the spare bits are zero.
-fn take_header(bits: &mut BitsIn, plan: &mut Plan) -> bool {
+/// The header's fields in order: "m 4, p 4, n 5, F 7, spare 4"; gives back the spare bits.
+pub(crate) fn take_header(bits: &mut BitsIn, plan: &mut Plan) -> u16 {
     plan.m = bits.take(4) as u8;
     plan.p = bits.take(4) as u8;
     plan.n = bits.take(5) as u8;
     plan.frame = bits.take(7) as u8;
-    bits.take(4) == 0
+    bits.take(4)
 }
 
-/// Each project's fields in order: "q 4, B 10, spare 2"; gives back whether the spare bits are zero.
-fn take_project(bits: &mut BitsIn, project: &mut Project) -> bool {
+/// Each project's fields in order: "q 4, B 10, spare 2"; gives back the spare bits.
+pub(crate) fn take_project(bits: &mut BitsIn, project: &mut Project) -> u16 {
     project.ceiling = bits.take(4) as u8;
     project.budget = bits.take(10);
-    bits.take(2) == 0
+    bits.take(2)
 }
 
-/// Each unit kind's fields in order: "project from 0 (3), T 12, D 12, C 12, spare 1"; gives back whether the spare bit is zero.
-fn take_kind(bits: &mut BitsIn, kind: &mut Kind) -> bool {
+/// Each unit kind's fields in order: "project from 0 (3), T 12, D 12, C 12, spare 1"; gives back the spare bit.
+pub(crate) fn take_kind(bits: &mut BitsIn, kind: &mut Kind) -> u16 {
     kind.project = bits.take(3) as u8;
     kind.separation = bits.take(12);
     kind.deadline = bits.take(12);
     kind.length = bits.take(12);
-    bits.take(1) == 0
+    bits.take(1)
 }
 
 /// How many bytes the plan at the front asks for: 3 until a header in range is there, then "the header's total".
@@ -114,7 +114,7 @@ fn read_or_refuse(bytes: &[u8]) -> Result<(Plan, usize), Answer> {
     }
     let mut bits = BitsIn { bytes, next: 0 };
     let mut plan = Plan::default();
-    let mut spare_is_zero = take_header(&mut bits, &mut plan);
+    let mut spare = take_header(&mut bits, &mut plan);
     // 2: "m, p, n or F out of range".
     if header_out_of_range(&plan) {
         return Err(Answer::refused(2));
@@ -127,12 +127,12 @@ fn read_or_refuse(bytes: &[u8]) -> Result<(Plan, usize), Answer> {
     // 3: "a spare bit [...] not zero", every spare bit of the whole plan before any 4.
     let (p, n) = (usize::from(plan.p), usize::from(plan.n));
     for project in &mut plan.projects[..p] {
-        spare_is_zero &= take_project(&mut bits, project);
+        spare |= take_project(&mut bits, project);
     }
     for kind in &mut plan.kinds[..n] {
-        spare_is_zero &= take_kind(&mut bits, kind);
+        spare |= take_kind(&mut bits, kind);
     }
-    if !spare_is_zero {
+    if spare != 0 {
         return Err(Answer::refused(3));
     }
     // "all projects for 4".

@@ -3,9 +3,11 @@
 // Of n kinds, a of them with slices left, for p projects, that is at most a·n / 2 steps for the
 // ranks and 4n + p for the rest, after a check of 40 + n + 2p.
 ghost use mathlib.Core.Path.{_≡_};
-ghost use Rattle.rack.specs.Advance.{advanceAnswer, advanceOf};
+ghost use Rattle.rack.specs.Seat.{seatsOf};
+ghost use Rattle.rack.specs.Advance.{Advanceable, advanced, advanceAnswer, advanceOf};
 use crate::Next;
 use crate::State;
+use crate::project_place;
 use answer::Answer;
 
 impl State {
@@ -23,8 +25,26 @@ impl State {
         Answer::Good
     }
 
-    // Runs one slice: one slice less for each kind that sits, one less in its project's sum, and the
-    // next clock.
+    // One slice less for each kind that sits, one less in its project's sum, and the next clock.
+    fn run_seated(mut self, seat: &[u8; 16]) -> State
+        requires { ⌜ Advanceable self × (now seat ≡ seatsOf self) ⌝ }
+        ensures { λ r. ⌜ r ≡ advanced self ⌝ }
+    {
+        let plan = self.plan;
+        let kinds = self.places();
+        for i in 0..kinds {
+            if seat[i] == 0 {
+                continue;
+            }
+            self.unit[i].left -= 1;
+            let project = project_place(plan.kind[i]);
+            self.sum[project] -= 1;
+        }
+        self.clock += 1;
+        self
+    }
+
+    // Runs one slice.
     pub fn advance(mut self) -> Next
         ensures { λ r. ⌜ r ≡ advanceOf self ⌝ }
     {
@@ -35,18 +55,8 @@ impl State {
                 state: self,
             };
         };
-        let plan = self.plan;
         let seat = self.seats();
-        let kinds = self.places();
-        for i in 0..kinds {
-            if seat[i] == 0 {
-                continue;
-            }
-            self.unit[i].left -= 1;
-            let project = plan.kind[i].project as usize;
-            self.sum[project] -= 1;
-        }
-        self.clock += 1;
+        self = self.run_seated(&seat);
         Next {
             answer,
             state: self,

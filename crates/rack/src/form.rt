@@ -1,10 +1,12 @@
 // Whether a state is in form and its sums are right, and the tests that every call on a state
 // shares: the record order, 10, 16.
 ghost use mathlib.Core.Path.{_≡_};
+ghost use Prim.Native.Nat.{_<_};
 ghost use Rattle.plan.specs.Order.{InOrder};
 ghost use Rattle.rack.specs.Sums.{sumsRight, leftRow};
-ghost use Rattle.rack.specs.Form.{sumFits, sumsInForm, Looked, ready};
+ghost use Rattle.rack.specs.Form.{placeInForm, sumFits, sumsInForm, Looked, ready};
 use crate::State;
+use crate::project_place;
 use answer::Answer;
 use plan::Plan;
 
@@ -35,6 +37,15 @@ impl State {
         true
     }
 
+    fn place_in_form(self, i: usize) -> bool
+        requires { ⌜ i < 16 ⌝ }
+        ensures { λ r. ⌜ r ≡ placeInForm self i ⌝ }
+    {
+        let plan = self.plan;
+        self.unit[i]
+            .fits_place(self.in_use(i), self.clock, plan.kind[i].length)
+    }
+
     // One pass over the kinds: each place in form, and its slices left added to its project's.
     fn look(self) -> Seen
         requires { ⌜ InOrder (self .plan) ⌝ }
@@ -49,16 +60,14 @@ impl State {
             };
         }
         for i in 0..Plan::KINDS {
-            let unit = self.unit[i];
-            let kind = plan.kind[i];
-            if !unit.fits_place(self.in_use(i), self.clock, kind.length) {
+            if !self.place_in_form(i) {
                 return Seen {
                     in_form: false,
                     left,
                 };
             }
-            let project = kind.project as usize;
-            left[project] += unit.left;
+            let project = project_place(plan.kind[i]);
+            left[project] += self.unit[i].left;
         }
         Seen {
             in_form: self.sums_in_form(),

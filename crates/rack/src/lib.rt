@@ -10,9 +10,11 @@ mod row;
 mod show;
 
 ghost use mathlib.Core.Path.{_≡_};
+ghost use Prim.Native.Nat.{_<_};
 ghost use Rattle.rack.specs.State.{freshOf, noState, kindPlaces, used};
 ghost use Rattle.rack.specs.Start.{startOf};
 use answer::Answer;
+use plan::Kind;
 use plan::Plan;
 use unit::Unit;
 use verdict::judge;
@@ -30,6 +32,14 @@ pub struct State {
 pub struct Next {
     pub answer: Answer,
     pub state: State,
+}
+
+// The place of a kind's project.
+pub(crate) fn project_place(kind: Kind) -> usize
+    requires { ⌜ kind .project < 8 ⌝ }
+    ensures { λ r. ⌜ (r ≡ kind .project) × (r < 8) ⌝ }
+{
+    kind.project as usize
 }
 
 impl State {

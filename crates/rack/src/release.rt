@@ -3,6 +3,7 @@ ghost use mathlib.Core.Path.{_≡_};
 ghost use Rattle.rack.specs.Release.{releaseAnswer, releaseOf};
 use crate::Next;
 use crate::State;
+use crate::project_place;
 use answer::Answer;
 use unit::Unit;
 
@@ -35,7 +36,7 @@ impl State {
             };
         };
         let plan = self.plan;
-        let project = plan.kind[kind].project as usize;
+        let project = project_place(plan.kind[kind]);
         self.unit[kind] = Unit {
             at: self.clock,
             left: length as u16,

@@ -9,12 +9,11 @@ use native.Mathlib.Decide.{ℕ-discrete}
 use native.Mathlib.Nat.{mod-add-mod}
 use native.Mathlib.Omega.{arith}
 use lib.Dec.{eqb}
-use lib.ListN.{length}
 use borrow.Author.Tests.{eqb-true}
 use Rattle.unit.specs.declared.Unit.{Unit}
 use Rattle.plan.specs.declared.Kind.{Kind}
 use Rattle.rack.specs.declared.State.{State}
-use Rattle.rack.specs.State.{unitOf, kindAt, InUse, ProjectInUse}
+use Rattle.rack.specs.State.{unitOf, kindAt, InUse, ProjectInUse, Places}
 use Rattle.rack.specs.Form.{Ready}
 use Rattle.rack.specs.Form.Properties.{ready-of, used-of, unit-form}
 use Rattle.rack.specs.View.{Same, hasCard, rankOf, chosen, byteOn}
@@ -110,13 +109,13 @@ module _ (j : ℕ) (s t : State) (alike : Alike j s t) where
 next-slice : (a b m n : ℕ) → m ≡ n → a % m ≡ b % n → (a + 1) % m ≡ (b + 1) % n
 next-slice a b m n e h = sym (mod-add-mod a m 1) ∙ rw (h, e) (mod-add-mod b n 1)
 
-gone-after : (s : State) → Advanceable s → length (s .unit) ≡ 16 → (i : ℕ) → InUse s i → Rank.gone (advanced s) i ≡ Rank.gone s i + 1
+gone-after : (s : State) → Advanceable s → Places s → (i : ℕ) → InUse s i → Rank.gone (advanced s) i ≡ Rank.gone s i + 1
 unfolding Rank.gone advanced unitAfter
 gone-after s may places i l =
     omega (arith, ap (λ (v : Unit). v .at) (unit-after s may places i l), unit-form s i (may .ready) l .release-clock)
 
 module _ (j : ℕ) (s t : State) (alike : Alike j s t) where
-  pub alike-advanced : Advanceable s → Advanceable t → length (s .unit) ≡ 16 → length (t .unit) ≡ 16 → Alike j (advanced s) (advanced t)
+  pub alike-advanced : Advanceable s → Advanceable t → Places s → Places t → Alike j (advanced s) (advanced t)
   unfolding advanced unitAfter
   alike-advanced a b p q = record {
     places = alike .places;
@@ -144,7 +143,7 @@ module _ (j : ℕ) (s t : State) (alike : Alike j s t) where
   -- ---- after releases
 
   -- of a kind of the project, in both at one clock
-  pub alike-own : (k e : ℕ) → s .clock ≡ t .clock → Releasable s k e → Releasable t k e → length (s .unit) ≡ 16 → length (t .unit) ≡ 16 →
+  pub alike-own : (k e : ℕ) → s .clock ≡ t .clock → Releasable s k e → Releasable t k e → Places s → Places t →
       Alike j (released s k e) (released t k e)
   unfolding released Rank.gone
   alike-own k e c a b p q = record {
@@ -173,7 +172,7 @@ module _ (j : ℕ) (s t : State) (alike : Alike j s t) where
           ]
 
   -- of a kind of another project, in one
-  pub alike-other : (k e : ℕ) → kindAt s k .project ≢ j → Releasable s k e → length (s .unit) ≡ 16 → Alike j (released s k e) t
+  pub alike-other : (k e : ℕ) → kindAt s k .project ≢ j → Releasable s k e → Places s → Alike j (released s k e) t
   unfolding released Rank.gone
   alike-other k e other a p = record {
     places = alike .places;

@@ -1,26 +1,34 @@
 -- Laws of the form: what a good answer says of each place, and that nothing less is asked.
 -- Assumes nothing.
-use mathlib.Core.Path.{_≡_, sym, ap, _∙_}
-use mathlib.Core.Bool.{Bool, true, false, not}
-use Prim.Native.Nat.{ℕ, _≤_, _<_}
+use mathlib.Core.Path.{_≡_, refl, sym, ap, _∙_}
+use mathlib.Core.Logic.{_≢_}
+use mathlib.Core.Bool.{Bool, true, false, not, _&&_, false≢true}
+use mathlib.Core.List.{List}
+use Prim.Native.Nat.{ℕ, _+_, _-_, _*_, _≤_, _<_}
 use native.Mathlib.Decide.{decLt}
 use native.Mathlib.Omega.{arith}
-use lib.Dec.{leb}
-use borrow.Author.Tests.{lt-ltb, le-ltb, le-leb, ltb-true, leb-true, not-false}
-use Rattle.laws.specs.Tests.{and-left, and-right, and-both}
+use lib.Dec.{leb, eqb}
+use lib.ListN.{getD, replicate}
+use borrow.Author.Tests.{lt-ltb, le-ltb, le-leb, lt-leb, ltb-true, leb-true, eq-eqb, ne-eqb, eqb-true, not-false}
+use Rattle.laws.specs.Tests.{and-left, and-right, and-both, told-yes, second-no}
+use Rattle.laws.specs.Sum.{sumTo}
 use Rattle.laws.specs.All.{allTo}
-use Rattle.laws.specs.All.Properties.{all-at, all-of}
+use Rattle.laws.specs.All.Properties.{all-more, all-at, all-of, all-fails}
+use Rattle.laws.specs.Written.Properties.{written-cong, stored-at}
 use Rattle.answer.specs.declared.Answer.{Answer}
 use Rattle.answer.specs.declared.Answer.the-variants.{Good}
-use Rattle.answer.specs.Answer.{bare, refuse}
+use Rattle.answer.specs.Answer.{bare, refuse, _andThen_}
 use Rattle.answer.specs.Answer.Properties.{andThen-left, andThen-right, refuse-good}
-use Rattle.plan.specs.Order.{checked}
+use Rattle.plan.specs.Order.{emptyKind, InOrder, checked}
 use Rattle.plan.specs.Order.Properties.{in-order, in-order-good}
+use Rattle.unit.specs.declared.Unit.{Unit}
 use Rattle.unit.specs.Form.{UnitInForm, fitsPlace}
 use Rattle.unit.specs.Form.Properties.{unit-says, unit-of, empty-says, empty-of}
 use Rattle.rack.specs.declared.State.{State}
-use Rattle.rack.specs.State.{lastClock, unitOf, kindAt, kindPlaces, InUse, used}
-use Rattle.rack.specs.Form.{InForm, Ready, placeInForm, inForm, ready}
+use Rattle.rack.specs.State.{lastClock, unitOf, kindAt, kindPlaces, InUse, used, ProjectInUse, projectPlaces, projectUsed, sumAt}
+use Rattle.rack.specs.Sums.{leftFor, projectLeft, sumRight, sumsRight, leftBelow, leftRow}
+use Rattle.rack.specs.Sums.Properties.{sums-say, sums-of, below-at, below-all, sum-most}
+use Rattle.rack.specs.Form.{InForm, Ready, Looked, placeInForm, sumFits, sumInForm, sumsInForm, inForm, sumsTold, ready}
 
 -- ---- a place in use, asked by a test
 
@@ -44,25 +52,67 @@ pub place-found : (s : State) (i : ℕ) (u b : Bool) → u ≡ used s i →
     b ≡ fitsPlace u (s .clock) (kindAt s i .length) (unitOf s i) → b ≡ placeInForm s i
 place-found s i u b e q = q ∙ ap (λ (x : Bool). fitsPlace x (s .clock) (kindAt s i .length) (unitOf s i)) e
 
+-- and the places so far with it
+pub place-more : (s : State) (i : ℕ) (b : Bool) → true ≡ allTo i (placeInForm s) → b ≡ placeInForm s i → not b ≡ false →
+    true ≡ allTo (i + 1) (placeInForm s)
+place-more s i b all e t = all-more i (placeInForm s) all (told-yes (placeInForm s i) b e t)
+
+-- ---- the stored sums
+
+pub fits-used : (used : Bool) (sum : ℕ) → used ≡ true → used ≡ sumFits used sum
+unfolding sumFits
+fits-used used sum e = rw e
+
+pub fits-zero : (used : Bool) (sum : ℕ) → used ≡ false → eqb sum 0 ≡ sumFits used sum
+unfolding sumFits
+fits-zero used sum e = rw e
+
+pub project-used : (s : State) (j : ℕ) → ProjectInUse s j → projectUsed s j ≡ true
+project-used s j l = lt-ltb j (projectPlaces s) l
+
+pub project-unused : (s : State) (j : ℕ) → (ProjectInUse s j → ⊥) → projectUsed s j ≡ false
+project-unused s j l =
+    elim (decLt j (projectPlaces s)) [ yes m ↦ absurd (l m) | no m ↦ le-ltb j (projectPlaces s) (omega arith) ]
+
+-- what the test says of a place beyond p
+sum-says : (s : State) (j : ℕ) → (ProjectInUse s j → ⊥) → sumInForm s j ≡ true → sumAt s j ≡ 0
+unfolding sumFits
+sum-says s j l e = eqb-true (sumAt s j) 0 (rw (project-unused s j l) at e)
+
+sum-of : (s : State) (j : ℕ) → ((ProjectInUse s j → ⊥) → sumAt s j ≡ 0) → sumInForm s j ≡ true
+unfolding sumFits
+sum-of s j h =
+    elim (decLt j (projectPlaces s)) [
+      | yes m ↦ rw (project-used s j m)
+      | no m ↦ rw (project-unused s j m, eq-eqb (sumAt s j) 0 (h m))
+    ]
+
 -- ---- the whole state
 
 -- what the test says of each place
 pub form-says : (s : State) → inForm s ≡ true → InForm s
-unfolding inForm
+unfolding inForm sumsInForm
 form-says s e =
-    let places = all-at 16 (placeInForm s) (and-right (leb (s .clock) lastClock) (allTo 16 (placeInForm s)) e) in
+    let rest = allTo 16 (placeInForm s) && sumsInForm s in
+    let both = and-right (leb (s .clock) lastClock) rest e in
+    let places = all-at 16 (placeInForm s) (and-left (allTo 16 (placeInForm s)) (sumsInForm s) both) in
+    let sums = all-at 8 (sumInForm s) (and-right (allTo 16 (placeInForm s)) (sumsInForm s) both) in
     record {
-      clock-most = leb-true (s .clock) lastClock (and-left (leb (s .clock) lastClock) (allTo 16 (placeInForm s)) e);
+      clock-most = leb-true (s .clock) lastClock (and-left (leb (s .clock) lastClock) rest e);
       unit-at = λ i l m. unit-says (s .clock) (kindAt s i .length) (unitOf s i) (rw (used-of s i m) at (places i l));
       unused = λ i l m. empty-says (unitOf s i) (rw (used-not s i m) at (places i l));
+      sums-unused = λ j l m. sum-says s j m (sums j l);
     }
 
 -- and nothing more is asked
 pub form-of : (s : State) → InForm s → inForm s ≡ true
-unfolding inForm
+unfolding inForm sumsInForm
 form-of s f =
     let range = le-leb (s .clock) lastClock (f .clock-most) in
-    and-both (leb (s .clock) lastClock) (allTo 16 (placeInForm s)) range (all-of 16 (placeInForm s) place)
+    let places = all-of 16 (placeInForm s) place in
+    let sums = all-of 8 (sumInForm s) (λ j l. sum-of s j (f .sums-unused j l)) in
+    and-both (leb (s .clock) lastClock) (allTo 16 (placeInForm s) && sumsInForm s) range
+    (and-both (allTo 16 (placeInForm s)) (sumsInForm s) places sums)
   where
     place : (i : ℕ) → i < 16 → placeInForm s i ≡ true
     place i l =
@@ -71,20 +121,22 @@ form-of s f =
           | no m ↦ rw (used-not s i m) (empty-of (unitOf s i) (f .unused i l m))
         ]
 
--- none of the record order and 10: the plan is in order and the state in form
+-- none of the record order, 10 and 16: the plan is in order, the state in form and its sums right
 pub ready-says : (s : State) → ready s ≡ Good → Ready s
-unfolding ready
+unfolding ready sumsTold
 ready-says s e =
     let ten = refuse (not (inForm s)) (bare 10) in
+    let both = andThen-right (checked (s .plan)) (ten andThen sumsTold s) e in
     record {
-      order = in-order (s .plan) (andThen-left (checked (s .plan)) ten e);
-      form = form-says s (not-false (inForm s) (refuse-good (not (inForm s)) _ (andThen-right (checked (s .plan)) ten e)));
+      order = in-order (s .plan) (andThen-left (checked (s .plan)) (ten andThen sumsTold s) e);
+      form = form-says s (not-false (inForm s) (refuse-good (not (inForm s)) _ (andThen-left ten (sumsTold s) both)));
+      sums = sums-say s (not-false (sumsRight s) (refuse-good (not (sumsRight s)) _ (andThen-right ten (sumsTold s) both)));
     }
 
 -- and nothing more is asked
 pub ready-of : (s : State) → Ready s → ready s ≡ Good
-unfolding ready
-ready-of s r = rw (in-order-good (s .plan) (r .order), form-of s (r .form))
+unfolding ready sumsTold
+ready-of s r = rw (in-order-good (s .plan) (r .order), form-of s (r .form), sums-of s (r .sums))
 
 -- ---- its places
 
@@ -110,3 +162,100 @@ module _ (s : State) (i : ℕ) (r : Answer) (u : Bool) (good : r ≡ Good) (is :
   -- and its release clock is not ahead of the clock
   pub ready-clock : unitOf s i .at ≤ s .clock
   ready-clock = unit-form s i (ready-says s (sym is ∙ good)) kind-opened .release-clock
+
+-- ---- the pass over the kinds, which goes through places in form: i is how far it is, and l what is left so far
+
+-- at most 4095 is left at a place in form
+place-left : (s : State) → InOrder (s .plan) → (i : ℕ) → i < 16 → placeInForm s i ≡ true → unitOf s i .left ≤ 4095
+place-left s o i l e =
+    elim (in-use s i) [
+      | yes m ↦ used-left m (unit-says (s .clock) (kindAt s i .length) (unitOf s i) (rw (used-of s i m) at e))
+      | no m ↦ omega (arith, ap (λ (v : Unit). v .left) (empty-says (unitOf s i) (rw (used-not s i m) at e)))
+    ]
+  where
+    used-left : InUse s i → UnitInForm (s .clock) (kindAt s i .length) (unitOf s i) → unitOf s i .left ≤ 4095
+    used-left m u =
+        let v = o .kind-at i m in
+        omega (arith, u .left-most, v .length-most, v .deadline-most, v .separation-most)
+
+module _ (s : State) (i : ℕ) (o : InOrder (s .plan)) (m : i < 16) where
+  -- a kind's project is one of the eight places, also at a place beyond n
+  pub look-project : kindAt s i .project < 8
+  unfolding emptyKind
+  look-project = elim (in-use s i) [ yes l ↦ omega (arith, o .kind-at i l .its-project, o .counts .projects-most) | no l ↦ zero l ]
+    where
+      zero : (InUse s i → ⊥) → kindAt s i .project < 8
+      zero l =
+          let k = kindAt s i in
+          let rest = eqb (k .separation) 0 && (eqb (k .deadline) 0 && eqb (k .length) 0) in
+          let e : (eqb (k .project) 0 && rest) ≡ true = rw (used-not s i l) at (o .kinds-tidy i m) in
+          omega (arith, eqb-true (k .project) 0 (and-left (eqb (k .project) 0) rest e))
+
+  -- what is left so far and what is left here are together a number of 16 bits: at most 16 · 4095
+  pub look-room : (l : List ℕ) (c : ℕ) → c ≡ kindAt s i .project → l ≡ leftBelow s i → true ≡ allTo i (placeInForm s) →
+      placeInForm s i ≡ true → getD l c 0 + unitOf s i .left < 65536
+  look-room l c e so-far all here =
+      let before = sum-most s i 4095 (λ k q. place-left s o k (omega arith) (all-at i (placeInForm s) (sym all) k q)) c in
+      omega (arith, below-at s i l so-far c (omega (arith, look-project)), before, place-left s o i m here)
+
+-- ---- what it finds
+
+module _ (s : State) (left : List ℕ) where
+  -- the clock has run past its end
+  pub looked-late : (b : Bool) → b ≡ false → lastClock < s .clock → Looked s b left
+  unfolding inForm
+  looked-late b e l = record { told = rw (e, lt-leb (s .clock) lastClock l); row = λ t. absurd (false≢true (rw (lt-leb (s .clock) lastClock l) at t)) }
+
+  -- a place is not in form
+  pub looked-place : (b : Bool) (i : ℕ) → b ≡ false → i < 16 → placeInForm s i ≡ false → Looked s b left
+  unfolding inForm
+  looked-place b i e l f =
+      let no : inForm s ≡ false = sym (second-no (leb (s .clock) lastClock) _ (and-false-left (sym (all-fails 16 i (placeInForm s) f l)))) in
+      record { told = e ∙ sym no; row = λ t. absurd (false≢true (sym no ∙ t)) }
+    where
+      and-false-left : allTo 16 (placeInForm s) ≡ false → false ≡ (allTo 16 (placeInForm s) && sumsInForm s)
+      and-false-left q = rw q
+
+  -- every place is: what is left is left in the plan's kinds
+  pub looked-all : (b : Bool) (i : ℕ) → InOrder (s .plan) → s .clock ≤ lastClock → true ≡ allTo i (placeInForm s) → i ≤ 16 → 16 ≤ i →
+      left ≡ leftBelow s i → b ≡ sumsInForm s → Looked s b left
+  unfolding inForm
+  looked-all b i o c all p q so-far e =
+      let end : i ≡ 16 = omega arith in
+      let every : allTo 16 (placeInForm s) ≡ true = sym (all ∙ ap (λ (x : ℕ). allTo x (placeInForm s)) end) in
+      let n = kindPlaces s in
+      let most = o .counts .kinds-most in
+      let unused : (k : ℕ) → k < 16 - n → unitOf s (n + k) .left ≡ 0 = λ k l.
+      ap (λ (v : Unit). v .left) (empty-says (unitOf s (n + k))
+      (rw (used-not s (n + k) (λ z. omega arith)) at (all-at 16 (placeInForm s) every (n + k) (omega arith)))) in
+      record {
+        told = rw (le-leb (s .clock) lastClock c, every) e;
+        row = λ t.
+            so-far ∙ ap (leftBelow s) end
+            ∙ written-cong 8 (λ j. sumTo 16 (leftFor s j)) (projectLeft s) (replicate 8 0)
+            (λ j l. below-all s 16 (16 - n) (omega arith) unused j);
+      }
+
+-- what was found, opened: r is what the record order answered, and b whether the state was found in form
+
+pub check-order : (s : State) (r : Answer) → r ≡ Good → r ≡ checked (s .plan) → InOrder (s .plan)
+check-order s r good is = in-order (s .plan) (sym is ∙ good)
+
+pub looked-row : (s : State) (b : Bool) (left : List ℕ) → Looked s b left → not b ≡ false → left ≡ leftRow s
+looked-row s b left k e = k .row (sym (k .told) ∙ not-false b e)
+
+-- ---- the stored sums against what was found
+
+pub projects-most : (s : State) → InOrder (s .plan) → projectPlaces s ≤ 8
+projects-most s o = o .counts .projects-most
+
+module _ (s : State) (left : List ℕ) (j n : ℕ) (o : InOrder (s .plan)) (is : left ≡ leftRow s) (e : n ≡ projectPlaces s) (l : j < n) where
+  row-at : getD left j 0 ≡ projectLeft s j
+  row-at = ap (λ (m : List ℕ). getD m j 0) is ∙ stored-at 8 8 (projectLeft s) j (omega (arith, o .counts .projects-most)) (omega arith)
+
+  pub sum-differs : sumAt s j ≢ getD left j 0 → false ≡ sumsRight s
+  unfolding sumsRight
+  sum-differs z = all-fails (projectPlaces s) j (sumRight s) (ne-eqb (sumAt s j) (projectLeft s j) (λ q. z (q ∙ sym row-at))) (omega arith)
+
+  pub sum-agrees : sumAt s j ≡ getD left j 0 → sumRight s j ≡ true
+  sum-agrees q = eq-eqb (sumAt s j) (projectLeft s j) (q ∙ row-at)

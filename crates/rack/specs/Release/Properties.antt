@@ -1,28 +1,33 @@
 -- Laws of a release: what an accepted one says, and that nothing less is asked.
 -- Assumes nothing.
-use mathlib.Core.Path.{_≡_, sym, ap, _∙_}
-use mathlib.Core.Bool.{true, not, true≢false}
-use Prim.Native.Nat.{ℕ, _<_}
+use mathlib.Core.Path.{_≡_, refl, sym, ap, _∙_}
+use mathlib.Core.Bool.{true, not, cond, true≢false}
+use Prim.Native.Nat.{ℕ, _+_, _*_, _≤_, _<_}
 use mathlib.Core.Logic.{_≢_}
 use native.Mathlib.Decide.{ℕ-discrete}
 use native.Mathlib.Omega.{arith}
-use lib.ListN.{length, length-set}
+use lib.Dec.{eqb}
+use lib.ListN.{set, length-set}
 use lib.Seq.{getD-set-same, getD-set-other}
-use borrow.Author.Tests.{not-false}
+use borrow.Author.Tests.{eq-eqb, ne-eqb, not-false}
+use Rattle.laws.specs.Sum.Properties.{sum-bound}
 use Rattle.answer.specs.declared.Answer.{Answer}
 use Rattle.answer.specs.declared.Answer.the-variants.{Good, No}
 use Rattle.answer.specs.declared.Refusal.{Refusal}
 use Rattle.answer.specs.Answer.{bare, refuse, _andThen_}
 use Rattle.answer.specs.Answer.Properties.{andThen-left, andThen-right, refuse-good}
+use Rattle.unit.specs.declared.Unit.{Unit}
 use Rattle.unit.specs.Start.{startable}
 use Rattle.unit.specs.Start.Properties.{start-says, start-of}
 use Rattle.rack.specs.declared.State.{State}
 use Rattle.unit.specs.Unit.{noUnit}
-use Rattle.rack.specs.State.{unitOf, kindAt, used}
+use Rattle.rack.specs.State.{unitOf, kindAt, kindPlaces, InUse, used, projectPlaces, sumAt, Places}
 use Rattle.rack.specs.State.Properties.{refused-keeps}
+use Rattle.rack.specs.Sums.{leftFor, projectLeft, SumsRight}
+use Rattle.rack.specs.Sums.Properties.{sum-changed, left-own, left-other, left-most, left-none}
 use Rattle.rack.specs.Form.{ready, Ready}
 use Rattle.unit.specs.Form.{UnitInForm}
-use Rattle.rack.specs.Form.Properties.{ready-says, ready-of, used-of, used-says, place-most}
+use Rattle.rack.specs.Form.Properties.{ready-says, ready-of, used-of, used-says, place-most, unit-form}
 use Rattle.rack.specs.Rank.{gone}
 use Rattle.rack.specs.Release.{Releasable, releaseAnswer, startedUnit, released, releaseOf}
 
@@ -58,6 +63,58 @@ release-length s i e r g q =
     let k = o .ready .order .kind-at i (o .its-kind) in
     omega (arith, o .start .length-most, k .length-most, k .deadline-most, k .separation-most)
 
+-- ---- its project's sum
+
+module _ (s : State) (i e : ℕ) (r : Releasable s i e) where
+  abbrev c : ℕ
+  c = kindAt s i .project
+
+  abbrev n : ℕ
+  n = kindPlaces s
+
+  its-project : c < projectPlaces s
+  its-project = r .ready .order .kind-at i (r .its-kind) .its-project
+
+  below : (k : ℕ) → InUse s k → kindAt s k .length ≤ 4095
+  below k l =
+      let v = r .ready .order .kind-at k l in
+      omega (arith, v .length-most, v .deadline-most, v .separation-most)
+
+  -- what is left of the project, with e for kind i
+  abbrev with-new : ℕ → ℕ
+  with-new k = cond (eqb k i) e (leftFor s c k)
+
+  new-most : (k : ℕ) → k < n → with-new k ≤ 4095
+  new-most k l =
+      elim (ℕ-discrete k i) [
+        | yes z ↦ rw (eq-eqb k i z) (omega (arith, r .start .length-most, below i (r .its-kind)))
+        | no z ↦ rw (ne-eqb k i z) (left-most s c k 4095 (omega (arith, unit-form s k (r .ready) l .left-most, below k l)))
+      ]
+
+  -- the sum as it rises is still one of the eight numbers of 16 bits: at most 16 · 4095
+  room : sumAt s c + e ≤ 16 * 4095
+  unfolding projectLeft
+  room =
+      let own : with-new i ≡ e = rw (eq-eqb i i refl) in
+      let changed = sum-changed n (leftFor s c) with-new i (r .its-kind) (λ k l z. rw (ne-eqb k i z)) in
+      let none = left-none s c i (r .start .nothing-left) in
+      omega (arith, r .ready .sums c its-project, changed, none, own, sum-bound n 4095 with-new new-most, r .ready .order .counts .kinds-most)
+
+pub release-project : (s : State) (i e : ℕ) (r : Answer) → r ≡ Good → r ≡ releaseAnswer s i e → kindAt s i .project < 8
+release-project s i e r g q =
+    let o = release-opened s i e r g q in omega (arith, its-project s i e o, o .ready .order .counts .projects-most)
+
+pub release-room : (s : State) (i e j : ℕ) (r : Answer) → r ≡ Good → r ≡ releaseAnswer s i e → j ≡ kindAt s i .project →
+    sumAt s j + e < 65536
+release-room s i e j r g q z = omega (arith, room s i e (release-opened s i e r g q), ap (sumAt s) z)
+
+-- the state as the code makes it: j is its project
+pub released-is : (s : State) (i e j : ℕ) → j ≡ kindAt s i .project →
+    record { plan = s .plan; clock = s .clock; unit = set (s .unit) i (startedUnit s e); sum = set (s .sum) j (sumAt s j + e) }
+    ≡ released s i e
+unfolding released
+released-is s i e j z = rw z
+
 -- ---- a refusal changes nothing
 
 pub release-refused : (s : State) (i e : ℕ) (w : Refusal) → releaseOf s i e .answer ≡ No w → releaseOf s i e .state ≡ s
@@ -66,18 +123,21 @@ release-refused s i e w h = refused-keeps (releaseAnswer s i e) w (released s i 
 
 -- ---- the state that it leaves is in form
 
-module _ (s : State) (i e : ℕ) (r : Releasable s i e) (places : length (s .unit) ≡ 16) where
+module _ (s : State) (i e : ℕ) (r : Releasable s i e) (places : Places s) where
   pub release-unit : unitOf (released s i e) i ≡ startedUnit s e
   unfolding released
-  release-unit = getD-set-same (s .unit) i (startedUnit s e) noUnit (omega (arith, places, place-most s i (r .ready) (r .its-kind)))
+  release-unit = getD-set-same (s .unit) i (startedUnit s e) noUnit (omega (arith, places .sixteen, place-most s i (r .ready) (r .its-kind)))
 
   pub release-others : (k : ℕ) → k ≢ i → unitOf (released s i e) k ≡ unitOf s k
   unfolding released
   release-others k z = getD-set-other (s .unit) i k (startedUnit s e) noUnit z
 
-  pub release-places : length (released s i e .unit) ≡ 16
+  pub release-places : Places (released s i e)
   unfolding released
-  release-places = length-set (s .unit) i (startedUnit s e) ∙ places
+  release-places = record {
+    sixteen = length-set (s .unit) i (startedUnit s e) ∙ places .sixteen;
+    eight = length-set (s .sum) (kindAt s i .project) (sumAt s (kindAt s i .project) + e) ∙ places .eight;
+  }
 
   form-at : (k : ℕ) → UnitInForm (s .clock) (kindAt s k .length) (unitOf s k) → Dec (k ≡ i) →
       UnitInForm (s .clock) (kindAt s k .length) (unitOf (released s i e) k)
@@ -91,6 +151,49 @@ module _ (s : State) (i e : ℕ) (r : Releasable s i e) (places : length (s .uni
       })
   form-at k u (no z) = rw (release-others k z) u
 
+  -- ---- the sums
+
+  -- what is left of project j, and that kind i had nothing left
+  raised : (j : ℕ) → projectLeft (released s i e) j ≡ projectLeft s j + leftFor (released s i e) j i
+  unfolding projectLeft leftFor released
+  raised j =
+      let old : ℕ → ℕ = λ k. cond (eqb (kindAt s k .project) j) (unitOf s k .left) 0 in
+      let new : ℕ → ℕ = λ k. cond (eqb (kindAt s k .project) j) (unitOf (released s i e) k .left) 0 in
+      let others : (k : ℕ) → k < kindPlaces s → k ≢ i → new k ≡ old k = λ k l z.
+      ap (λ (v : Unit). cond (eqb (kindAt s k .project) j) (v .left) 0) (release-others k z) in
+      omega (arith, sum-changed (kindPlaces s) old new i (r .its-kind) others, left-none s j i (r .start .nothing-left))
+
+  pub release-left : projectLeft (released s i e) (kindAt s i .project) ≡ projectLeft s (kindAt s i .project) + e
+  unfolding released
+  release-left =
+      let own = left-own (released s i e) (kindAt s i .project) i refl ∙ ap (λ (v : Unit). v .left) release-unit in
+      omega (arith, raised (kindAt s i .project), own)
+
+  pub release-left-others : (j : ℕ) → j ≢ kindAt s i .project → projectLeft (released s i e) j ≡ projectLeft s j
+  unfolding released
+  release-left-others j z = omega (arith, raised j, left-other (released s i e) j i (λ e. z (sym e)))
+
+  pub release-sum : sumAt (released s i e) (kindAt s i .project) ≡ sumAt s (kindAt s i .project) + e
+  unfolding released
+  release-sum =
+      getD-set-same (s .sum) (kindAt s i .project) (sumAt s (kindAt s i .project) + e) 0
+      (omega (arith, places .eight, its-project s i e r, r .ready .order .counts .projects-most))
+
+  pub release-sum-others : (j : ℕ) → j ≢ kindAt s i .project → sumAt (released s i e) j ≡ sumAt s j
+  unfolding released
+  release-sum-others j z = getD-set-other (s .sum) (kindAt s i .project) j (sumAt s (kindAt s i .project) + e) 0 z
+
+  release-sums : SumsRight (released s i e)
+  unfolding released
+  release-sums j l =
+      elim (ℕ-discrete j (kindAt s i .project)) [
+        | yes z ↦ rw z own
+        | no z ↦ release-sum-others j z ∙ r .ready .sums j l ∙ sym (release-left-others j z)
+      ]
+    where
+      own : sumAt (released s i e) (kindAt s i .project) ≡ projectLeft (released s i e) (kindAt s i .project)
+      own = omega (arith, release-sum, release-left, r .ready .sums (kindAt s i .project) (its-project s i e r))
+
   pub release-form : Ready (released s i e)
   unfolding released
   release-form = record {
@@ -99,5 +202,7 @@ module _ (s : State) (i e : ℕ) (r : Releasable s i e) (places : length (s .uni
       clock-most = r .ready .form .clock-most;
       unit-at = λ k l m. form-at k (r .ready .form .unit-at k l m) (ℕ-discrete k i);
       unused = λ k l m. release-others k (λ z. m (omega (arith, r .its-kind))) ∙ r .ready .form .unused k l m;
+      sums-unused = λ j l m. release-sum-others j (λ z. m (omega (arith, its-project s i e r))) ∙ r .ready .form .sums-unused j l m;
     };
+    sums = release-sums;
   }

@@ -1,9 +1,9 @@
 -- Laws of a fresh start: an accepted one gives the plan's fresh state, in form, and a refused one the all-zero state.
 -- Assumes nothing.
-use mathlib.Core.Path.{_≡_, refl, ap}
+use mathlib.Core.Path.{_≡_, refl, sym, ap, _∙_}
 use Prim.Native.Nat.{ℕ}
 use native.Mathlib.Omega.{arith}
-use lib.ListN.{length, length-replicate, getD-replicate}
+use lib.ListN.{length-replicate, getD-replicate}
 use Rattle.plan.specs.declared.Plan.{Plan}
 use Rattle.answer.specs.declared.Answer.the-variants.{Good, No}
 use Rattle.answer.specs.declared.Refusal.{Refusal}
@@ -12,10 +12,12 @@ use Rattle.verdict.specs.declared.Verdict.{Verdict}
 use Rattle.verdict.specs.Verdict.{judged}
 use Rattle.rack.specs.declared.State.{State}
 use Rattle.rack.specs.declared.Next.{Next}
+use Rattle.unit.specs.declared.Unit.{Unit}
 use Rattle.unit.specs.Unit.{noUnit}
-use Rattle.rack.specs.State.{kindAt, freshOf, noState}
+use Rattle.rack.specs.State.{kindAt, freshOf, noState, Places}
 use Rattle.rack.specs.State.Properties.{next-kept, next-moved, refused-keeps, good-moves}
 use Rattle.unit.specs.Form.{UnitInForm}
+use Rattle.rack.specs.Sums.Properties.{none-left}
 use Rattle.rack.specs.Form.{Ready}
 use Rattle.rack.specs.Start.{startAnswer, startOf}
 
@@ -54,11 +56,15 @@ fresh-form p o = record {
     clock-most = omega arith;
     unit-at = λ i l m. rw (getD-replicate 16 i noUnit noUnit l) (never (kindAt (freshOf p) i .length));
     unused = λ i l m. getD-replicate 16 i noUnit noUnit l;
+    sums-unused = λ j l m. getD-replicate 8 j 0 0 l;
   };
+  sums = λ j l.
+      getD-replicate 8 j 0 0 (omega (arith, o .counts .projects-most))
+      ∙ sym (none-left (freshOf p) (λ i m. ap (λ (v : Unit). v .left) (getD-replicate 16 i noUnit noUnit (omega (arith, o .counts .kinds-most)))) j);
 }
   where
     never : (n : ℕ) → UnitInForm 0 n noUnit
     never n = record { release-clock = omega arith; left-most = omega arith; never = λ e. (refl, refl) }
 
-pub fresh-places : (p : Plan) → length (freshOf p .unit) ≡ 16
-fresh-places p = length-replicate 16 noUnit
+pub fresh-places : (p : Plan) → Places (freshOf p)
+fresh-places p = record { sixteen = length-replicate 16 noUnit; eight = length-replicate {A = ℕ} 8 0 }

@@ -10,7 +10,7 @@ use Rattle.unit.specs.declared.Unit.{Unit}
 use Rattle.unit.specs.Unit.{noUnit}
 use Rattle.unit.specs.Form.{fitsPlace}
 use Rattle.unit.specs.Start.{startable}
-use Rattle.unit.specs.Step.{goneAfter, untilDue}
+use Rattle.unit.specs.Step.{untilDue, unitAfter}
 
 -- `Unit::empty`
 pub empty-one-outcome : One (λ r. r ≡ noUnit)
@@ -24,10 +24,10 @@ fits-place-one-outcome self used kind = is-one _
 pub may-start-one-outcome : (self : Unit) (kind : Kind) (length : ℕ) → One (λ r. r ≡ startable kind self length)
 may-start-one-outcome self kind length = is-one _
 
--- `Unit::gone_after`
-pub gone-after-one-outcome : (self : Unit) (separation : ℕ) → One (λ r. r ≡ goneAfter separation self)
-gone-after-one-outcome self separation = is-one _
-
 -- `Unit::until_due`
 pub until-due-one-outcome : (self : Unit) (deadline : ℕ) → One (λ r. r ≡ untilDue deadline self)
 until-due-one-outcome self deadline = is-one _
+
+-- `Unit::after`
+pub after-one-outcome : (self : Unit) (served : Bool) (separation : ℕ) → One (λ r. r ≡ unitAfter served separation self)
+after-one-outcome self served separation = is-one _

@@ -42,8 +42,7 @@ impl State {
         ensures { λ r. ⌜ r ≡ placeInForm self i ⌝ }
     {
         let plan = self.plan;
-        self.unit[i]
-            .fits_place(self.in_use(i), self.clock, plan.kind[i].length)
+        self.unit[i].fits_place(self.in_use(i), plan.kind[i])
     }
 
     // One pass over the kinds: each place in form, and its slices left added to its project's.
@@ -53,7 +52,7 @@ impl State {
     {
         let plan = self.plan;
         let mut left = [0u16; Plan::PROJECTS];
-        if State::LAST < self.clock {
+        if plan.frame <= self.slice {
             return Seen {
                 in_form: false,
                 left,

@@ -7,9 +7,9 @@ use mathlib.Core.List.{List}
 use Prim.Native.Nat.{ℕ, _+_, _-_, _*_, _≤_, _<_}
 use native.Mathlib.Decide.{decLt}
 use native.Mathlib.Omega.{arith}
-use lib.Dec.{leb, eqb}
+use lib.Dec.{ltb, eqb}
 use lib.ListN.{getD, replicate}
-use borrow.Author.Tests.{lt-ltb, le-ltb, le-leb, lt-leb, ltb-true, leb-true, eq-eqb, ne-eqb, eqb-true, not-false}
+use borrow.Author.Tests.{lt-ltb, le-ltb, ltb-true, eq-eqb, ne-eqb, eqb-true, not-false}
 use Rattle.laws.specs.Tests.{and-left, and-right, and-both, told-yes, second-no}
 use Rattle.laws.specs.Sum.{sumTo}
 use Rattle.laws.specs.All.{allTo}
@@ -25,7 +25,7 @@ use Rattle.unit.specs.declared.Unit.{Unit}
 use Rattle.unit.specs.Form.{UnitInForm, fitsPlace}
 use Rattle.unit.specs.Form.Properties.{unit-says, unit-of, empty-says, empty-of}
 use Rattle.rack.specs.declared.State.{State}
-use Rattle.rack.specs.State.{lastClock, unitOf, kindAt, kindPlaces, InUse, used, ProjectInUse, projectPlaces, projectUsed, sumAt}
+use Rattle.rack.specs.State.{unitOf, kindAt, kindPlaces, InUse, used, ProjectInUse, projectPlaces, projectUsed, sumAt}
 use Rattle.rack.specs.Sums.{leftFor, projectLeft, sumRight, sumsRight, leftBelow, leftRow}
 use Rattle.rack.specs.Sums.Properties.{sums-say, sums-of, below-at, below-all, sum-most}
 use Rattle.rack.specs.Form.{InForm, Ready, Looked, placeInForm, sumFits, sumInForm, sumsInForm, inForm, sumsTold, ready}
@@ -49,8 +49,8 @@ used-says s i e = ltb-true i (kindPlaces s) e
 
 -- what the code found of a place: u is whether it is in use, and b whether its unit may stand there
 pub place-found : (s : State) (i : ℕ) (u b : Bool) → u ≡ used s i →
-    b ≡ fitsPlace u (s .clock) (kindAt s i .length) (unitOf s i) → b ≡ placeInForm s i
-place-found s i u b e q = q ∙ ap (λ (x : Bool). fitsPlace x (s .clock) (kindAt s i .length) (unitOf s i)) e
+    b ≡ fitsPlace u (kindAt s i) (unitOf s i) → b ≡ placeInForm s i
+place-found s i u b e q = q ∙ ap (λ (x : Bool). fitsPlace x (kindAt s i) (unitOf s i)) e
 
 -- and the places so far with it
 pub place-more : (s : State) (i : ℕ) (b : Bool) → true ≡ allTo i (placeInForm s) → b ≡ placeInForm s i → not b ≡ false →
@@ -94,12 +94,12 @@ pub form-says : (s : State) → inForm s ≡ true → InForm s
 unfolding inForm sumsInForm
 form-says s e =
     let rest = allTo 16 (placeInForm s) && sumsInForm s in
-    let both = and-right (leb (s .clock) lastClock) rest e in
+    let both = and-right (ltb (s .slice) (s .plan .frame)) rest e in
     let places = all-at 16 (placeInForm s) (and-left (allTo 16 (placeInForm s)) (sumsInForm s) both) in
     let sums = all-at 8 (sumInForm s) (and-right (allTo 16 (placeInForm s)) (sumsInForm s) both) in
     record {
-      clock-most = leb-true (s .clock) lastClock (and-left (leb (s .clock) lastClock) rest e);
-      unit-at = λ i l m. unit-says (s .clock) (kindAt s i .length) (unitOf s i) (rw (used-of s i m) at (places i l));
+      slice-below = ltb-true (s .slice) (s .plan .frame) (and-left (ltb (s .slice) (s .plan .frame)) rest e);
+      unit-at = λ i l m. unit-says (kindAt s i) (unitOf s i) (rw (used-of s i m) at (places i l));
       unused = λ i l m. empty-says (unitOf s i) (rw (used-not s i m) at (places i l));
       sums-unused = λ j l m. sum-says s j m (sums j l);
     }
@@ -108,16 +108,16 @@ form-says s e =
 pub form-of : (s : State) → InForm s → inForm s ≡ true
 unfolding inForm sumsInForm
 form-of s f =
-    let range = le-leb (s .clock) lastClock (f .clock-most) in
+    let range = lt-ltb (s .slice) (s .plan .frame) (f .slice-below) in
     let places = all-of 16 (placeInForm s) place in
     let sums = all-of 8 (sumInForm s) (λ j l. sum-of s j (f .sums-unused j l)) in
-    and-both (leb (s .clock) lastClock) (allTo 16 (placeInForm s) && sumsInForm s) range
+    and-both (ltb (s .slice) (s .plan .frame)) (allTo 16 (placeInForm s) && sumsInForm s) range
     (and-both (allTo 16 (placeInForm s)) (sumsInForm s) places sums)
   where
     place : (i : ℕ) → i < 16 → placeInForm s i ≡ true
     place i l =
         elim (in-use s i) [
-          | yes m ↦ rw (used-of s i m) (unit-of (s .clock) (kindAt s i .length) (unitOf s i) (f .unit-at i l m))
+          | yes m ↦ rw (used-of s i m) (unit-of (kindAt s i) (unitOf s i) (f .unit-at i l m))
           | no m ↦ rw (used-not s i m) (empty-of (unitOf s i) (f .unused i l m))
         ]
 
@@ -146,7 +146,7 @@ places-most s n r e = omega (arith, r .order .counts .kinds-most)
 pub place-most : (s : State) (i : ℕ) → Ready s → InUse s i → i < 16
 place-most s i r l = omega (arith, r .order .counts .kinds-most)
 
-pub unit-form : (s : State) (i : ℕ) → Ready s → InUse s i → UnitInForm (s .clock) (kindAt s i .length) (unitOf s i)
+pub unit-form : (s : State) (i : ℕ) → Ready s → InUse s i → UnitInForm (kindAt s i) (unitOf s i)
 unit-form s i r l = r .form .unit-at i (place-most s i r l) l
 
 -- ---- what the check answered, opened: u is whether place i is in use
@@ -159,21 +159,17 @@ module _ (s : State) (i : ℕ) (r : Answer) (u : Bool) (good : r ≡ Good) (is :
   pub ready-place : i < 16
   ready-place = place-most s i (ready-says s (sym is ∙ good)) kind-opened
 
-  -- and its release clock is not ahead of the clock
-  pub ready-clock : unitOf s i .at ≤ s .clock
-  ready-clock = unit-form s i (ready-says s (sym is ∙ good)) kind-opened .release-clock
-
 -- ---- the pass over the kinds, which goes through places in form: i is how far it is, and l what is left so far
 
 -- at most 4095 is left at a place in form
 place-left : (s : State) → InOrder (s .plan) → (i : ℕ) → i < 16 → placeInForm s i ≡ true → unitOf s i .left ≤ 4095
 place-left s o i l e =
     elim (in-use s i) [
-      | yes m ↦ used-left m (unit-says (s .clock) (kindAt s i .length) (unitOf s i) (rw (used-of s i m) at e))
+      | yes m ↦ used-left m (unit-says (kindAt s i) (unitOf s i) (rw (used-of s i m) at e))
       | no m ↦ omega (arith, ap (λ (v : Unit). v .left) (empty-says (unitOf s i) (rw (used-not s i m) at e)))
     ]
   where
-    used-left : InUse s i → UnitInForm (s .clock) (kindAt s i .length) (unitOf s i) → unitOf s i .left ≤ 4095
+    used-left : InUse s i → UnitInForm (kindAt s i) (unitOf s i) → unitOf s i .left ≤ 4095
     used-left m u =
         let v = o .kind-at i m in
         omega (arith, u .left-most, v .length-most, v .deadline-most, v .separation-most)
@@ -201,23 +197,24 @@ module _ (s : State) (i : ℕ) (o : InOrder (s .plan)) (m : i < 16) where
 -- ---- what it finds
 
 module _ (s : State) (left : List ℕ) where
-  -- the clock has run past its end
-  pub looked-late : (b : Bool) → b ≡ false → lastClock < s .clock → Looked s b left
+  -- the frame has no such slice
+  pub looked-past : (b : Bool) → b ≡ false → s .plan .frame ≤ s .slice → Looked s b left
   unfolding inForm
-  looked-late b e l = record { told = rw (e, lt-leb (s .clock) lastClock l); row = λ t. absurd (false≢true (rw (lt-leb (s .clock) lastClock l) at t)) }
+  looked-past b e l =
+      let past = le-ltb (s .slice) (s .plan .frame) l in record { told = rw (e, past); row = λ t. absurd (false≢true (rw past at t)) }
 
   -- a place is not in form
   pub looked-place : (b : Bool) (i : ℕ) → b ≡ false → i < 16 → placeInForm s i ≡ false → Looked s b left
   unfolding inForm
   looked-place b i e l f =
-      let no : inForm s ≡ false = sym (second-no (leb (s .clock) lastClock) _ (and-false-left (sym (all-fails 16 i (placeInForm s) f l)))) in
+      let no : inForm s ≡ false = sym (second-no (ltb (s .slice) (s .plan .frame)) _ (and-false-left (sym (all-fails 16 i (placeInForm s) f l)))) in
       record { told = e ∙ sym no; row = λ t. absurd (false≢true (sym no ∙ t)) }
     where
       and-false-left : allTo 16 (placeInForm s) ≡ false → false ≡ (allTo 16 (placeInForm s) && sumsInForm s)
       and-false-left q = rw q
 
   -- every place is: what is left is left in the plan's kinds
-  pub looked-all : (b : Bool) (i : ℕ) → InOrder (s .plan) → s .clock ≤ lastClock → true ≡ allTo i (placeInForm s) → i ≤ 16 → 16 ≤ i →
+  pub looked-all : (b : Bool) (i : ℕ) → InOrder (s .plan) → s .slice < s .plan .frame → true ≡ allTo i (placeInForm s) → i ≤ 16 → 16 ≤ i →
       left ≡ leftBelow s i → b ≡ sumsInForm s → Looked s b left
   unfolding inForm
   looked-all b i o c all p q so-far e =
@@ -229,7 +226,7 @@ module _ (s : State) (left : List ℕ) where
       ap (λ (v : Unit). v .left) (empty-says (unitOf s (n + k))
       (rw (used-not s (n + k) (λ z. omega arith)) at (all-at 16 (placeInForm s) every (n + k) (omega arith)))) in
       record {
-        told = rw (le-leb (s .clock) lastClock c, every) e;
+        told = rw (lt-ltb (s .slice) (s .plan .frame) c, every) e;
         row = λ t.
             so-far ∙ ap (leftBelow s) end
             ∙ written-cong 8 (λ j. sumTo 16 (leftFor s j)) (projectLeft s) (replicate 8 0)

@@ -2,7 +2,7 @@
 -- Assumes nothing.
 use mathlib.Core.Path.{_≡_, refl}
 use mathlib.Core.Bool.{true}
-use Prim.Native.Nat.{_≤_, _-_}
+use Prim.Native.Nat.{_≤_, _<_, _-_}
 use native.Mathlib.Omega.{arith}
 use borrow.Author.Needs.{needs}
 use Rattle.laws.specs.All.{allTo}
@@ -10,21 +10,20 @@ use Rattle.laws.specs.All.Properties.{all-none}
 use Rattle.laws.specs.Tests.{told-no, told-yes}
 use Rattle.rack.specs.Sums.{leftBelow}
 use Rattle.rack.specs.Sums.Properties.{below-none, below-again}
-use Rattle.rack.specs.State.{lastClock}
 use Rattle.rack.specs.Form.{placeInForm}
-use Rattle.rack.specs.Form.Properties.{place-more, look-project, look-room, looked-late, looked-place, looked-all}
+use Rattle.rack.specs.Form.Properties.{place-more, look-project, look-room, looked-past, looked-place, looked-all}
 use Rattle.rack.proofs.State.look.Statement.{statement}
 use Rattle.rack.proofs.State.look.Tie as tie
 
 abbrev Inv-loop : tie.InvT-loop
 Inv-loop self plan left₀ i₀ left i =
-    (i ≤ 16) × (plan ≡ self .plan) × (self .clock ≤ lastClock) × (true ≡ allTo i (placeInForm self)) × (left ≡ leftBelow self i)
+    (i ≤ 16) × (plan ≡ self .plan) × (self .slice < self .plan .frame) × (true ≡ allTo i (placeInForm self)) × (left ≡ leftBelow self i)
 
 abbrev μ-loop : tie.MeasureT-loop
 μ-loop self plan left₀ i₀ left i = 16 - i
 
 returns : tie.Need-returns Inv-loop μ-loop
-returns c = search looked-late
+returns c = search looked-past
 
 loop-holds : tie.Need-loop-holds Inv-loop μ-loop
 loop-holds c = (omega arith, refl, search, all-none _, below-none _)

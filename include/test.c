@@ -123,7 +123,7 @@ static void functions(void) {
     expect("the frame built", parchbeetle_plan_frame(wrong) == 3 && parchbeetle_plan_projects(wrong) == 3);
     expect("the budget built", parchbeetle_project_budget(wrong, 2) == 2 && parchbeetle_project_ceiling(wrong, 2) == 1);
     expect("the kind built", parchbeetle_kind_project(wrong, 2) == 2 && parchbeetle_kind_deadline(wrong, 2) == 6);
-    answers("verdict, built", parchbeetle_verdict(wrong, PLAN, widths, 16), 0, 0, 0, 0);
+    answers("verdict, built", parchbeetle_verdict(wrong, PLAN, verdict, 32), 0, 0, 0, 0);
     answers("smallest_budget, built", parchbeetle_smallest_budget(wrong, PLAN, 2), 0, 0, 2, 0);
     memcpy(made, wrong, PLAN);
     answers("build, no cards", parchbeetle_build((uint64_t)1 << 32, alone, 12, wrong, PLAN), 17, 0, 0, 0);

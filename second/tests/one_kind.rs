@@ -8,6 +8,7 @@ fn refused(number: u64, place: u64) -> (Answer, Plan) {
         number,
         place,
         excess: 0,
+        slice: 0,
     };
     (answer, Plan::default())
 }

@@ -32,7 +32,8 @@ use Rattle.one_kind.specs.Built.Properties.{counts-say}
 use Rattle.unit.specs.Start.{early, startable}
 use Rattle.rack.specs.declared.State.{State}
 use Rattle.rack.specs.State.{lastClock, unitOf, kindAt, used}
-use Rattle.rack.specs.Form.{inForm, ready}
+use Rattle.rack.specs.Sums.{sumsRight}
+use Rattle.rack.specs.Form.{inForm, sumsTold, ready}
 use Rattle.rack.specs.Rank.{gone}
 use Rattle.rack.specs.Start.{startAnswer}
 use Rattle.rack.specs.Release.{releaseAnswer}
@@ -72,19 +73,19 @@ smallestOrder = 8 ∷ 7 ∷ openOrder
 abbrev pub buildOrder : List ℕ
 buildOrder = 17 ∷ 18 ∷ 6 ∷ 19 ∷ 7 ∷ []
 
--- "the record order, 10": what every call on a state begins with
+-- "the record order, 10" and "16, directly after 10": what every call on a state begins with
 abbrev pub stateOrder : List ℕ
-stateOrder = 10 ∷ recordOrder
+stateOrder = 10 ∷ 16 ∷ recordOrder
 
--- "Release: the record order, 10, 12, 13, 14, 15"
+-- "Release: the record order, 10, 12, 13, 14, 15", with 16
 abbrev pub releaseOrder : List ℕ
 releaseOrder = 12 ∷ 13 ∷ 14 ∷ 15 ∷ stateOrder
 
--- "showing keeps the slice order with 9 and 11": the record order, 10, 9, 11
+-- "showing keeps the slice order with 9 and 11": the record order, 10, 16, 9, 11
 abbrev pub showOrder : List ℕ
 showOrder = 9 ∷ 11 ∷ stateOrder
 
--- "advancing drops 9": the record order, 10, 11
+-- "advancing drops 9": the record order, 10, 16, 11
 abbrev pub advanceOrder : List ℕ
 advanceOrder = 11 ∷ stateOrder
 
@@ -206,10 +207,11 @@ start-numbers p =
 
 -- what every call on a state begins with
 pub ready-numbers : (s : State) → Numbered stateOrder (ready s)
-unfolding ready covers among
+unfolding ready sumsTold covers among
 ready-numbers s =
     andThen-numbered _ _ _ (wider _ recordOrder _ refl (check-numbers (s .plan)))
-    (λ e. refuse-numbered _ (not (inForm s)) _ (bare-numbered _ 10 (λ z. omega arith) refl))
+    (λ e. andThen-numbered _ _ _ (refuse-numbered _ (not (inForm s)) _ (bare-numbered _ 10 (λ z. omega arith) refl))
+    (λ f. refuse-numbered _ (not (sumsRight s)) _ (bare-numbered _ 16 (λ z. omega arith) refl)))
 
 -- `State::release`
 pub release-numbers : (s : State) (i e : ℕ) → Numbered releaseOrder (releaseAnswer s i e)

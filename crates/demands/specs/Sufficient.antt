@@ -32,7 +32,7 @@ use Rattle.workload.specs.Workload.{besides, partOf, workload}
 use Rattle.verdict.specs.Verdict.{widthOf, excessOf, fitted, admitted, judged}
 use Rattle.unit.specs.declared.Unit.{Unit}
 use Rattle.rack.specs.declared.State.{State}
-use Rattle.rack.specs.State.{freshOf, unitOf, kindAt, InUse}
+use Rattle.rack.specs.State.{freshOf, unitOf, kindAt, InUse, Places}
 use Rattle.rack.specs.Form.{Ready}
 use Rattle.rack.specs.Rank.{gone, active, activeKinds, served}
 use Rattle.rack.specs.Start.Properties.{fresh-form, fresh-places}
@@ -81,7 +81,7 @@ one-slice (suc (suc i)) l = absurd (omega arith)
 pub record Running (s : State) : Type 0 where
   pub plan : s .plan ≡ enoughCards
   pub ready : Ready s
-  pub places : length (s .unit) ≡ 16
+  pub places : Places s
 
 advance-running : (s : State) → advanceAnswer s ≡ Good → Running s → Running (advanced s)
 unfolding advanced

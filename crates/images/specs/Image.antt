@@ -17,7 +17,7 @@ use Rattle.plan.specs.Order.{projectOf, kindOf}
 use Rattle.unit.specs.declared.Unit.{Unit}
 use Rattle.rack.specs.declared.State.{State}
 use Rattle.unit.specs.Unit.{noUnit}
-use Rattle.rack.specs.State.{unitOf}
+use Rattle.rack.specs.State.{unitOf, sumAt}
 pub mod Properties
 
 -- ---- the widths of the fields of a place, in bits
@@ -42,15 +42,19 @@ clockWidths = 32 ∷ []
 abbrev pub unitWidths : List ℕ
 unitWidths = 8 ∷ 32 ∷ 16 ∷ []
 
+-- document 02 (vii), a sum: u16
+abbrev pub sumWidths : List ℕ
+sumWidths = 16 ∷ []
+
 -- ---- the rows
 
 -- a plan's: its counts, 8 projects, 16 unit kinds
 abbrev pub planRows : List Row
 planRows = row 1 countWidths ∷ row 8 projectWidths ∷ row 16 kindWidths ∷ []
 
--- a state's: its plan's, the clock, 16 units
+-- a state's: its plan's, the clock, 16 units, 8 sums
 abbrev pub stateRows : List Row
-stateRows = planRows ++ (row 1 clockWidths ∷ row 16 unitWidths ∷ [])
+stateRows = planRows ++ (row 1 clockWidths ∷ row 16 unitWidths ∷ row 8 sumWidths ∷ [])
 
 -- the bytes of a plan's image
 abbrev pub planSize : ℕ
@@ -75,6 +79,10 @@ clockPlace = placeAt stateRows 3 0
 -- where the unit of kind i starts
 abbrev pub unitPlace : ℕ → ℕ
 unitPlace i = placeAt stateRows 4 i
+
+-- where the sum of project j starts
+abbrev pub sumPlace : ℕ → ℕ
+sumPlace j = placeAt stateRows 5 j
 
 -- ---- what stands in an image
 
@@ -104,6 +112,10 @@ clockFrom s = field clockWidths s 0
 unfoldable pub unitFrom : List ℕ → Unit
 unitFrom s = record { released = eqb (field unitWidths s 0) 1; at = field unitWidths s 1; left = field unitWidths s 2 }
 
+-- the sum at the front of s
+unfoldable pub sumFrom : List ℕ → ℕ
+sumFrom s = field sumWidths s 0
+
 -- the first n projects
 abbrev pub projectsFrom : ℕ → List ℕ → List Project
 projectsFrom n s = written n (λ j. projectFrom (drop (projectPlace j) s)) (replicate 8 noProject)
@@ -115,6 +127,10 @@ kindsFrom n s = written n (λ i. kindFrom (drop (kindPlace i) s)) (replicate 16 
 -- the first n units
 abbrev pub unitsFrom : ℕ → List ℕ → List Unit
 unitsFrom n s = written n (λ i. unitFrom (drop (unitPlace i) s)) (replicate 16 noUnit)
+
+-- the first n sums
+abbrev pub sumsFrom : ℕ → List ℕ → List ℕ
+sumsFrom n s = written n (λ j. sumFrom (drop (sumPlace j) s)) (replicate 8 0)
 
 -- the plan that an image says
 unfoldable pub planFrom : List ℕ → Plan
@@ -130,7 +146,7 @@ planFrom s =
 
 -- the state that an image says
 unfoldable pub stateFrom : List ℕ → State
-stateFrom s = record { plan = planFrom s; clock = clockFrom (drop clockPlace s); unit = unitsFrom 16 s }
+stateFrom s = record { plan = planFrom s; clock = clockFrom (drop clockPlace s); unit = unitsFrom 16 s; sum = sumsFrom 8 s }
 
 -- "what is no state is refused": a released byte is 0 or 1
 abbrev pub releasedAt : List ℕ → ℕ → Bool
@@ -170,13 +186,17 @@ kindBytesAt p i = placed kindWidths (kindFields (kindOf p i))
 abbrev pub unitBytesAt : State → ℕ → List ℕ
 unitBytesAt s i = placed unitWidths (unitFields (unitOf s i))
 
+-- the bytes of project j's sum
+abbrev pub sumBytesAt : State → ℕ → List ℕ
+sumBytesAt s j = placed sumWidths (sumAt s j ∷ [])
+
 -- the values of a plan's rows
 abbrev pub planValues : Plan → List Values
 planValues p = (λ i. countFields p) ∷ (λ j. projectFields (projectOf p j)) ∷ (λ i. kindFields (kindOf p i)) ∷ []
 
 -- the values of a state's rows
 abbrev pub stateValues : State → List Values
-stateValues s = planValues (s .plan) ++ ((λ i. s .clock ∷ []) ∷ (λ i. unitFields (unitOf s i)) ∷ [])
+stateValues s = planValues (s .plan) ++ ((λ i. s .clock ∷ []) ∷ (λ i. unitFields (unitOf s i)) ∷ (λ j. sumAt s j ∷ []) ∷ [])
 
 -- a plan's image
 unfoldable pub planImage : Plan → List ℕ

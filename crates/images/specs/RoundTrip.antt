@@ -24,8 +24,8 @@ use Rattle.rack.specs.declared.State.{State}
 use Rattle.unit.specs.Unit.{noUnit}
 use Rattle.rack.specs.State.{unitOf}
 use Rattle.images.specs.Image.{countWidths, projectWidths, kindWidths, clockWidths, unitWidths, planRows, stateRows, projectPlace}
-use Rattle.images.specs.Image.{kindPlace, clockPlace, unitPlace, field, projectFrom, kindFrom, clockFrom, unitFrom, projectsFrom}
-use Rattle.images.specs.Image.{kindsFrom, unitsFrom, planFrom, stateFrom, releasedAt, releasedTold, countFields, projectFields}
+use Rattle.images.specs.Image.{kindPlace, clockPlace, unitPlace, sumPlace, field, projectFrom, kindFrom, clockFrom, unitFrom, sumFrom}
+use Rattle.images.specs.Image.{projectsFrom, kindsFrom, unitsFrom, sumsFrom, planFrom, stateFrom, releasedAt, releasedTold, countFields, projectFields}
 use Rattle.images.specs.Image.{kindFields, unitFields, planValues, stateValues, planImage, stateImage}
 use Rattle.images.specs.Typed.{PlanTyped, StateTyped}
 
@@ -100,8 +100,15 @@ module _ (v : State) (typed : StateTyped v) (rest : List ℕ) where
 
   units-are : unitsFrom 16 s ≡ v .unit
   units-are =
-      written-all 16 (λ i. unitFrom (drop (unitPlace i) s)) (replicate 16 noUnit) (v .unit) noUnit refl (typed .sixteen)
+      written-all 16 (λ i. unitFrom (drop (unitPlace i) s)) (replicate 16 noUnit) (v .unit) noUnit refl (typed .places .sixteen)
       (λ i l. unit-read (drop (unitPlace i) s) (unitOf v i) (unit-found i l))
+
+  sums-are : sumsFrom 8 s ≡ v .sum
+  unfolding s stateImage sumFrom
+  sums-are =
+      written-all 8 (λ j. sumFrom (drop (sumPlace j) s)) (replicate 8 0) (v .sum) 0 refl (typed .places .eight)
+      (λ j l. ap (λ (k : List ℕ). getD k 0 0)
+      (row-fields stateRows (stateValues v) 5 j s rest refl (omega arith) l refl refl (typed .sum-fits j l)))
 
   clock-is : clockFrom (drop clockPlace s) ≡ v .clock
   unfolding s stateImage clockFrom
@@ -124,7 +131,12 @@ module _ (v : State) (typed : StateTyped v) (rest : List ℕ) where
   -- a state stored and found again
   pub state-round-trip : stateFrom (stateImage v ++ rest) ≡ v
   unfolding s stateFrom
-  state-round-trip = let a = plan-is in let b = clock-is in let d = units-are in λ i. record { plan = a i; clock = b i; unit = d i }
+  state-round-trip =
+      let a = plan-is in
+      let b = clock-is in
+      let d = units-are in
+      let e = sums-are in
+      λ i. record { plan = a i; clock = b i; unit = d i; sum = e i }
 
   -- and each of its released bytes is 0 or 1
   pub state-told : releasedTold (stateImage v ++ rest) ≡ true

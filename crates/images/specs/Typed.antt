@@ -1,16 +1,14 @@
 -- Plans and states of the language's types: arrays of 8 and 16 places, and every number within the width that an image has for it.
 -- Assumes nothing.
 use Prim.Native.Nat.{ℕ, _<_}
-use mathlib.Core.Path.{_≡_}
 use mathlib.Core.List.{[], _∷_}
-use lib.ListN.{length}
 use Rattle.codec.specs.Pack.{Fitting}
 use Rattle.plan.specs.declared.Plan.{Plan}
 use Rattle.plan.specs.Order.{projectOf, kindOf}
 use Rattle.plan_bytes.specs.Parts.{Shaped}
 use Rattle.rack.specs.declared.State.{State}
-use Rattle.rack.specs.State.{unitOf}
-use Rattle.images.specs.Image.{countWidths, projectWidths, kindWidths, clockWidths, unitWidths, countFields, projectFields}
+use Rattle.rack.specs.State.{unitOf, sumAt, Places}
+use Rattle.images.specs.Image.{countWidths, projectWidths, kindWidths, clockWidths, unitWidths, sumWidths, countFields, projectFields}
 use Rattle.images.specs.Image.{kindFields, unitFields}
 pub mod Properties
 
@@ -25,5 +23,6 @@ pub record PlanTyped (p : Plan) : Type 0 where
 pub record StateTyped (s : State) : Type 0 where
   pub plan-typed : PlanTyped (s .plan)
   pub clock-fits : Fitting clockWidths (s .clock ∷ [])
-  pub sixteen : length (s .unit) ≡ 16
+  pub places : Places s
   pub unit-fits : (i : ℕ) → i < 16 → Fitting unitWidths (unitFields (unitOf s i))
+  pub sum-fits : (j : ℕ) → j < 8 → Fitting sumWidths (sumAt s j ∷ [])

@@ -44,13 +44,14 @@ use Rattle.unit.specs.Form.{untouched, underway, unitInForm, emptyUnit}
 use Rattle.unit.specs.Start.{early, startable}
 use Rattle.rack.specs.declared.State.{State}
 use Rattle.rack.specs.State.{lastClock, freshOf, unitOf}
-use Rattle.rack.specs.Form.{inForm, ready}
+use Rattle.rack.specs.Sums.{leftFor, projectLeft, sumsRight}
+use Rattle.rack.specs.Form.{sumFits, sumsInForm, inForm, sumsTold, ready}
 use Rattle.rack.specs.View.{hasCard, cardsHeld, rankOf, chosen, takesCard, byteOn}
 use Rattle.rack.specs.Rank.{gone, due, working, active, activeKinds, outranks, viewOf, rank, served}
 use Rattle.rack.specs.Row.{holds, takes, byteBy, rowByte, rowOf, rowOver}
 use Rattle.rack.specs.Start.{startAnswer, startOf}
 use Rattle.rack.specs.Release.{releaseAnswer, released, releaseOf}
-use Rattle.rack.specs.Advance.{unitAfter, advanced, timeLeft, advanceAnswer, advanceOf}
+use Rattle.rack.specs.Advance.{unitAfter, advanced, timeLeft, advanceAnswer, advanceOf, servedFor, sumAfter}
 use Rattle.rack.specs.Show.{roomFor, showAnswer, bufferShown, Shows}
 use Rattle.demands.specs.Run.{Call, show, advance, release, runFrom, after, Accepted, acceptedIn, slicesOf, noSlice}
 use Rattle.demands.specs.Run.{unshown, handedBack}
@@ -105,7 +106,7 @@ fourRows = slicesOf begun later
 
 -- plan A with nothing released, at the clock's end
 abbrev pub ended : State
-ended = record { plan = planA; clock = lastClock; unit = replicate 16 noUnit }
+ended = record { plan = planA; clock = lastClock; unit = replicate 16 noUnit; sum = replicate 8 0 }
 
 -- on the refused plan that runs well: a release beside another, and one slice
 abbrev pub oneSlice : List Accepted
@@ -168,9 +169,9 @@ pub running : Running
 unfolding sumTo leastTo firstTo countTo allTo written rankIn firstIn sooner eachTo within sized emptyProject emptyKind tidyProjects
     tidyKinds inRange timed budgets sizes unused projectsInRange kindInRange kindsInRange budgetsFit ranges checked cellAt heldFrom
     firstCell owns slotOf held window supply workloadPart fitsAt leastWidth greatestTo allowedLength leastExcess besides partOf
-    workload widthOf excessOf fitted admitted untouched underway unitInForm emptyUnit early startable inForm ready gone due working
+    workload widthOf excessOf fitted admitted untouched underway unitInForm emptyUnit early startable leftFor projectLeft sumsRight sumFits sumsInForm inForm sumsTold ready gone due working
     active activeKinds outranks hasCard cardsHeld rankOf chosen takesCard byteOn viewOf rank served holds byteBy rowByte rowOf
-    rowOver startAnswer startOf releaseAnswer released releaseOf unitAfter advanced timeLeft advanceAnswer advanceOf roomFor
+    rowOver startAnswer startOf releaseAnswer released releaseOf unitAfter servedFor sumAfter advanced timeLeft advanceAnswer advanceOf roomFor
     showAnswer bufferShown runFrom acceptedIn slicesOf unshown handedBack sinceCall sinceFrom namesKind bytesIn shownBy shown upTo
     lastFrom restarted kindsLeft
 running = record {
@@ -238,12 +239,16 @@ longer = likeA 3 5 (kind 0 8 8 7)
 abbrev justReleased : ℕ → Unit
 justReleased clock = record { released = true; at = clock; left = 2 }
 
+-- the sums of two such units of project 1
+abbrev twoOpen : List ℕ
+twoOpen = 0 ∷ 4 ∷ replicate 6 0
+
 -- the slice at which project 1 holds both cards, with kinds 1 and 2 just released; and the frame's first, at which it holds one
 abbrev pub both : State
-both = record { plan = planA; clock = 3; unit = noUnit ∷ justReleased 3 ∷ justReleased 3 ∷ replicate 13 noUnit }
+both = record { plan = planA; clock = 3; unit = noUnit ∷ justReleased 3 ∷ justReleased 3 ∷ replicate 13 noUnit; sum = twoOpen }
 
 abbrev pub waiting : State
-waiting = record { plan = planA; clock = 0; unit = noUnit ∷ justReleased 0 ∷ justReleased 0 ∷ replicate 13 noUnit }
+waiting = record { plan = planA; clock = 0; unit = noUnit ∷ justReleased 0 ∷ justReleased 0 ∷ replicate 13 noUnit; sum = twoOpen }
 
 pub record Judged : Type 0 where
   -- the verdicts
@@ -307,7 +312,7 @@ verdicts = record {
 pub ranks : Ranked
 unfolding sumTo firstTo countTo allTo rankIn firstIn sooner eachTo within sized emptyProject emptyKind tidyProjects tidyKinds inRange
     timed budgets sizes unused projectsInRange kindInRange kindsInRange budgetsFit ranges checked cellAt heldFrom firstCell owns slotOf
-    held untouched underway unitInForm emptyUnit inForm ready due working active activeKinds outranks hasCard cardsHeld rankOf chosen
+    held untouched underway unitInForm emptyUnit leftFor projectLeft sumsRight sumFits sumsInForm inForm sumsTold ready due working active activeKinds outranks hasCard cardsHeld rankOf chosen
     takesCard byteOn viewOf rank holds byteBy rowByte
 ranks = record {
   ready-both = refl;

@@ -33,7 +33,8 @@ use Rattle.layout.specs.Cards.{heldFrom}
 use Rattle.layout.specs.Layout.{cellAt, firstCell, owns, slotOf, held}
 use Rattle.supply.specs.Supply.{window, supply}
 use Rattle.supply.specs.Workload.{workloadPart}
-use Rattle.supply.specs.Fit.{fitsAt, leastWidth, excessAt, leastExcess}
+use Rattle.supply.specs.Greatest.{greatestTo}
+use Rattle.supply.specs.Fit.{fitsAt, leastWidth, allowedLength, leastExcess}
 use Rattle.workload.specs.Workload.{besides, partOf, workload}
 use Rattle.verdict.specs.Verdict.{widthOf, excessOf, fitted, admitted, judged}
 use Rattle.smallest_budget.specs.declared.Smallest.{Smallest}
@@ -45,15 +46,15 @@ use Rattle.one_kind.specs.Built.{roundedUp, offered, counts, frameFor, frameFit
 use Rattle.one_kind.specs.Built.{Timed, InLimits, Buildable}
 use Rattle.unit.specs.Form.{untouched, underway, unitInForm, emptyUnit}
 use Rattle.unit.specs.Start.{early, startable}
-use Rattle.rack.specs.Form.{inForm, ready}
+use Rattle.rack.specs.Sums.{leftFor, projectLeft, sumsRight}
+use Rattle.rack.specs.Form.{sumFits, sumsInForm, inForm, sumsTold, ready}
 use Rattle.rack.specs.View.{hasCard, cardsHeld, rankOf, chosen, takesCard, byteOn}
 use Rattle.rack.specs.Rank.{gone, due, working, active, activeKinds, outranks, viewOf, rank, served}
 use Rattle.rack.specs.Row.{holds, byteBy, rowByte, rowOf, rowOver}
 use Rattle.rack.specs.Start.{startAnswer, startOf}
 use Rattle.rack.specs.Release.{releaseAnswer, released, releaseOf}
-use Rattle.rack.specs.Advance.{unitAfter, advanced, timeLeft}
-use Rattle.rack.specs.Slice.{roomFor, sliceAnswer, sliceOf, bufferAfter}
-use Rattle.demands.specs.Run.{Call, slice, after, runFrom, acceptedIn, slicesOf}
+use Rattle.rack.specs.Advance.{unitAfter, servedFor, sumAfter, advanced, timeLeft, advanceAnswer, advanceOf}
+use Rattle.demands.specs.Run.{Call, advance, after, runFrom, acceptedIn, slicesOf}
 use Rattle.demands.specs.Named.{namesKind, bytesNaming}
 use Rattle.demands.specs.Outcomes.{building, building-refused}
 use Rattle.demands.specs.Numbers.{build-numbers}
@@ -94,9 +95,8 @@ long = 0 ∷ 2 ∷ 0 ∷ 1 ∷ 0 ∷ 2 ∷ 0 ∷ 3 ∷ []
 
 -- ---- what is computed from the definitions
 
--- three slices with a row of two bytes
 abbrev threeSlices : List Call
-threeSlices = slice (0 ∷ 0 ∷ []) ∷ slice (0 ∷ 0 ∷ []) ∷ slice (0 ∷ 0 ∷ []) ∷ []
+threeSlices = advance ∷ advance ∷ advance ∷ []
 
 abbrev p : Plan
 p = builtOf 2 opening .plan
@@ -141,11 +141,12 @@ record Figures : Type 0 where
 figures : Figures
 unfolding sumTo leastTo firstTo countTo allTo written rankIn firstIn sooner eachTo within sized emptyProject emptyKind tidyProjects
     tidyKinds inRange timed budgets sizes unused projectsInRange kindInRange kindsInRange budgetsFit ranges checked cellAt heldFrom
-    firstCell owns slotOf held window supply workloadPart fitsAt leastWidth excessAt leastExcess besides partOf workload widthOf
-    excessOf fitted admitted untouched underway unitInForm emptyUnit early startable inForm ready gone due working active activeKinds
-    outranks hasCard cardsHeld rankOf chosen takesCard byteOn viewOf rank served holds byteBy rowByte rowOf rowOver startAnswer startOf
-    releaseAnswer released releaseOf unitAfter advanced timeLeft roomFor sliceAnswer sliceOf bufferAfter runFrom acceptedIn slicesOf
-    size among kindsIn fieldAt repeated divisor divisorTo roundedUp offered counts frameFits timedAlone kindsTimed answerFor builtOf
+    firstCell owns slotOf held window supply workloadPart fitsAt leastWidth greatestTo allowedLength leastExcess besides partOf
+    workload widthOf excessOf fitted admitted untouched underway unitInForm emptyUnit early startable leftFor projectLeft sumsRight sumFits sumsInForm inForm sumsTold ready gone due working
+    active activeKinds outranks hasCard cardsHeld rankOf chosen takesCard byteOn viewOf rank served holds byteBy rowByte rowOf
+    rowOver startAnswer startOf releaseAnswer released releaseOf unitAfter servedFor sumAfter advanced timeLeft advanceAnswer advanceOf runFrom
+    acceptedIn slicesOf size among kindsIn fieldAt repeated divisor divisorTo roundedUp offered counts frameFits timedAlone
+    kindsTimed answerFor builtOf
 figures = record {
   three-kinds = refl;
   separations = (refl, refl, refl);

@@ -5,10 +5,9 @@ use mathlib.Core.Logic.{_≢_}
 use mathlib.Core.Bool.{Bool, true, false, cond}
 use Prim.Native.Nat.{ℕ, _+_, _-_, _<_}
 use native.Mathlib.Omega.{arith}
-use lib.ListN.{length}
 use Rattle.unit.specs.declared.Unit.{Unit}
 use Rattle.rack.specs.declared.State.{State}
-use Rattle.rack.specs.State.{unitOf, kindAt, InUse}
+use Rattle.rack.specs.State.{unitOf, kindAt, InUse, Places}
 use Rattle.rack.specs.Rank.{gone, due, until, served}
 use Rattle.rack.specs.Release.{released, Releasable}
 use Rattle.rack.specs.Release.Properties.{release-unit, release-others}
@@ -22,7 +21,7 @@ use Rattle.demands.specs.View.Ranks.{view-serves}
 
 -- ---- a slice
 
-module _ (s : State) (may : Advanceable s) (places : length (s .unit) ≡ 16) where
+module _ (s : State) (may : Advanceable s) (places : Places s) where
   module _ (i : ℕ) (l : InUse s i) where
     pub sliced-released : unitOf (advanced s) i .released ≡ unitOf s i .released
     unfolding unitAfter
@@ -66,7 +65,7 @@ module _ (s : State) (may : Advanceable s) (places : length (s .unit) ≡ 16) wh
 
 -- ---- a release
 
-module _ (s : State) (k e : ℕ) (may : Releasable s k e) (places : length (s .unit) ≡ 16) where
+module _ (s : State) (k e : ℕ) (may : Releasable s k e) (places : Places s) where
   waited : waitOf s k ≡ 0
   unfolding waitOf
   waited = go (unitOf s k .released) refl

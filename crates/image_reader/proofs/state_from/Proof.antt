@@ -14,9 +14,12 @@ clock-from-requires c κs = search needs
 units-from-requires : tie.Need-units-from-requires
 units-from-requires c κs = search needs
 
+sums-from-requires : tie.Need-sums-from-requires
+sums-from-requires c κs = search needs
+
 returns : tie.Need-returns
 returns c = search state-from
 
 pub state-from-spec : {M : Type 1} → statement M
 state-from-spec =
-    tie.close (tie.spec plan-from-requires clock-from-requires units-from-requires returns)
+    tie.close (tie.spec plan-from-requires clock-from-requires units-from-requires sums-from-requires returns)

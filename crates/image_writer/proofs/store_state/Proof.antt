@@ -14,6 +14,9 @@ put-clock-requires c κs = search needs
 put-units-requires : tie.Need-put-units-requires
 put-units-requires c κs = search needs
 
+put-sums-requires : tie.Need-put-sums-requires
+put-sums-requires c κs = search needs
+
 same-length : tie.Need-same-length
 same-length c = search needs
 
@@ -23,4 +26,4 @@ returns c = search store-state
 pub store-state-spec : {M : Type 1} → statement M
 store-state-spec =
     tie.close
-    (tie.spec store-plan-requires put-clock-requires put-units-requires same-length returns)
+    (tie.spec store-plan-requires put-clock-requires put-units-requires put-sums-requires same-length returns)

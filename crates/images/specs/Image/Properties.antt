@@ -23,11 +23,11 @@ use Rattle.plan.specs.declared.Kind.{Kind}
 use Rattle.plan.specs.declared.Plan.{Plan}
 use Rattle.unit.specs.declared.Unit.{Unit}
 use Rattle.rack.specs.declared.State.{State}
-use Rattle.rack.specs.State.{unitOf}
-use Rattle.images.specs.Image.{countWidths, projectWidths, kindWidths, clockWidths, unitWidths, planRows, stateRows, planSize}
-use Rattle.images.specs.Image.{stateSize, projectPlace, kindPlace, clockPlace, unitPlace, releasedAt, releasedTold, field}
-use Rattle.images.specs.Image.{projectFrom, kindFrom, clockFrom, unitFrom, projectsFrom, kindsFrom, unitsFrom, planFrom, stateFrom}
-use Rattle.images.specs.Image.{countFields, projectFields, kindFields, unitFields, projectBytesAt, kindBytesAt, unitBytesAt}
+use Rattle.rack.specs.State.{unitOf, sumAt}
+use Rattle.images.specs.Image.{countWidths, projectWidths, kindWidths, clockWidths, unitWidths, sumWidths, planRows, stateRows}
+use Rattle.images.specs.Image.{planSize, stateSize, projectPlace, kindPlace, clockPlace, unitPlace, sumPlace, releasedAt, releasedTold, field}
+use Rattle.images.specs.Image.{projectFrom, kindFrom, clockFrom, unitFrom, sumFrom, projectsFrom, kindsFrom, unitsFrom, sumsFrom, planFrom}
+use Rattle.images.specs.Image.{stateFrom, countFields, projectFields, kindFields, unitFields, projectBytesAt, kindBytesAt, unitBytesAt, sumBytesAt}
 use Rattle.images.specs.Image.{planValues, stateValues, planImage, stateImage}
 
 -- ---- the fields of a place off its number n
@@ -55,6 +55,10 @@ pub unit-at : (s : List ℕ) (n : ℕ) → n ≡ numberTo (sizeOf unitWidths) s
     → record { at = n / 65536 % 4294967296; left = n % 65536; released = eqb (n / 281474976710656 % 256) 1 } ≡ unitFrom s
 unfolding unitFrom fieldsOf unpack
 unit-at s n e = rw (← e, div-one n)
+
+pub sum-at : (s : List ℕ) (n : ℕ) → n ≡ numberTo (sizeOf sumWidths) s → n % 65536 ≡ sumFrom s
+unfolding sumFrom fieldsOf unpack
+sum-at s n e = rw (← e, div-one n)
 
 -- the steps of the loop over the released bytes
 pub told-again : (i x : ℕ) (s : List ℕ) → true ≡ allTo i (releasedAt s) → x ≡ field unitWidths (drop (unitPlace i) s) 0 → x ≤ 1
@@ -84,12 +88,12 @@ pub plan-from : (s : List ℕ) (n : ℕ) (projects : List Project) (kinds : List
 unfolding planFrom fieldsOf unpack
 plan-from s n projects kinds e f g = rw (f, g, ← e, div-one n)
 
--- the plan, the clock and the units make the state
-pub state-from : (s : List ℕ) (p : Plan) (clock : ℕ) (units : List Unit) → p ≡ planFrom s → clock ≡ clockFrom (drop clockPlace s)
-    → units ≡ unitsFrom 16 s
-    → record { plan = p; clock = clock; unit = units } ≡ stateFrom s
+-- the plan, the clock, the units and the sums make the state
+pub state-from : (s : List ℕ) (p : Plan) (clock : ℕ) (units : List Unit) (sums : List ℕ) → p ≡ planFrom s
+    → clock ≡ clockFrom (drop clockPlace s) → units ≡ unitsFrom 16 s → sums ≡ sumsFrom 8 s
+    → record { plan = p; clock = clock; unit = units; sum = sums } ≡ stateFrom s
 unfolding stateFrom
-state-from s p clock units e f g = λ i. record { plan = e i; clock = f i; unit = g i }
+state-from s p clock units sums e f g h = λ i. record { plan = e i; clock = f i; unit = g i; sum = h i }
 
 -- ---- the fields of a place as its number
 
@@ -132,6 +136,11 @@ put-unit v z r w at l after e f g h =
     omega arith in
     h ∙ ap (λ (y : ℕ). sets l at (bytesOf 7 y)) x
 
+pub put-sum : (sum x at : ℕ) (l after : List ℕ) → x ≡ sum → after ≡ sets l at (bytesOf (sizeOf sumWidths) x)
+    → after ≡ sets l at (placed sumWidths (sum ∷ []))
+unfolding placed pack
+put-sum sum x at l after e h = let z : x ≡ sum * 1 + 0 = omega arith in h ∙ ap (λ (y : ℕ). sets l at (bytesOf 2 y)) z
+
 -- ---- the whole images
 
 pub state-length : (s : State) → length (stateImage s) ≡ stateSize
@@ -146,9 +155,10 @@ pub store-plan : (p : Plan) (out a b after : List ℕ) → planSize ≤ length o
 unfolding planImage putRows putTo
 store-plan p out a b after l e f g = rw (g, f, e) (rows-stored planRows (planValues p) out refl l)
 
-pub store-state : (s : State) (out a b after : List ℕ) → stateSize ≤ length out → a ≡ planImage (s .plan) ++ drop planSize out
-    → b ≡ sets a clockPlace (placed clockWidths (s .clock ∷ [])) → after ≡ putTo 16 (unitBytesAt s) (unitPlace 0) (sizeOf unitWidths) b
+pub store-state : (s : State) (out a b d after : List ℕ) → stateSize ≤ length out → a ≡ planImage (s .plan) ++ drop planSize out
+    → b ≡ sets a clockPlace (placed clockWidths (s .clock ∷ [])) → d ≡ putTo 16 (unitBytesAt s) (unitPlace 0) (sizeOf unitWidths) b
+    → after ≡ putTo 8 (sumBytesAt s) (sumPlace 0) (sizeOf sumWidths) d
     → after ≡ stateImage s ++ drop stateSize out
 unfolding planImage stateImage putRows putTo
-store-state s out a b after l e f g =
-    rw (g, f, e, ← (rows-stored planRows (planValues (s .plan)) out refl (omega arith))) (rows-stored stateRows (stateValues s) out refl l)
+store-state s out a b d after l e f g h =
+    rw (h, g, f, e, ← (rows-stored planRows (planValues (s .plan)) out refl (omega arith))) (rows-stored stateRows (stateValues s) out refl l)

@@ -1,9 +1,9 @@
 -- Every plan that is read or found, and every state that is found or that a fresh start, a release and an advance hand back, is of the
 -- language's type.
 -- Assumes nothing.
-use mathlib.Core.Path.{_≡_, refl, _∙_}
+use mathlib.Core.Path.{_≡_, refl, sym, _∙_}
 use mathlib.Core.Bool.{Bool, true, false, cond}
-use mathlib.Core.List.{List}
+use mathlib.Core.List.{List, [], _∷_}
 use Prim.Native.Nat.{ℕ, _*_, _≤_, _<_}
 use native.Mathlib.Nat.{mul-le-mul}
 use native.Mathlib.Decide.{decLt, ℕ-discrete}
@@ -26,14 +26,16 @@ use Rattle.plan_bytes.specs.RoundTrip.Reads.{empty-project, empty-kind, unused-
 use Rattle.plan_bytes.specs.RoundTrip.Writes.{read-shaped, read-checked}
 use Rattle.rack.specs.declared.State.{State}
 use Rattle.unit.specs.Unit.{noUnit}
-use Rattle.rack.specs.State.{freshOf, unitOf, kindPlaces}
+use Rattle.rack.specs.State.{freshOf, unitOf, kindAt, kindPlaces, sumAt}
+use Rattle.rack.specs.Start.Properties.{fresh-places}
 use Rattle.rack.specs.Form.Properties.{places-most, place-most}
 use Rattle.rack.specs.Release.{releaseAnswer, released, Releasable}
-use Rattle.rack.specs.Release.Properties.{release-says, release-unit, release-others, release-places}
+use Rattle.rack.specs.Release.Properties.{release-says, release-unit, release-others, release-places, release-room, release-sum}
+use Rattle.rack.specs.Release.Properties.{release-sum-others}
 use Rattle.rack.specs.Advance.{unitAfter, advanced, advanceAnswer}
-use Rattle.rack.specs.Advance.Properties.{advance-says}
-use Rattle.images.specs.Image.{countWidths, projectWidths, kindWidths, clockWidths, unitWidths, projectPlace, kindPlace, clockPlace}
-use Rattle.images.specs.Image.{unitPlace}
+use Rattle.rack.specs.Advance.Properties.{advance-says, advance-places, sum-falls}
+use Rattle.images.specs.Image.{countWidths, projectWidths, kindWidths, clockWidths, unitWidths, sumWidths, projectPlace, kindPlace}
+use Rattle.images.specs.Image.{clockPlace, unitPlace, sumPlace, sumFrom}
 use Rattle.images.specs.Image.{projectFrom, kindFrom, clockFrom, unitFrom, planFrom, stateFrom, projectFields, kindFields, unitFields}
 use Rattle.images.specs.Typed.{PlanTyped, StateTyped}
 
@@ -54,6 +56,10 @@ kind-fitting s = fields-fit kindWidths s
 unit-fitting : (s : List ℕ) → Fitting unitWidths (unitFields (unitFrom s))
 unfolding unitFrom fieldsOf unpack
 unit-fitting s = (flag-fits (unitFrom s .released), fields-fit unitWidths s .1)
+
+sum-fitting : (s : List ℕ) → Fitting sumWidths (sumFrom s ∷ [])
+unfolding sumFrom fieldsOf unpack
+sum-fitting s = fields-fit sumWidths s
 
 -- a plan
 pub plan-found-typed : (s : List ℕ) → PlanTyped (planFrom s)
@@ -80,10 +86,16 @@ state-found-typed s =
     record {
       plan-typed = plan-found-typed s;
       clock-fits = fields-fit clockWidths (drop clockPlace s);
-      sixteen = written-length 16 (λ i. unitFrom (drop (unitPlace i) s)) (replicate 16 noUnit);
+      places = record {
+        sixteen = written-length 16 (λ i. unitFrom (drop (unitPlace i) s)) (replicate 16 noUnit);
+        eight = written-length 8 (λ j. sumFrom (drop (sumPlace j) s)) (replicate 8 0);
+      };
       unit-fits = λ i l.
           rw (written-at 16 (λ k. unitFrom (drop (unitPlace k) s)) (replicate 16 noUnit) noUnit i l (omega arith))
           (unit-fitting (drop (unitPlace i) s));
+      sum-fits = λ j l.
+          rw (written-at 8 (λ k. sumFrom (drop (sumPlace k) s)) (replicate 8 0) 0 j l (omega arith))
+          (sum-fitting (drop (sumPlace j) s));
     }
 
 -- ---- read from plan bytes
@@ -159,8 +171,9 @@ start-typed p t =
     record {
       plan-typed = t;
       clock-fits = (omega arith, tt);
-      sixteen = refl;
+      places = fresh-places p;
       unit-fits = λ i l. rw (getD-replicate 16 i noUnit noUnit l) (omega arith, (omega arith, (omega arith, tt)));
+      sum-fits = λ j l. (omega (arith, getD-replicate {A = ℕ} 8 j 0 0 l), tt);
     }
 
 module _ (s : State) (t : StateTyped s) where
@@ -174,8 +187,14 @@ module _ (s : State) (t : StateTyped s) where
         let clock = t .clock-fits in
         let kind = t .plan-typed .kind-fits i (place-most s i (r .ready) (r .its-kind)) in
         let most = r .start .length-most in
-        rw (z, release-unit s i e r (t .sixteen)) (omega arith, (omega arith, (omega arith, tt)))
-    release-fits k l (no z) = rw (release-others s i e r (t .sixteen) k z) (t .unit-fits k l)
+        rw (z, release-unit s i e r (t .places)) (omega arith, (omega arith, (omega arith, tt)))
+    release-fits k l (no z) = rw (release-others s i e r (t .places) k z) (t .unit-fits k l)
+
+    raised-fits : (j : ℕ) → j < 8 → Dec (j ≡ kindAt s i .project) → Fitting sumWidths (sumAt (released s i e) j ∷ [])
+    raised-fits j l (yes z) =
+        let room = release-room s i e (kindAt s i .project) Good refl (sym good) refl in
+        rw z (omega (arith, release-sum s i e r (t .places)), tt)
+    raised-fits j l (no z) = rw (release-sum-others s i e r (t .places) j z) (t .sum-fits j l)
 
     pub release-typed : StateTyped (released s i e)
     unfolding released
@@ -183,8 +202,9 @@ module _ (s : State) (t : StateTyped s) where
         record {
           plan-typed = t .plan-typed;
           clock-fits = t .clock-fits;
-          sixteen = release-places s i e r (t .sixteen);
+          places = release-places s i e r (t .places);
           unit-fits = λ k l. release-fits k l (ℕ-discrete k i);
+          sum-fits = λ j l. raised-fits j l (ℕ-discrete j (kindAt s i .project));
         }
 
   -- by an advance
@@ -197,16 +217,18 @@ module _ (s : State) (t : StateTyped s) where
     unfolding advanced
     advance-fits k l (yes z) =
         let n = places-most s (kindPlaces s) (advance-says s good .ready) refl in
-        rw (written-at (kindPlaces s) (unitAfter s) (s .unit) noUnit k z (omega (arith, t .sixteen))) (after-fits k l)
+        rw (written-at (kindPlaces s) (unitAfter s) (s .unit) noUnit k z (omega (arith, t .places .sixteen))) (after-fits k l)
     advance-fits k l (no z) = rw (written-kept (kindPlaces s) (unitAfter s) (s .unit) noUnit k (omega arith)) (t .unit-fits k l)
 
     pub advance-typed : StateTyped (advanced s)
     unfolding advanced
     advance-typed =
-        let time = advance-says s good .time in
+        let may = advance-says s good in
+        let time = may .time in
         record {
           plan-typed = t .plan-typed;
           clock-fits = (omega arith, tt);
-          sixteen = written-length (kindPlaces s) (unitAfter s) (s .unit) ∙ t .sixteen;
+          places = advance-places s may (t .places);
           unit-fits = λ k l. advance-fits k l (decLt k (kindPlaces s));
+          sum-fits = λ j l. (omega (arith, t .sum-fits j l .0, sum-falls s may (t .places) j), tt);
         }

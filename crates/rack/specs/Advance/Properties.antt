@@ -264,6 +264,15 @@ module _ (s : State) (r : Ready s) (places : Places s) where
   unfolding advanced
   sum-unused j l = written-kept (projectPlaces s) (sumAfter s) (s .sum) 0 j l
 
+  -- no sum rises
+  pub sum-falls : (j : ℕ) → sumAt (advanced s) j ≤ sumAt s j
+  unfolding sumAfter
+  sum-falls j =
+      elim (decLt j (projectPlaces s)) [
+        | yes l ↦ omega (arith, sum-after j l)
+        | no l ↦ omega (arith, sum-unused j (omega arith))
+      ]
+
   -- what a kind adds falls by one where it is served
   falls : (j i : ℕ) → InUse s i → leftFor (advanced s) j i + cond (servedFor s j i) 1 0 ≡ leftFor s j i
   unfolding leftFor servedFor advanced unitAfter Step.leftAfter

@@ -24,6 +24,7 @@ use Rattle.unit.specs.declared.Unit.{Unit}
 use Rattle.unit.specs.Unit.{noUnit}
 use Rattle.unit.specs.Form.{UnitInForm}
 use Rattle.unit.specs.Step as Step
+use Rattle.unit.specs.Step.{goneAfter}
 use Rattle.unit.specs.Step.Properties.{gone-never}
 use Rattle.plan.specs.declared.Kind.{Kind}
 use Rattle.rack.specs.declared.State.{State}
@@ -42,9 +43,12 @@ use Rattle.rack.specs.Advance.{unitAfter, servedFor, sumAfter, advanced,
 
 -- ---- the answer
 
+pub advance-says : (s : State) → advanceAnswer s ≡ Good → Ready s
+advance-says s good = ready-says s good
+
 -- what the tests answered, opened
 pub advance-opened : (s : State) (r : Answer) → r ≡ Good → r ≡ advanceAnswer s → Ready s
-advance-opened s r good is = ready-says s (sym is ∙ good)
+advance-opened s r good is = advance-says s (sym is ∙ good)
 
 -- an accepted one hands back the state that follows, and a refusal changes nothing
 pub advance-moves : (s : State) → advanceOf s .answer ≡ Good → advanceOf s .state ≡ advanced s
@@ -54,6 +58,20 @@ advance-moves s good = good-moves (advanceAnswer s) (advanced s) s good
 pub advance-refused : (s : State) (w : Refusal) → advanceOf s .answer ≡ No w → advanceOf s .state ≡ s
 unfolding advanceOf
 advance-refused s w e = refused-keeps (advanceAnswer s) w (advanced s) s e
+
+-- ---- a kind's unit after it
+
+pub after-released : (s : State) (i : ℕ) → unitAfter s i .released ≡ unitOf s i .released
+unfolding unitAfter
+after-released s i = refl
+
+pub after-gone : (s : State) (i : ℕ) → unitAfter s i .gone ≡ goneAfter (kindAt s i .separation) (unitOf s i)
+unfolding unitAfter
+after-gone s i = refl
+
+pub after-left : (s : State) (i : ℕ) → unitAfter s i .left ≡ unitOf s i .left - cond (served s i) 1 0
+unfolding unitAfter Step.leftAfter
+after-left s i = refl
 
 -- ---- the slice after it
 
@@ -302,7 +320,7 @@ module _ (s : State) (r : Ready s) (places : Places s) where
   -- a unit that is in form is so a slice later, where it is not late
   in-form-after : (i : ℕ) → UnitInForm (kindAt s i) (unitOf s i) → (0 < unitAfter s i .left → unitAfter s i .gone < kindAt s i .deadline) →
       UnitInForm (kindAt s i) (unitAfter s i)
-  unfolding unitAfter Step.leftAfter Step.goneAfter
+  unfolding unitAfter Step.leftAfter goneAfter
   in-form-after i u h = go (unitOf s i .released) refl
     where
       T : ℕ

@@ -19,6 +19,9 @@ pub mod Showing
 pub mod AnyWorkload
 pub mod EquationFive
 pub mod OneKindProjects
+pub mod AbsoluteClock
+pub mod Beside
+pub mod NoClock
 pub mod Sufficient
 -- ---- the statements at work
 pub mod Uses

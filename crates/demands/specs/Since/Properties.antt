@@ -32,7 +32,7 @@ Tells s i never = unitOf s i .released ≡ false
 Tells s i (ago slices) = (unitOf s i .released ≡ true) × (unitOf s i .gone ≡ min (kindAt s i .separation) slices)
 
 -- a number held at T is below T exactly when it was
-held-test : (separation slices : ℕ) → ltb (min separation slices) separation ≡ ltb slices separation
+pub held-test : (separation slices : ℕ) → ltb (min separation slices) separation ≡ ltb slices separation
 held-test separation slices =
     elim (decLt slices separation) [
       | yes l ↦ lt-ltb (min separation slices) separation (omega arith) ∙ sym (lt-ltb slices separation l)

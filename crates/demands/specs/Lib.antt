@@ -22,6 +22,7 @@ pub mod OneKindProjects
 pub mod AbsoluteClock
 pub mod Beside
 pub mod NoClock
+pub mod LateByHand
 pub mod Sufficient
 -- ---- the statements at work
 pub mod Uses

@@ -68,6 +68,7 @@ pub mod Advice
 pub mod Smallest
 pub mod Five
 pub mod OneKind
+pub mod RowOfSums
 pub mod NoClock
 
 -- ---- demand 1: one outcome, and a refusal that changes nothing

@@ -1,7 +1,9 @@
 -- What a host is promised: each number given back is read again, a chain of calls of the C interface on one image is a run of the rack,
--- and demand 3 holds of what it sees.
+-- demand 3 holds of what it sees, and a flip in the bytes of a sum or of slices left is told.
 -- Assumes nothing.
 pub mod Words
 pub mod Chain
 pub mod Events
 pub mod Promised
+pub mod Flips
+pub mod FlipsTold

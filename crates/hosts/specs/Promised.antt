@@ -20,6 +20,7 @@ use Rattle.plan.specs.Order.{within, budgetOf, kindOf}
 use Rattle.layout.specs.Layout.{held}
 use Rattle.rack.specs.declared.State.{State}
 use Rattle.rack.specs.State.{freshOf, unitOf}
+use Rattle.rack.specs.Sums.{leftRow}
 use Rattle.rack.specs.Start.{startAnswer, startOf}
 use Rattle.rack.specs.Start.Properties.{start-good}
 use Rattle.rack.specs.Release.{releaseOf}
@@ -42,6 +43,7 @@ use Rattle.demands.specs.Shown.{Event, shown, kindsLeft, upTo}
 use Rattle.demands.specs.Numbers.{verdictOrder, releaseOrder, showOrder, advanceOrder}
 use Rattle.demands.specs.Numbers.{release-numbers, show-numbers, advance-numbers}
 use Rattle.demands.specs.Deadlines as rack
+use Rattle.demands.specs.RowOfSums as sums
 use Rattle.hosts.specs.Words.{fresh-listed, uncounted}
 use Rattle.hosts.specs.Chain.{Seen, lent, Called, Chain, seenOf, allSeen}
 use Rattle.hosts.specs.Chain.Properties.{call-is, next-typed, chain-is-run, run-typed}
@@ -352,6 +354,15 @@ module _ (plan state first : List ℕ) (word : ℕ) (fresh : Starts plan state w
     pub never-out-of-form : (call : Call) (seen : Seen) (next : List ℕ) → Called end call seen next → numberIn (seen .word) ≢ 10
     never-out-of-form call seen next c z =
         rack.never-out-of-form p admitted calls call (sym (seen-number (after p calls) call seen (next-is-run call seen next c .0)) ∙ z)
+
+    -- 16 never occurs
+    pub never-differs : (call : Call) (seen : Seen) (next : List ℕ) → Called end call seen next → numberIn (seen .word) ≢ 16
+    never-differs call seen next c z =
+        sums.never-differs p admitted calls call (sym (seen-number (after p calls) call seen (next-is-run call seen next c .0)) ∙ z)
+
+    -- for the row of sums that the bytes say is that of what they say is left
+    pub row-right : stateFrom end .sum ≡ leftRow (stateFrom end)
+    row-right = rw state-found (sums.row-right p admitted calls)
 
     -- 15 never occurs
     pub never-left-over : (call : Call) (seen : Seen) (next : List ℕ) → Called end call seen next → numberIn (seen .word) ≢ 15

@@ -30,13 +30,14 @@ use Rattle.workload.specs.Workload.{besides, partOf, workload}
 use Rattle.verdict.specs.Verdict.{widthOf, excessOf, fitted, admitted}
 use Rattle.unit.specs.Form.{untouched, underway, unitInForm, emptyUnit}
 use Rattle.unit.specs.Start.{early, startable}
-use Rattle.rack.specs.Form.{inForm, ready}
+use Rattle.rack.specs.Sums.{leftFor, projectLeft, sumsRight}
+use Rattle.rack.specs.Form.{sumFits, sumsInForm, inForm, sumsTold, ready}
 use Rattle.rack.specs.View.{hasCard, cardsHeld, rankOf, chosen, takesCard, byteOn}
 use Rattle.rack.specs.Rank.{gone, due, working, active, outranks, viewOf, rank, served}
 use Rattle.rack.specs.Row.{byteBy, rowByte}
 use Rattle.rack.specs.Start.{startAnswer, startOf}
 use Rattle.rack.specs.Release.{releaseAnswer, released, releaseOf}
-use Rattle.rack.specs.Advance.{unitAfter, advanced, timeLeft, advanceAnswer, advanceOf}
+use Rattle.rack.specs.Advance.{unitAfter, servedFor, sumAfter, advanced, timeLeft, advanceAnswer, advanceOf}
 use Rattle.rack.specs.Show.{roomFor, showAnswer}
 use Rattle.commands.specs.Command.{commandFields, fieldsSay, commandOf}
 use Rattle.lines.specs.Text.{decimalIn, decimal}
@@ -65,8 +66,8 @@ unfolding sumTo leastTo firstTo countTo allTo written rankIn firstIn sooner each
     size partsTo headerFields projectFields kindFields projectFrom kindFrom projectsFrom kindsFrom headed decoded headerSpare
     projectSpare kindSpare projectsSpare kindsSpare placesSpare spareZero bodyAnswer readAnswer readOf cellAt heldFrom firstCell
     owns slotOf held window supply workloadPart fitsAt leastWidth greatestTo allowedLength leastExcess besides partOf workload
-    widthOf excessOf fitted admitted untouched underway unitInForm emptyUnit early startable inForm ready gone due working active
+    widthOf excessOf fitted admitted untouched underway unitInForm emptyUnit early startable leftFor projectLeft sumsRight sumFits sumsInForm inForm sumsTold ready gone due working active
     outranks hasCard cardsHeld rankOf chosen takesCard byteOn viewOf rank served byteBy rowByte startAnswer startOf releaseAnswer
-    released releaseOf unitAfter advanced timeLeft roomFor showAnswer advanceAnswer advanceOf commandFields fieldsSay commandOf
+    released releaseOf unitAfter servedFor sumAfter advanced timeLeft roomFor showAnswer advanceAnswer advanceOf commandFields fieldsSay commandOf
     decimalIn decimal planLine outcome releaseLine rowText sliceLine endLine lineOf after turns opening played
 example = refl

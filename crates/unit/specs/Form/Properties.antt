@@ -26,11 +26,11 @@ untouched-of v e = and-both (eqb (v .gone) 0) (eqb (v .left) 0) (eq-eqb (v .gone
 
 -- ---- "below D where work is left"
 
-in-time-says : (deadline : ℕ) (v : Unit) → inTime deadline v ≡ true → 0 < v .left → v .gone < deadline
+pub in-time-says : (deadline : ℕ) (v : Unit) → inTime deadline v ≡ true → 0 < v .left → v .gone < deadline
 unfolding inTime
 in-time-says deadline v e l = ltb-true (v .gone) deadline (rw (ne-eqb (v .left) 0 (λ z. omega arith)) at e)
 
-in-time-of : (deadline : ℕ) (v : Unit) → (0 < v .left → v .gone < deadline) → inTime deadline v ≡ true
+pub in-time-of : (deadline : ℕ) (v : Unit) → (0 < v .left → v .gone < deadline) → inTime deadline v ≡ true
 unfolding inTime
 in-time-of deadline v h =
     elim (ℕ-discrete (v .left) 0) [

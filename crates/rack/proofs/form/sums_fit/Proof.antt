@@ -1,29 +1,27 @@
--- `rack::State::sums_in_form` meets its contract.
+-- `rack::form::sums_fit` meets its contract.
 -- Assumes nothing.
-use mathlib.Core.Path.{_≡_, refl}
+use mathlib.Core.Path.{_≡_}
 use mathlib.Core.Bool.{true}
-use Prim.Native.Nat.{_≤_, _-_}
+use Prim.Native.Nat.{ℕ, _≤_, _-_}
 use native.Mathlib.Omega.{arith}
+use lib.Dec.{ltb}
+use lib.ListN.{getD}
 use borrow.Author.Needs.{needs}
 use Rattle.laws.specs.All.{allTo}
 use Rattle.laws.specs.All.Properties.{all-none, all-more, all-stop, all-fails}
 use Rattle.laws.specs.Tests.{told-no, told-yes}
-use Rattle.rack.specs.State.{projectPlaces}
-use Rattle.rack.specs.Form.{sumInForm, sumsInForm}
-use Rattle.rack.proofs.State.sums_in_form.Statement.{statement}
-use Rattle.rack.proofs.State.sums_in_form.Tie as tie
+use Rattle.rack.specs.Form.{sumFits, sumsFit}
+use Rattle.rack.proofs.form.sums_fit.Statement.{statement}
+use Rattle.rack.proofs.form.sums_fit.Tie as tie
 
 abbrev Inv-loop : tie.InvT-loop
-Inv-loop self projects j₀ j = (j ≤ 8) × (projects ≡ projectPlaces self) × (true ≡ allTo j (sumInForm self))
+Inv-loop sum projects j₀ j = (j ≤ 8) × (true ≡ allTo j (λ (k : ℕ). sumFits (ltb k projects) (getD sum k 0)))
 
 abbrev μ-loop : tie.MeasureT-loop
-μ-loop self projects j₀ j = 8 - j
-
-cast-projects : tie.Need-cast-projects Inv-loop μ-loop
-cast-projects c = search needs
+μ-loop sum projects j₀ j = 8 - j
 
 loop-holds : tie.Need-loop-holds Inv-loop μ-loop
-loop-holds c = (omega arith, refl, all-none _)
+loop-holds c = (omega arith, all-none _)
 
 mul-sum-fits : tie.Need-mul-sum-fits Inv-loop μ-loop
 mul-sum-fits c = search needs
@@ -35,7 +33,7 @@ sum-fits-requires : tie.Need-sum-fits-requires Inv-loop μ-loop
 sum-fits-requires c κs = search needs
 
 returns : tie.Need-returns Inv-loop μ-loop
-unfolding sumsInForm
+unfolding sumsFit
 returns c = search (all-fails, told-no)
 
 add-j : tie.Need-add-j Inv-loop μ-loop
@@ -45,19 +43,18 @@ loop-less : tie.Need-loop-less Inv-loop μ-loop
 loop-less c = omega arith
 
 loop-again : tie.Need-loop-again Inv-loop μ-loop
-loop-again c = (omega arith, search, all-more _ _ (search) (search told-yes))
+loop-again c = (omega arith, all-more _ _ (search) (search told-yes))
 
 returns-2 : tie.Need-returns-2 Inv-loop μ-loop
-unfolding sumsInForm
+unfolding sumsFit
 returns-2 c = search all-stop
 
-pub sums-in-form-spec : {M : Type 1} → statement M
-sums-in-form-spec =
+pub sums-fit-spec : {M : Type 1} → statement M
+sums-fit-spec =
     tie.close
     (tie.spec
     Inv-loop
     μ-loop
-    cast-projects
     loop-holds
     mul-sum-fits
     element-copy-out-sum-fits

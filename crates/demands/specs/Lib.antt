@@ -23,6 +23,10 @@ pub mod EquationFive
 pub mod OneKindProjects
 pub mod RowOfSums
 pub mod Rescue
+pub mod AbsoluteClock
+pub mod Beside
+pub mod NoClock
+pub mod LateByHand
 pub mod Sufficient
 -- ---- the statements at work
 pub mod Uses

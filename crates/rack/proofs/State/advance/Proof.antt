@@ -2,13 +2,13 @@
 -- Assumes nothing.
 use Rattle.rack.specs.State.Properties.{next-kept, next-moved}
 use Rattle.rack.specs.Advance.{advanceOf}
-use Rattle.rack.specs.Advance.Properties.{advance-ready, advance-opened}
+use Rattle.rack.specs.Advance.Properties.{advance-opened}
 use borrow.Author.Needs.{needs}
 use Rattle.rack.proofs.State.advance.Statement.{statement}
 use Rattle.rack.proofs.State.advance.Tie as tie
 
-may-advance-requires : tie.Need-may-advance-requires
-may-advance-requires c κs = search needs
+check-requires : tie.Need-check-requires
+check-requires c κs = search needs
 
 enum-told : tie.Need-enum-told
 enum-told c = search needs
@@ -21,7 +21,7 @@ unfolding advanceOf
 returns c = search next-kept
 
 seats-requires : tie.Need-seats-requires
-seats-requires c κs = search advance-ready
+seats-requires c κs = search advance-opened
 
 run-seated-requires : tie.Need-run-seated-requires
 run-seated-requires c κs = (search advance-opened, search)
@@ -34,7 +34,7 @@ pub advance-spec : {M : Type 1} → statement M
 advance-spec =
     tie.close
     (tie.spec
-    may-advance-requires
+    check-requires
     enum-told
     enum-told-2
     returns

@@ -692,7 +692,24 @@ pub fn fixed_state_records() -> Vec<State> {
         Plan::default(),
     ] {
         let frame = plan.frame;
-        for slice in [0, 1, frame.saturating_sub(1), frame, frame + 1, 255] {
+        for slice in [frame, frame + 1, 255] {
+            let beyond = State {
+                plan,
+                slice,
+                ..State::default()
+            };
+            states.push(beyond);
+            for place in 0..16 {
+                let mut state = beyond;
+                state.kinds[place] = KindState {
+                    released: true,
+                    gone: 0,
+                    left: plan.kinds[place].length,
+                };
+                states.push(state.summed());
+            }
+        }
+        for slice in [0, 1, frame.saturating_sub(1)] {
             let base = State {
                 plan,
                 slice,

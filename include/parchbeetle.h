@@ -68,8 +68,8 @@ extern "C" {
 
 #define PARCHBEETLE_UNIT_FIELDS(field)                                                  \
     field(released, 1)    /* 1 if the kind was ever released, else 0; any other is 10 */ \
-    field(gone, 2)        /* slices since its last accepted release, held at T; 0 if never released */ \
-    field(left, 2)        /* slices left; 0 where D or more are gone */
+    field(gone, 2)        /* slices since its last release, held at T; 0 if never */    \
+    field(left, 2)        /* slices left; none where D or more are gone */
 
 #define PARCHBEETLE_SUM_FIELDS(field)                                                   \
     field(left, 2)        /* slices left of all the project's kinds; beyond p: 0 */
@@ -279,8 +279,8 @@ uint64_t parchbeetle_fresh(const uint8_t *plan, size_t plan_len, uint8_t *state,
 
 /*
  * Releases a unit of `kind` with length `e`, before the next slice. The state is
- * changed in place. A kind with slices left is refused by 14: it is in time only
- * within its deadline, which is no longer than its separation.
+ * changed in place. A kind with slices left is refused by 14: slices are left only
+ * within the deadline, which is at most the separation.
  * Refusals: 9 (state_len below 237), the plan's 2 to 7, 10, 16, 12, 13, 14.
  */
 uint64_t parchbeetle_release(uint8_t *state, size_t state_len, uint64_t kind, uint64_t e);

@@ -74,7 +74,7 @@ pub fn run<T>(
     mut each: impl FnMut(Case, Outcome) -> Option<T>,
 ) -> Option<T> {
     let mut g = numbered(seed ^ 0x01DC_10C4_0000_0000, at);
-    let long = at % 4 == 0;
+    let long = at.is_multiple_of(4);
     let plan = match long {
         true => g.long_plan(),
         false => g.admitted_plan(),

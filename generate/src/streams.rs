@@ -182,8 +182,24 @@ impl Generator {
         }
     }
 
+    /// A stream over thousands of slices on a plan with long separations.
+    fn patient_stream(&mut self) -> Stream {
+        let plan = self.long_plan();
+        let slices = self.between(1_000, 6_000);
+        let mut bytes = pack(&plan);
+        bytes.extend(self.patient_run(fresh(&plan).1, slices));
+        bytes.extend(self.tail());
+        Stream {
+            name: "far apart".to_string(),
+            bytes,
+        }
+    }
+
     /// One input for the player: most on admitted plans with long mixed commands, the rest refused in every way.
     pub fn stream(&mut self) -> Stream {
+        if self.one_in(120) {
+            return self.patient_stream();
+        }
         match self.below(20) {
             0..=9 => {
                 let plan = self.admitted_plan();

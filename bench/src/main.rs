@@ -19,7 +19,7 @@ fn main() {
     println!("proved: the static library, images in and out. second: the second program, on the same images.");
     println!("tuned: the same rules in Rust, records in place. Nanoseconds are medians of {TURNS} turns of 1 ms,");
     println!("of {FEW_TURNS} turns where one call takes longer; the sides take turns. A state is copied in before each");
-    println!("single slice or half of one; no other buffer is cleared or filled. All sides gave the same before they were timed.");
+    println!("single slice, half of one or release; no other buffer is cleared or filled. All sides gave the same before they were timed.");
     if !bindings::LINKED {
         println!("\nTHE PROVED COLUMN SAYS NOTHING: the library cannot be linked here, an emulator makes its calls.");
     }
@@ -94,6 +94,13 @@ fn main() {
             let name = format!("{}, n {n}, F 64", half.name());
             table.add(half_slice(name, half, &inputs::all_active(n, 64, 4095)));
         }
+    }
+    table.print();
+
+    let mut table = Table::new("a release (as above, the last kind never released)");
+    for n in [1, 8, 16] {
+        let name = format!("n {n}, F 64");
+        table.add(release(name, &inputs::last_due(n, 64, 4095)));
     }
     table.print();
 
@@ -255,6 +262,36 @@ fn half_slice(name: String, half: Half, state: &State) -> Row {
                     Half::Show => tuned::show(black_box(&own), black_box(&mut row)),
                     Half::Advance => tuned::advance(black_box(&mut own)),
                 });
+            },
+        ],
+    )
+}
+
+/// A release of the last kind.
+fn release(name: String, state: &State) -> Row {
+    let (kind, e) = (u64::from(state.plan.n) - 1, 100);
+    let image = state_image(state);
+    agree(&Case::release(image.to_vec(), kind, e));
+    let mut own = *state;
+    let same = tuned::release(&mut own, kind, e) == 0 && own == second::release(state, kind, e).1;
+    stop_unless(same, "tuned differs", &name);
+    let through = |side: &dyn Side, running: &mut [u8; STATE_IMAGE]| {
+        running.copy_from_slice(black_box(&image));
+        kept(side.release(black_box(running), black_box(kind), black_box(e)));
+    };
+    let (mut one, mut other) = (image, image);
+    medians(
+        name,
+        [
+            &mut || through(&Proved, &mut one),
+            &mut || through(&Second, &mut other),
+            &mut || {
+                own = *black_box(state);
+                kept(tuned::release(
+                    black_box(&mut own),
+                    black_box(kind),
+                    black_box(e),
+                ));
             },
         ],
     )

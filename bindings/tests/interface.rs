@@ -637,7 +637,7 @@ fn one_thing_changed_on_one_side_is_found() {
         (images, "unitWidths = 8 ∷ 16", "unitWidths = 16 ∷ 8"),
         (images, "row 8 projectWidths", "row 9 projectWidths"),
         (header, "sum sum[8]", "sum sum[9]"),
-        (header, "SUM_FIELDS(field)                                                   \\\n    field(left, 2)", "SUM_FIELDS(field)                                                   \\\n    field(left, 4)"),
+        (header, "field(left, 2)        /* slices left of all", "field(left, 4)        /* slices left of all"),
         (header, "field(old_value, 2)", "field(old_value, 1)"),
         (bindings, "pub old_value: u16", "pub before: u16"),
         (bindings, "pub sum: [u16; 8]", "pub sum: [u32; 8]"),

@@ -16,6 +16,7 @@ use generate::{
 use second::bytes::{pack, plan_bytes};
 use second::play::{command, Command};
 use second::{Kind, KindState, Plan, Project, State};
+use std::sync::OnceLock;
 
 /// The calls made on one image or one string of plan bytes.
 pub type Record = Vec<Case>;
@@ -61,9 +62,15 @@ pub enum Fixed {
     Released(Plan, usize, u8),
 }
 
-/// Each refusal at each place, each boundary of a budget left open and of a list, each sum that differs, each change of a rescue, each length of each buffer,
-/// each released byte, and all plans and states of a small size.
-pub fn fixed() -> Vec<Fixed> {
+/// Each refusal at each place, each boundary of a budget left open and of a list, each sum that differs, each change of a rescue, each
+/// length of each buffer, each released byte, and all plans and states of a small size.
+pub fn fixed() -> &'static [Fixed] {
+    // The self-test takes them once for each fault.
+    static FIXED: OnceLock<Vec<Fixed>> = OnceLock::new();
+    FIXED.get_or_init(all_fixed)
+}
+
+fn all_fixed() -> Vec<Fixed> {
     let plans = fixed_plan_records().into_iter().chain(small_plans());
     let states = fixed_state_records().into_iter().chain(small_states());
     let bytes = fixed_streams().into_iter().map(|stream| stream.bytes);
@@ -230,9 +237,12 @@ fn lengths() -> Vec<Case> {
     for count in 0..=running.len() {
         cases.push(Case::release(running[..count].to_vec(), 0, 1));
     }
-    // Lists of every length around the needed one: of damage with few changes, with none, with the most, and with no kind left.
-    for bytes in fixed_damage().into_iter().rev().step_by(977) {
-        let needed = list_needed(&bytes);
+    // Lists of every length up to a little more than the needed one: of the longest, of damage with many changes, and of single flips.
+    let damaged = fixed_damage();
+    let many = damaged.iter().take(102).rev().step_by(7);
+    let single = damaged.iter().rev().step_by(5003);
+    for bytes in many.chain(single) {
+        let needed = list_needed(bytes);
         for room in 0..=needed + 7 {
             let (plan, list) = (vec![0xEE; PLAN_IMAGE + 1], vec![0xEE; room]);
             cases.push(Case::rescue(bytes.clone(), plan, list));

@@ -195,7 +195,7 @@ pub const RECORD_FAULTS: [(Fault, &str, &str); 117] = [
     (
         ServesNone,
         "serves-none",
-        "the clock moves, no one is served",
+        "the slice moves, no one is served",
     ),
     (Early, "early", "a release at T-1 passes"),
     (ExactlyT, "exactly-t", "a release at exactly T gives 14"),

@@ -97,11 +97,11 @@ pub fn run(seed: u64, at: u64) -> (Generator, Vec<State>) {
     (g, states)
 }
 
-/// The three calls on the state as it is; a showing has enough room.
+/// The three calls on the state as it is, accepted or not: a release may be refused by 12 to 14, a showing by 9.
 pub fn calls(g: &mut Generator, state: &State) -> Record {
     let image = state_image(state).to_vec();
     let (kind, e) = g.release_numbers(state);
-    let room = usize::from(state.plan.m) + g.below(2) as usize;
+    let room = usize::from(state.plan.m) - 1 + g.below(3) as usize;
     vec![
         Case::release(image.clone(), kind, e),
         Case::new(Op::Show, image.clone(), vec![0xEE; room]),

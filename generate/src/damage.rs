@@ -9,24 +9,34 @@ use second::plan::{Kind, Plan, Project};
 /// So many plans have each single bit of their bytes flipped.
 const FLIPPED: u64 = 120;
 
-/// Every single flip of some hundred plans, and each change that a rescue can make at each place and boundary, alone and together.
+/// Each change that a rescue can make at each place and boundary, alone and together; then every single flip of some hundred plans.
 pub fn fixed_damage() -> Vec<Vec<u8>> {
     let mut damaged = Vec::new();
 
-    // Every single flip.
-    let mut g = Generator::new(8);
-    let mut plans = vec![Plan::a(), Plan::b(), wide_plan(8), wide_plan(1)];
-    while (plans.len() as u64) < FLIPPED {
-        plans.push(g.good_plan());
+    // Kinds dropped in every pattern of six, and all but one, and all, of sixteen; each with spare bits and a D to lower.
+    for pattern in 0..64u32 {
+        damaged.push(dropped(6, pattern));
     }
-    for plan in &plans {
-        let bytes = pack(plan);
-        for bit in 0..8 * bytes.len() {
-            let mut flipped = bytes.clone();
-            flip(&mut flipped, bit);
-            damaged.push(flipped);
+    for place in 0..16 {
+        damaged.push(dropped(16, 0xFFFF & !(1 << place)));
+        damaged.push(dropped(16, 1 << place));
+    }
+    damaged.extend([dropped(16, 0xFFFF), dropped(16, 0), dropped(1, 1)]);
+
+    // As much as can be wrong, and every bit set or none behind a header.
+    for n in [1, 15, 16] {
+        let mut longest = pack(&Plan::of(1, 1, &[(15, 1023); 8], &vec![(7, 5, 4095, 5); n]));
+        for bit in spare_bits(&Plan::of(1, 1, &[(1, 1); 8], &vec![(0, 1, 1, 1); n])) {
+            flip(&mut longest, bit as usize);
         }
-        damaged.push(bytes);
+        damaged.push(longest);
+    }
+    for plan in limit_plans() {
+        for fill in [0, 0xFF, 0x55, 0xAA] {
+            let mut bytes = pack(&plan);
+            bytes[3..].fill(fill);
+            damaged.push(bytes);
+        }
     }
 
     // 1, 2 and 1: every cut, with a spare bit set, and each value of a header's byte.
@@ -91,30 +101,20 @@ pub fn fixed_damage() -> Vec<Vec<u8>> {
         }
     }
 
-    // Kinds dropped in every pattern of six, and all but one, and all, of sixteen; each with spare bits and a D to lower.
-    for pattern in 0..64u32 {
-        damaged.push(dropped(6, pattern));
+    // Every single flip.
+    let mut g = Generator::new(8);
+    let mut plans = vec![Plan::a(), Plan::b(), wide_plan(8), wide_plan(1)];
+    while (plans.len() as u64) < FLIPPED {
+        plans.push(g.good_plan());
     }
-    for place in 0..16 {
-        damaged.push(dropped(16, 0xFFFF & !(1 << place)));
-        damaged.push(dropped(16, 1 << place));
-    }
-    damaged.extend([dropped(16, 0xFFFF), dropped(16, 0), dropped(1, 1)]);
-
-    // As much as can be wrong, and every bit set or none behind a header.
-    for n in [1, 15, 16] {
-        let mut longest = pack(&Plan::of(1, 1, &[(15, 1023); 8], &vec![(7, 5, 4095, 5); n]));
-        for bit in spare_bits(&Plan::of(1, 1, &[(1, 1); 8], &vec![(0, 1, 1, 1); n])) {
-            flip(&mut longest, bit as usize);
+    for plan in &plans {
+        let bytes = pack(plan);
+        for bit in 0..8 * bytes.len() {
+            let mut flipped = bytes.clone();
+            flip(&mut flipped, bit);
+            damaged.push(flipped);
         }
-        damaged.push(longest);
-    }
-    for plan in limit_plans() {
-        for fill in [0, 0xFF, 0x55, 0xAA] {
-            let mut bytes = pack(&plan);
-            bytes[3..].fill(fill);
-            damaged.push(bytes);
-        }
+        damaged.push(bytes);
     }
     damaged
 }

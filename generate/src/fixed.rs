@@ -753,8 +753,8 @@ pub fn fixed_state_records() -> Vec<State> {
     states
 }
 
-/// State records whose sums differ in each place, by one, by a bit and by all of it, beside nothing else wrong and beside each number that comes before
-/// or after; what is left without its sum; sums of two projects changed over, and that of all projects in one.
+/// State records whose sums differ in each place, by one, by a bit and by all of it, beside nothing else wrong and beside each number
+/// that comes before or after; what is left without its sum; sums of two projects changed over, and that of all projects in one.
 pub fn fixed_sums() -> Vec<State> {
     let mut states = Vec::new();
     for p in [1, 2, 7, 8] {

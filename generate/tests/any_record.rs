@@ -1,6 +1,8 @@
 //! The second program on any record and any bytes: it answers, in the right order, and leaves behind what it should.
 
-use generate::{fixed_plan_records, fixed_state_records, fixed_streams, fixed_sums, Generator};
+use generate::{
+    fixed_damage, fixed_plan_records, fixed_state_records, fixed_streams, fixed_sums, Generator,
+};
 use second::rack::in_form;
 use second::*;
 
@@ -258,4 +260,39 @@ fn any_bytes_are_read() {
             assert_eq!(answer.excess, 0);
         }
     }
+}
+
+#[test]
+fn any_damage_is_rescued() {
+    let mut generator = Generator::new(14);
+    let mut random = Vec::new();
+    for _ in 0..RUNS {
+        let plan = generator.good_plan();
+        random.extend((0..8).map(|_| generator.damaged(&plan)));
+    }
+    let (mut rescued, mut changes) = (0, 0);
+    for damaged in fixed_damage().into_iter().chain(random) {
+        let mut list = [0xEE; 342];
+        let (answer, plan, count) = rescue(&damaged, &mut list);
+        assert_eq!(list[count..], [0xEE; 342][count..]);
+        let told = read(&damaged).0;
+        if !answer.is_good() {
+            // "1 and 2 as in reading; 20 when no kind remains".
+            assert_eq!((plan, count), (Plan::default(), 0));
+            assert!(answer == refused(20, 0) || answer == told && matches!(told.number, 1 | 2));
+            continue;
+        }
+        // "gives a plan that passes 2 to 6".
+        assert!(matches!(check(&plan).number, 0 | 7));
+        // "A plan already in order gives an empty list".
+        assert_eq!(count == 0, matches!(told.number, 0 | 7));
+        // "rescuing the result's bytes (7 or not) changes nothing".
+        let result = bytes::pack(&plan);
+        assert_eq!(rescue(&result, &mut []), (Answer::GOOD, plan, 0));
+        // "the list applied to the original gives the result".
+        assert_eq!(rescue::applied(&damaged, &list[..count]), Some(result));
+        rescued += 1;
+        changes += count / 6;
+    }
+    println!("rescued {rescued}, changes {changes}");
 }

@@ -197,3 +197,56 @@ fn repaired(damaged: Damaged) -> (Plan, Vec<Change>) {
     }
     (plan, changes)
 }
+
+/// "the list applied to the original gives the result": each entry puts its new value where its old value stands, and the dropped
+/// kinds leave at the end. None where an entry's old value does not stand there, or the bytes have no such place.
+pub fn applied(original: &[u8], list: &[u8]) -> Option<Vec<u8>> {
+    let (p, n) = (original.first()? & 0b1111, original.get(1)? >> 3);
+    let taken = original.get(..plan_bytes(p, n))?;
+    let (p, n) = (usize::from(p), usize::from(n));
+    let mut bits: Vec<u16> = Vec::new();
+    for byte in taken {
+        bits.extend((0..8).rev().map(|place| u16::from(byte >> place & 1)));
+    }
+    let mut dropped = Vec::new();
+    for entry in list.chunks(6) {
+        let &[field, place, old_high, old_low, new_high, new_low] = entry else {
+            return None;
+        };
+        let old = u16::from_be_bytes([old_high, old_low]);
+        let new = u16::from_be_bytes([new_high, new_low]);
+        let place = usize::from(place);
+        let (project, kind) = (24 + 16 * place, 24 + 16 * p + 40 * place);
+        // Where the field stands: "m 4, p 4, n 5, F 7, spare 4"; "q 4, B 10, spare 2"; "project from 0 (3), T 12, D 12, C 12, spare 1".
+        let (from, width) = match field {
+            1 => (20, 4),
+            2 => (project + 14, 2),
+            3 => (kind + 39, 1),
+            4 => (project, 4),
+            5 => (project + 4, 10),
+            6 => (kind + 15, 12),
+            7 if (old, new) == (0, 0) && place < n && dropped.last() < Some(&kind) => {
+                dropped.push(kind);
+                continue;
+            }
+            _ => return None,
+        };
+        let standing = bits.get_mut(from..from + width)?;
+        if standing.iter().fold(0, |value, bit| value << 1 | *bit) != old {
+            return None;
+        }
+        for (at, bit) in standing.iter_mut().rev().enumerate() {
+            *bit = new >> at & 1;
+        }
+    }
+    // "n 5" tells how many are left.
+    let left = (n - dropped.len()) as u16;
+    for (at, bit) in bits[8..13].iter_mut().rev().enumerate() {
+        *bit = left >> at & 1;
+    }
+    for kind in dropped.into_iter().rev() {
+        bits.drain(kind..kind + 40);
+    }
+    let byte = |eight: &[u16]| eight.iter().fold(0, |byte, bit| byte << 1 | *bit as u8);
+    Some(bits.chunks(8).map(byte).collect())
+}

@@ -1,32 +1,14 @@
 //! "Rescue a damaged plan file", document 02's request (viii).
 
 use second::bytes::{pack, plan_bytes};
+use second::rescue::applied;
 use second::*;
 
 /// The most changes that a list can hold: each spare part, each q and B, and of each kind its spare bit and its D.
 const MOST: usize = 1 + 8 + 16 + 2 * 8 + 16;
 
-/// The bits of a field in plan bytes: where it begins, and how many.
-fn bits_of(field: u8, place: usize, p: usize) -> (usize, usize) {
-    let project = 24 + 16 * place;
-    let kind = 24 + 16 * p + 40 * place;
-    match field {
-        1 => (20, 4),
-        2 => (project + 14, 2),
-        3 => (kind + 39, 1),
-        4 => (project, 4),
-        5 => (project + 4, 10),
-        6 => (kind + 15, 12),
-        _ => panic!("no field {field}"),
-    }
-}
-
 fn bit(bytes: &[u8], at: usize) -> u16 {
     u16::from(bytes[at / 8] >> (7 - at % 8) & 1)
-}
-
-fn value(bytes: &[u8], (from, count): (usize, usize)) -> u16 {
-    (from..from + count).fold(0, |value, at| value << 1 | bit(bytes, at))
 }
 
 fn put(bytes: &mut [u8], (from, count): (usize, usize), value: u16) {
@@ -37,36 +19,6 @@ fn put(bytes: &mut [u8], (from, count): (usize, usize), value: u16) {
             bytes[at / 8] |= mask;
         }
     }
-}
-
-/// "the list applied to the original": each entry's old value must stand there; the dropped kinds leave at the end.
-fn applied(original: &[u8], list: &[u8]) -> Vec<u8> {
-    let p = usize::from(original[0] & 15);
-    let n = usize::from(original[1] >> 3);
-    let mut bytes = original[..3 + 2 * p + 5 * n].to_vec();
-    let mut dropped = Vec::new();
-    for entry in list.chunks(6) {
-        let &[field, place, a, b, c, d] = entry else {
-            panic!("an entry has six bytes");
-        };
-        let (old, new) = (u16::from_be_bytes([a, b]), u16::from_be_bytes([c, d]));
-        let place = usize::from(place);
-        if field == 7 {
-            assert_eq!((old, new), (0, 0));
-            dropped.push(place);
-        } else {
-            let bits = bits_of(field, place, p);
-            assert_eq!(value(&bytes, bits), old);
-            assert_ne!(old, new);
-            put(&mut bytes, bits, new);
-        }
-    }
-    put(&mut bytes, (8, 5), (n - dropped.len()) as u16);
-    for place in dropped.into_iter().rev() {
-        let kind = 3 + 2 * p + 5 * place;
-        bytes.drain(kind..kind + 5);
-    }
-    bytes
 }
 
 /// The sentences of the request, for any bytes; gives back the list.
@@ -95,7 +47,7 @@ fn hold(bytes: &[u8]) -> Vec<u8> {
     // "gives a plan that passes 2 to 6".
     assert!(matches!(check(&plan).number, 0 | 7), "{plan:?}");
     let result = pack(&plan);
-    assert_eq!(applied(bytes, &list), result);
+    assert_eq!(applied(bytes, &list), Some(result.clone()));
     // "rescuing the result's bytes (7 or not) changes nothing".
     assert_eq!(rescue(&result, &mut []), (Answer::GOOD, plan, 0));
     // "A plan already in order gives an empty list".
@@ -106,6 +58,9 @@ fn hold(bytes: &[u8]) -> Vec<u8> {
     }
     assert_eq!(read(bytes).0.is_good(), in_order && check(&plan).is_good());
 
+    // No value that did not change, but the dropped kinds'.
+    let changes = |entry: &[u8]| (entry[2..4] != entry[4..6]) != (entry[0] == 7);
+    assert!(list.chunks(6).all(changes), "{list:?}");
     // No field twice, and in that order: 1, 2 and 3 by place, then 4 and 5 by project, then 6 and 7 by kind.
     let rank = |entry: &[u8]| match entry[0] {
         field @ 1..=3 => (field, entry[1], 0),
@@ -305,6 +260,33 @@ fn every_single_flip_and_more() {
             hold(&flipped);
         }
     }
+}
+
+#[test]
+fn a_list_is_applied_where_its_old_values_stand() {
+    let bytes = pack(&Plan::a());
+    assert_eq!(applied(&bytes, &[]), Some(bytes.clone()));
+    // Project 1 has a B of 5.
+    let lowered = applied(&bytes, &[5, 1, 0, 5, 0, 4]);
+    assert_eq!(
+        lowered.map(|bytes| read(&bytes).1.projects[1].budget),
+        Some(4)
+    );
+    assert_eq!(applied(&bytes, &[5, 1, 0, 6, 0, 4]), None);
+    assert_eq!(applied(&bytes, &[5, 1, 0, 5, 0]), None);
+    assert_eq!(applied(&bytes, &[7, 1, 0, 0, 0, 1]), None);
+    assert_eq!(applied(&bytes, &[8, 1, 0, 0, 0, 1]), None);
+    // No such place, a kind that leaves twice, and no whole plan.
+    assert_eq!(applied(&bytes, &[6, 99, 0, 0, 0, 1]), None);
+    assert_eq!(applied(&bytes, &[7, 3, 0, 0, 0, 0]), None);
+    assert_eq!(applied(&bytes, &[7, 1, 0, 0, 0, 0].repeat(2)), None);
+    assert_eq!(applied(&bytes[..21], &[]), None);
+    assert_eq!(applied(&[], &[]), None);
+    // Kind 1 leaves.
+    let left = applied(&bytes, &[7, 1, 0, 0, 0, 0]).unwrap();
+    let (answer, plan, taken) = read(&left);
+    assert_eq!((answer, plan.n, taken), (Answer::GOOD, 2, 17));
+    assert_eq!(plan.kinds[1], Plan::a().kinds[2]);
 }
 
 #[test]

@@ -6,7 +6,7 @@ _parchbeetle() {
     local command=${COMP_WORDS[1]} options=
     COMPREPLY=()
     if [ "$COMP_CWORD" -eq 1 ]; then
-        mapfile -t COMPREPLY < <(compgen -W "check budget table run build encode decode --help --version" -- "$word")
+        mapfile -t COMPREPLY < <(compgen -W "check budget table run build rescue encode decode --help --version" -- "$word")
         return
     fi
     case $before in
@@ -28,6 +28,7 @@ _parchbeetle() {
     table) options="--svg --json --color" ;;
     run) options="--random --slices --gantt --svg --html --json --color" ;;
     build) options="--write --json" ;;
+    rescue) options="--write --json" ;;
     encode) options="--write --json" ;;
     decode) options="--names --json" ;;
     esac

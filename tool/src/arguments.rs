@@ -165,6 +165,24 @@ pub const COMMANDS: [Command; COUNT] = [
         answer: commands::build,
     },
     Command {
+        name: "rescue",
+        arguments: "[FILE]",
+        about: "a plan out of damaged plan bytes, with each change in words",
+        more: "Spare bits are cleared, ceilings, budgets and deadlines brought into range, and kinds that cannot be\n\
+               saved dropped. The plan is printed as text. The status is 1 if no kind remains, or if the budgets\n\
+               still sum too high.\n",
+        takes: (0, 1),
+        choices: &[
+            Choice {
+                name: "--write",
+                value: Some("FILE"),
+                about: "write the rescued plan's bytes",
+            },
+            JSON,
+        ],
+        answer: commands::rescue,
+    },
+    Command {
         name: "encode",
         arguments: "[PLAN]",
         about: "a plan as plan bytes",
@@ -200,7 +218,7 @@ pub const COMMANDS: [Command; COUNT] = [
 ];
 
 /// How many there are.
-const COUNT: usize = 7;
+const COUNT: usize = 8;
 
 /// What every command has.
 const ALWAYS: [Choice; 2] = [HELP, VERSION];

@@ -33,6 +33,8 @@ pub enum Trouble {
     Use(String),
     /// A file cannot be read, or what stands there is no plan or script.
     Input(String),
+    /// The rules refuse, and all else is told already.
+    Told(String),
     /// The faults of a plan, from this source.
     Faults(String, Vec<Fault>),
     /// A file or the standard output cannot be written.
@@ -46,6 +48,7 @@ impl Trouble {
     /// The exit status.
     pub fn ending(&self) -> Ending {
         match self {
+            Trouble::Told(_) => Ending::Refused,
             Trouble::Faults(_, faults) if faults.iter().all(Fault::is_refusal) => Ending::Refused,
             Trouble::Output(_, error) if error.kind() == io::ErrorKind::BrokenPipe => Ending::Good,
             _ => Ending::NotRun,
@@ -63,6 +66,7 @@ impl Trouble {
             Trouble::Use(why) | Trouble::Input(why) => {
                 vec![format!("parchbeetle: {why}")]
             }
+            Trouble::Told(line) => vec![line.clone()],
             Trouble::Faults(source, faults) => {
                 faults.iter().map(|fault| fault.line(source)).collect()
             }

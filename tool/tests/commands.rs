@@ -549,6 +549,123 @@ fn build_makes_a_plan() {
     }
 }
 
+// ---- rescue
+
+#[test]
+fn rescue_tells_each_change() {
+    let folder = Folder::new("rescue");
+    let good = pack(&Plan::a());
+    let written = folder.path("out.bin");
+    let ran = parchbeetle(&["rescue", "--write", &written], &good);
+    assert_eq!((ran.status, ran.said.as_str()), (Some(0), ""));
+    assert!(
+        ran.text()
+            .starts_with("standard input: 0 changes\n\ncards 2\n"),
+        "{}",
+        ran.text()
+    );
+    assert_eq!(std::fs::read(&written).unwrap(), good);
+
+    // A spare bit of the header and of kind 2, the ceiling and the budget of project 0, kind 1's project and kind 2's deadline.
+    let mut bytes = good.clone();
+    bytes[2] |= 0b0101;
+    bytes[3] = 0xF0;
+    bytes[4] = 0x00;
+    bytes[12] |= 0b1110_0000;
+    bytes[18] = 0x10;
+    bytes[19] = 0x7F;
+    bytes[21] |= 1;
+    let damaged = folder.file("damaged.bin", &bytes);
+    let ran = parchbeetle(&["rescue", &damaged, "--write", &written], b"");
+    assert_eq!(
+        (ran.status, ran.said.as_str()),
+        (Some(0), ""),
+        "{}",
+        ran.text()
+    );
+    let told: Vec<&str> = ran
+        .text()
+        .lines()
+        .take_while(|line| !line.is_empty())
+        .skip(1)
+        .collect();
+    assert_eq!(
+        told,
+        [
+            "  the header's spare bits were 5 and are cleared",
+            "  kind 2: its spare bit was 1 and is cleared",
+            "  project 0: ceiling 15 is 2 now",
+            "  project 0: budget 0 is 1 now",
+            "  kind 1 is dropped: its project is not there, or its length is 0 or above its deadline",
+            "  kind 2: deadline 1016 is 8 now, its separation",
+        ]
+    );
+    let mut list = [0; 342];
+    let (answer, plan, _) = second::rescue::rescue(&bytes, &mut list);
+    assert!(answer.is_good());
+    assert_eq!(std::fs::read(&written).unwrap(), pack(&plan));
+    let json = parchbeetle(&["rescue", &damaged, "--json"], b"").json();
+    let first: Vec<i64> = ["field", "place", "old", "new"]
+        .map(|name| json.at("changes").nth(0).at(name).number())
+        .to_vec();
+    assert_eq!(
+        (first, json.at("changes").list().len()),
+        (vec![1, 0, 5, 0], 6)
+    );
+}
+
+#[test]
+fn what_cannot_be_rescued() {
+    let folder = Folder::new("lost");
+    let mut wide = Plan::a();
+    wide.projects[0].budget = 4;
+    let written = folder.path("out.bin");
+    let ran = parchbeetle(&["rescue", "--write", &written], &pack(&wide));
+    assert_eq!(ran.status, Some(1), "{}", ran.said);
+    assert!(ran
+        .text()
+        .contains("\nproject ceiling 1 budget 4  # project 0\n"));
+    assert!(
+        ran.said
+            .contains("the budgets sum above the cards times the frame (refused 7 at 0)"),
+        "{}",
+        ran.said
+    );
+    assert!(!std::path::Path::new(&written).exists());
+    let json = parchbeetle(&["rescue", "--json"], &pack(&wide)).json();
+    assert_eq!(
+        (json.at("number").number(), json.at("hex")),
+        (7, &Value::Null)
+    );
+
+    let mut none = pack(&Plan::a());
+    for place in [7, 12, 17] {
+        none[place] |= 0b1110_0000;
+    }
+    for (bytes, status, said) in [
+        (none, 1, "no kind remains (refused 20 at 0)"),
+        (
+            vec![0x22, 0x18],
+            1,
+            "fewer bytes than a plan takes (refused 1 at 0)",
+        ),
+        (
+            vec![0xFF; 30],
+            1,
+            "cards, projects, kinds or frame out of range (refused 2 at 0)",
+        ),
+        (
+            PLAN_A.as_bytes().to_vec(),
+            2,
+            "this is a text and no plan bytes",
+        ),
+    ] {
+        let ran = parchbeetle(&["rescue"], &bytes);
+        assert_eq!((ran.status, ran.text()), (Some(status), ""));
+        assert!(ran.said.contains(said), "{}", ran.said);
+    }
+}
+
 /// Every element of a picture is closed, in order, and no bare mark stands in its text.
 fn well_formed(picture: &str) {
     let mut open = Vec::new();

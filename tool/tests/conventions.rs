@@ -4,13 +4,15 @@
 mod common;
 
 use common::{parchbeetle, program, ran, Folder, EXAMPLE, PLAN_A};
+use second::bytes::pack;
+use second::Plan;
 use std::collections::BTreeSet;
 use std::fs::File;
 use std::io::{Read, Write};
 use std::process::Stdio;
 
-const COMMANDS: [&str; 7] = [
-    "check", "budget", "table", "run", "build", "encode", "decode",
+const COMMANDS: [&str; 8] = [
+    "check", "budget", "table", "run", "build", "rescue", "encode", "decode",
 ];
 
 /// The options of a command, by its help.
@@ -90,6 +92,7 @@ fn an_output_that_cannot_be_written_is_an_error() {
     let folder = Folder::new("full");
     let plan = folder.file("plan.txt", PLAN_A);
     let script = folder.file("script.txt", EXAMPLE);
+    let damaged = folder.file("damaged.bin", pack(&Plan::a()));
     for arguments in [
         &["check", &plan][..],
         &["check", &plan, "--json"],
@@ -98,6 +101,7 @@ fn an_output_that_cannot_be_written_is_an_error() {
         &["run", &plan, &script],
         &["run", &plan, &script, "--gantt"],
         &["build", "2", "3:2"],
+        &["rescue", &damaged],
         &["encode", &plan],
         &["decode", &plan],
         &["--help"],
@@ -123,6 +127,7 @@ fn an_output_that_cannot_be_written_is_an_error() {
         &["run", &plan, &script, "--html", "/no such folder/x"],
         &["budget", &plan, "0", "--write", "/dev/full"],
         &["build", "2", "3:2", "--write", "/dev/full"],
+        &["rescue", &damaged, "--write", "/dev/full"],
         &["encode", &plan, "--write", "/dev/full"],
     ] {
         let ran = parchbeetle(arguments, b"");
@@ -177,12 +182,16 @@ fn the_fields_of_json_are_those_of_the_readme() {
     let plan = folder.file("plan.txt", PLAN_A);
     let long = folder.file("long.txt", PLAN_A.replacen("length 6", "length 7", 1));
     let script = folder.file("script.txt", EXAMPLE);
-    let calls: [(&str, Vec<&str>); 8] = [
+    let mut bytes = pack(&Plan::a());
+    bytes[2] |= 1;
+    let damaged = folder.file("damaged.bin", bytes);
+    let calls: [(&str, Vec<&str>); 9] = [
         ("check", vec!["check", &long, "--json", "--all-k"]),
         ("budget", vec!["budget", &plan, "0", "--json"]),
         ("table", vec!["table", &plan, "--json"]),
         ("run", vec!["run", &plan, &script, "--json"]),
         ("build", vec!["build", "2", "3:2", "--json"]),
+        ("rescue", vec!["rescue", &damaged, "--json"]),
         ("encode", vec!["encode", &plan, "--json"]),
         ("decode", vec!["decode", &plan, "--json"]),
         ("faults", vec!["check", "--json"]),

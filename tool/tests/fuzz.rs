@@ -10,7 +10,7 @@ use second::bytes::pack;
 /// Every command on this plan.
 fn answered(folder: &Folder, bytes: &[u8]) {
     let plan = folder.file("plan", bytes);
-    let calls: [&[&str]; 6] = [
+    let calls: [&[&str]; 7] = [
         &["check", &plan, "--all-k"],
         &["table", &plan, "--color", "always"],
         &["budget", &plan, "1"],
@@ -29,6 +29,7 @@ fn answered(folder: &Folder, bytes: &[u8]) {
         ],
         &["encode", &plan, "--json"],
         &["run", &plan, &plan],
+        &["rescue", &plan],
     ];
     for call in calls {
         let ran = parchbeetle(call, b"");

@@ -8,7 +8,7 @@ use crate::output;
 use crate::subject::{is_text, Subject};
 use crate::text::{kind_line, project_line, Text};
 use crate::words;
-use bindings::Plan;
+use bindings::{in_words, Plan};
 
 /// Answers it.
 pub fn answer(given: &Given) -> Outcome<Ending> {
@@ -91,11 +91,12 @@ pub fn plain(subject: &Subject) -> String {
     }
     text += &match verdict {
         Ok(_) => "# admitted\n".to_string(),
-        Err(answer) => format!(
+        Err(answer) if answer.number == 8 => format!(
             "# the plan is not admitted ({}): {}\n",
             words::told(answer),
             words::advice(plan, &subject.names, answer)
         ),
+        Err(answer) => format!("# {}: {}\n", words::told(answer), in_words(answer.number)),
     };
     if subject.rest > 0 {
         text += &format!("# {} more bytes follow the plan\n", subject.rest);

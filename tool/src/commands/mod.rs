@@ -5,6 +5,7 @@ mod build;
 mod check;
 mod decode;
 mod encode;
+mod rescue;
 mod run;
 mod table;
 
@@ -13,6 +14,7 @@ pub use build::answer as build;
 pub use check::{answer as check, rows as verdict_rows, LEGEND};
 pub use decode::answer as decode;
 pub use encode::answer as encode;
+pub use rescue::answer as rescue;
 pub use run::{answer as run, kind_rows, project_rows};
 pub use table::answer as table;
 

@@ -36,7 +36,7 @@ macro_rules! numbers {
     )*};
 }
 
-numbers!(u8 u16);
+numbers!(u8 u16 u32);
 
 impl<T: Part, const N: usize> Part for [T; N]
 where

@@ -28,10 +28,15 @@ fn put_digits(out: &mut [u8], at: usize, n: u32) -> usize
     next + 1
 }
 
-// A number in decimal, from index at on. Ten digits are enough for 32 bits.
+// A number in decimal, from index at on. Ten digits are enough for 32 bits. Most numbers have one,
+// for which nothing is called.
 pub(crate) fn put_number(out: &mut [u8], at: usize, n: u32) -> usize
     requires { ⌜ at + 10 ≤ length (now out) ⌝ }
     ensures { λ r. ⌜ (Puts (now (out .entry)) at (decimal n) r (now (out .exit))) × (r ≤ at + 10) ⌝ }
 {
+    if n < 10 {
+        out[at] = (48 + n) as u8;
+        return at + 1;
+    }
     put_digits(out, at, n)
 }

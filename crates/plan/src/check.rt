@@ -203,7 +203,7 @@ impl Plan {
         Answer::Good
     }
 
-    // 4, 5/6, 7.
+    // 4, 5/6, 7. The budgets are added up while the projects are at hand, and answered last.
     fn ranges(self) -> Answer
         requires { ⌜ (self .projects ≤ 8) × (self .kinds ≤ 16) ⌝ }
         ensures { λ r. ⌜ r ≡ ranges self ⌝ }
@@ -212,11 +212,12 @@ impl Plan {
         let Answer::Good = projects else {
             return projects;
         };
+        let budgets = self.budgets_fit();
         let kinds = self.kinds_in_range();
         let Answer::Good = kinds else {
             return kinds;
         };
-        self.budgets_fit()
+        budgets
     }
 
     // Whether the record is in order.

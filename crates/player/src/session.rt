@@ -1,7 +1,7 @@
 // A play, line by line: the plan's line, one for each command, and the last.
 ghost use mathlib.Core.Path.{_≡_};
 ghost use mathlib.Core.Bool.{not, _&&_};
-ghost use lib.Dec.{eqb};
+ghost use lib.Dec.{ltb, eqb};
 ghost use Rattle.answer.specs.Answer.{number};
 ghost use Rattle.rack.specs.Start.{startOf};
 ghost use Rattle.player.specs.Session.{unopened, running, over, isOver, stay, firstLine, refusedAt, openOf, commandMove, runOf};
@@ -48,6 +48,20 @@ fn waits(answer: Answer, last: bool) -> bool
     ensures { λ r. ⌜ r ≡ (not last && eqb (number answer) 1) ⌝ }
 {
     !last && answer.number() == 1
+}
+
+// Whether the input has ended, and none of its bytes are left.
+fn is_end(last: bool, left: usize) -> bool
+    ensures { λ r. ⌜ r ≡ (last && eqb left 0) ⌝ }
+{
+    last && left == 0
+}
+
+// Whether more of a command has to come first.
+fn is_short(last: bool, left: usize) -> bool
+    ensures { λ r. ⌜ r ≡ (not last && ltb left 3) ⌝ }
+{
+    !last && left < 3
 }
 
 // A step whose line shows no row.
@@ -169,7 +183,7 @@ impl Session {
         match command {
             Command::Slice => after_turn(turn::slice(state)),
             Command::Release(kind, e) => after_turn(turn::release(state, kind, e)),
-            Command::Bad => step_of(Session::over(state), 0, Line::Bad(state.clock)),
+            Command::Bad => step_of(Session::over(state), 0, Line::Bad(state.slice as u32)),
         }
     }
 
@@ -177,14 +191,11 @@ impl Session {
     fn run(self, bytes: &[u8], last: bool) -> Step
         ensures { λ r. ⌜ Makes (runOf self last (now (bytes .entry))) r ⌝ }
     {
-        if last {
-            if bytes.len() == 0 {
-                let state = self.state;
-                return step_of(Session::over(state), 0, Line::End(state.clock));
-            }
-            return self.obey(Command::decode(bytes));
+        if is_end(last, bytes.len()) {
+            let state = self.state;
+            return step_of(Session::over(state), 0, Line::End(state.slice as u32));
         }
-        if bytes.len() < 3 {
+        if is_short(last, bytes.len()) {
             return self.stay();
         }
         self.obey(Command::decode(bytes))

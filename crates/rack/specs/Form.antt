@@ -3,9 +3,10 @@
 -- Assumes nothing.
 use Prim.Native.Nat.{ℕ, _<_}
 use mathlib.Core.Path.{_≡_}
-use mathlib.Core.Bool.{Bool, true, not, _&&_, _||_}
+use mathlib.Core.Bool.{Bool, not, _&&_, _||_}
 use mathlib.Core.List.{List}
 use lib.Dec.{ltb, eqb}
+use lib.ListN.{getD}
 use Rattle.laws.specs.All.{allTo}
 use Rattle.answer.specs.declared.Answer.{Answer}
 use Rattle.answer.specs.Answer.{bare, refuse, _andThen_}
@@ -14,7 +15,7 @@ use Rattle.unit.specs.Unit.{noUnit}
 use Rattle.unit.specs.Form.{UnitInForm, fitsPlace}
 use Rattle.rack.specs.declared.State.{State}
 use Rattle.rack.specs.State.{unitOf, kindAt, InUse, used, ProjectInUse, projectUsed, sumAt}
-use Rattle.rack.specs.Sums.{sumsRight, SumsRight, leftRow}
+use Rattle.rack.specs.Sums.{sumsRight, SumsRight}
 pub mod Properties
 
 -- place i
@@ -60,9 +61,12 @@ pub record Ready (s : State) : Type 0 where
   pub form : InForm s
   pub sums : SumsRight s
 
--- ---- what one pass over the kinds finds
+-- ---- how the stored sums are looked through
 
--- whether the state is in form, and what is left of each project where it is
-pub record Looked (s : State) (in-form : Bool) (left : List ℕ) : Type 0 where
-  pub told : in-form ≡ inForm s
-  pub row : inForm s ≡ true → left ≡ leftRow s
+-- the stored sums at their places, for so many projects
+unfoldable pub sumsFit : List ℕ → ℕ → Bool
+sumsFit sum projects = allTo 8 (λ j. sumFits (ltb j projects) (getD sum j 0))
+
+-- the stored sum of each project against what was found left of it
+unfoldable pub sumsAgree : List ℕ → List ℕ → ℕ → Bool
+sumsAgree sum left projects = allTo projects (λ j. eqb (getD sum j 0) (getD left j 0))

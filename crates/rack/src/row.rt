@@ -82,7 +82,8 @@ fn works_for(unit: Unit, kind: Kind) -> u8
 }
 
 impl State {
-    // Where every kind sits in this slice.
+    // Where every kind sits in this slice. What it goes by is put down for every place, so that the
+    // compiler knows the length of the loop.
     pub(crate) fn seats(self) -> [u8; 16]
         requires { ⌜ Ready self ⌝ }
         ensures { λ r. ⌜ r ≡ seatsOf self ⌝ }
@@ -91,7 +92,7 @@ impl State {
         let kinds = self.places();
         let mut works = [0u8; 16];
         let mut until = [0u16; 16];
-        for i in 0..kinds {
+        for i in 0..Plan::KINDS {
             let unit = self.unit[i];
             let kind = plan.kind[i];
             works[i] = works_for(unit, kind);

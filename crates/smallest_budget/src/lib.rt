@@ -13,7 +13,7 @@ ghost use Rattle.plan.specs.Order.{budgetsFit};
 ghost use Rattle.plan.specs.Open.{withBudget, InOrderOpen};
 ghost use Rattle.smallest_budget.specs.Smallest.{mostBudget, servedWith, leastBudget, servedAtMost, sumFits};
 ghost use Rattle.smallest_budget.specs.Smallest.{smallestWith, smallestOf};
-ghost use Rattle.smallest_budget.specs.Steps.{cardsWith, workloadsOf, Known};
+ghost use Rattle.smallest_budget.specs.Steps.{cardsWith, askedOf, Known, fitBy, servedBy};
 use answer::Answer;
 use plan::Plan;
 
@@ -48,37 +48,75 @@ fn cards_with(budget: u16, frame: u8) -> [u8; Plan::FRAME]
     cards
 }
 
-// The workload of each kind, which no budget changes.
-fn workloads(plan: Plan, project: u8) -> [u32; Plan::KINDS]
+// What is asked of each kind: its project, its length, its deadline and its workload. No budget
+// changes them, and as arrays of numbers they are lent, so that no record is copied for a budget
+// that is tried.
+struct Asked {
+    owner: [u8; Plan::KINDS],
+    length: [u16; Plan::KINDS],
+    deadline: [u16; Plan::KINDS],
+    workload: [u32; Plan::KINDS],
+}
+
+fn asked_of(plan: Plan, project: u8) -> Asked
     requires { ⌜ InOrderOpen plan project ⌝ }
-    ensures { λ r. ⌜ r ≡ workloadsOf plan ⌝ }
+    ensures { λ r. ⌜ r ≡ askedOf plan ⌝ }
 {
-    let mut workloads = [0u32; Plan::KINDS];
-    for i in 0..plan.kinds {
-        workloads[i as usize] = workload::workload(plan, i as usize) as u32;
+    let mut owner = [0u8; Plan::KINDS];
+    let mut length = [0u16; Plan::KINDS];
+    let mut deadline = [0u16; Plan::KINDS];
+    let mut workload = [0u32; Plan::KINDS];
+    for i in 0..plan.kinds as usize {
+        let kind = plan.kind[i];
+        owner[i] = kind.project;
+        length[i] = kind.length;
+        deadline[i] = kind.deadline;
+        workload[i] = workload::workload(plan, i) as u32;
     }
-    workloads
+    Asked {
+        owner,
+        length,
+        deadline,
+        workload,
+    }
+}
+
+// A length has 16 bits.
+fn bounded(length: u16) -> u16
+    ensures { λ r. ⌜ (r ≡ length) × (r < 65536) ⌝ }
+{
+    length
 }
 
 // 8 at the first of the project's kinds that has no k with this budget.
-fn served_with(plan: Plan, project: u8, workloads: &[u32; Plan::KINDS], budget: u16) -> Answer
-    requires { ⌜ (Known plan project (now workloads)) × (budget ≤ mostBudget plan project) ⌝ }
-    ensures { λ r. ⌜ r ≡ servedWith plan project budget ⌝ }
+fn served_with(
+    project: u8,
+    kinds: u8,
+    frame: u8,
+    ceiling: u8,
+    owner: &[u8; Plan::KINDS],
+    length: &[u16; Plan::KINDS],
+    deadline: &[u16; Plan::KINDS],
+    workload: &[u32; Plan::KINDS],
+    budget: u16,
+) -> Answer
+    requires { ⌜ (kinds ≤ 16) × (0 < frame) × (frame ≤ 64) × (budget ≤ 8 * frame) ⌝ }
+    ensures { λ r. ⌜ r ≡ servedBy project kinds (now (owner .entry))
+        (fitBy frame ceiling (now (length .entry)) (now (deadline .entry)) (now (workload .entry)) budget) ⌝ }
 {
-    let cards = cards_with(budget, plan.frame);
-    let ceiling = plan.project[project as usize].ceiling;
-    for i in 0..plan.kinds {
-        let kind = plan.kind[i as usize];
-        if kind.project != project {
+    let cards = cards_with(budget, frame);
+    for i in 0..kinds {
+        let at = i as usize;
+        if owner[at] != project {
             continue;
         }
         let fit = supply::least_fit(
             cards,
-            plan.frame,
+            frame,
             ceiling,
-            kind.length,
-            workloads[i as usize],
-            kind.deadline,
+            bounded(length[at]),
+            workload[at],
+            deadline[at],
         );
         if fit.width == 0 {
             return Answer::not_admitted(i, fit.excess as u32, fit.slice);
@@ -89,15 +127,35 @@ fn served_with(plan: Plan, project: u8, workloads: &[u32; Plan::KINDS], budget: 
 
 // The least budget that serves, where the most does: of a budget that does not serve and a greater
 // one that does, one of the two comes half way to the other.
-fn least_budget(plan: Plan, project: u8, workloads: &[u32; Plan::KINDS], most: u16) -> u16
-    requires { ⌜ (Known plan project (now workloads)) × (most ≡ mostBudget plan project) × (servedWith plan project most ≡ Good) ⌝ }
+fn least_budget(
+    plan: Plan,
+    project: u8,
+    owner: &[u8; Plan::KINDS],
+    length: &[u16; Plan::KINDS],
+    deadline: &[u16; Plan::KINDS],
+    workload: &[u32; Plan::KINDS],
+    most: u16,
+) -> u16
+    requires { ⌜ (Known plan project (now owner) (now length) (now deadline) (now workload))
+        × (most ≡ mostBudget plan project) × (servedWith plan project most ≡ Good) ⌝ }
     ensures { λ r. ⌜ r ≡ leastBudget plan project ⌝ }
 {
+    let ceiling = plan.project[project as usize].ceiling;
     let mut below: u16 = 0;
     let mut enough = most;
     while below + 1 < enough {
         let middle = (below + enough) / 2;
-        let served = served_with(plan, project, workloads, middle);
+        let served = served_with(
+            project,
+            plan.kinds,
+            plan.frame,
+            ceiling,
+            owner,
+            length,
+            deadline,
+            workload,
+            middle,
+        );
         let Answer::Good = served else {
             below = middle;
             continue;
@@ -122,16 +180,31 @@ fn smallest_open(plan: Plan, project: u8) -> Smallest
     requires { ⌜ InOrderOpen plan project ⌝ }
     ensures { λ r. ⌜ r ≡ smallestWith plan project (servedAtMost plan project andThen sumFits plan project) ⌝ }
 {
-    let workloads = workloads(plan, project);
-    let most = plan.project[project as usize].ceiling as u16 * plan.frame as u16;
-    let served = served_with(plan, project, &workloads, most);
+    let asked = asked_of(plan, project);
+    let owner = asked.owner;
+    let length = asked.length;
+    let deadline = asked.deadline;
+    let workload = asked.workload;
+    let ceiling = plan.project[project as usize].ceiling;
+    let most = ceiling as u16 * plan.frame as u16;
+    let served = served_with(
+        project,
+        plan.kinds,
+        plan.frame,
+        ceiling,
+        &owner,
+        &length,
+        &deadline,
+        &workload,
+        most,
+    );
     let Answer::Good = served else {
         return Smallest {
             answer: served,
             budget: 0,
         };
     };
-    let budget = least_budget(plan, project, &workloads, most);
+    let budget = least_budget(plan, project, &owner, &length, &deadline, &workload, most);
     let sum = sum_fits(plan, project, budget);
     let Answer::Good = sum else {
         return Smallest {

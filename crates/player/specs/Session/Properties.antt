@@ -9,7 +9,8 @@ use native.Mathlib.Omega.{arith}
 use lib.Dec.{ltb, eqb}
 use lib.ListN.{length, take, drop, length-append, length-drop, take-append-drop}
 use lib.Seq.{sets-eq, take-at, drop-at, drop-drop, length-take-le, length-sets}
-use borrow.Author.Tests.{lt-ltb, le-ltb, eq-eqb, ne-eqb, eqb-true}
+use borrow.Author.Tests.{lt-ltb, le-ltb, eq-eqb, ne-eqb, eqb-true, not-true}
+use Rattle.laws.specs.Tests.{and-left, and-right}
 use Rattle.plan.specs.declared.Plan.{Plan}
 use Rattle.answer.specs.declared.Answer.{Answer}
 use Rattle.answer.specs.declared.Answer.the-variants.{Good, No}
@@ -64,6 +65,9 @@ at-over g a b c e = rw e
 
 pub waits-on : (last : Bool) (n : ℕ) (a : Answer) → not last ≡ true → n ≡ number a → eqb n 1 ≡ (not last && eqb (number a) 1)
 waits-on last n a e f = rw (e, f)
+
+pub and-on : (a b : Bool) → a ≡ true → b ≡ (a && b)
+and-on a b e = rw e
 
 -- ---- the ways out of a line
 
@@ -135,31 +139,43 @@ module _ (step : Step) (s : State) (k : Command) where
   unfolding commandMove
   obey-release t kind n e p = rw e (turned t (commandMove s (Release kind n)) (ap running (sym (p .state))) refl (sym (p .line)))
 
-  pub obey-bad : (v : Session) → k ≡ Bad → v ≡ over s → step .session ≡ v → step .taken ≡ 0 → step .line ≡ line.Bad (s .clock)
+  pub obey-bad : (v : Session) → k ≡ Bad → v ≡ over s → step .session ≡ v → step .taken ≡ 0 → step .line ≡ line.Bad (s .slice)
       → Makes (commandMove s k) step
   unfolding commandMove lineText
-  obey-bad v e g a b c = rw e (made step v 0 (line.Bad (s .clock)) a b c (commandMove s Bad) g refl refl)
+  obey-bad v e g a b c = rw e (made step v 0 (line.Bad (s .slice)) a b c (commandMove s Bad) g refl refl)
+
+-- neither the last line nor a wait
+commanded : (last none few : Bool) (a b m : Move) → (last && none) ≡ false → (not last && few) ≡ false →
+    m ≡ cond last (cond none a m) (cond few b m)
+commanded true none few a b m e f = rw e
+commanded false none few a b m e f = rw f
 
 module _ (step : Step) (x : Session) (last : Bool) (bytes : List ℕ) where
-  pub run-ends : (v : Session) → last ≡ true → length bytes ≡ 0 → v ≡ over (x .state) → step .session ≡ v → step .taken ≡ 0
-      → step .line ≡ line.End (x .state .clock) → Makes (runOf x last bytes) step
-  unfolding runOf lineText
-  run-ends v e n g a b c =
-      rw (e, eq-eqb (length bytes) 0 n) (made step v 0 (line.End (x .state .clock)) a b c (lastLine (x .state)) g refl refl)
+  module _ (ends : Bool) (ends-is : ends ≡ (last && eqb (length bytes) 0)) where
+    pub run-ends : (v : Session) → ends ≡ true → v ≡ over (x .state) → step .session ≡ v → step .taken ≡ 0
+        → step .line ≡ line.End (x .state .slice) → Makes (runOf x last bytes) step
+    unfolding runOf lineText
+    run-ends v t g a b c =
+        let e = and-left last (eqb (length bytes) 0) (sym ends-is ∙ t) in
+        let n = and-right last (eqb (length bytes) 0) (sym ends-is ∙ t) in
+        rw (e, n) (made step v 0 (line.End (x .state .slice)) a b c (lastLine (x .state)) g refl refl)
 
-  pub run-left : (k : Command) → last ≡ true → (length bytes ≡ 0 → ⊥) → k ≡ commandOf bytes → Makes (commandMove (x .state) k) step
-      → Makes (runOf x last bytes) step
-  unfolding runOf
-  run-left k e n c m = rw (e, ne-eqb (length bytes) 0 n, ← c) m
+    module _ (short : Bool) (short-is : short ≡ (not last && ltb (length bytes) 3)) where
+      pub run-waits : short ≡ true → Makes (stay x) step → Makes (runOf x last bytes) step
+      unfolding runOf
+      run-waits t m =
+          let e = not-true last (and-left (not last) (ltb (length bytes) 3) (sym short-is ∙ t)) in
+          let n = and-right (not last) (ltb (length bytes) 3) (sym short-is ∙ t) in
+          rw (e, n) m
 
-  pub run-waits : last ≡ false → length bytes < 3 → Makes (stay x) step → Makes (runOf x last bytes) step
-  unfolding runOf
-  run-waits e n m = rw (e, lt-ltb (length bytes) 3 n) m
-
-  pub run-obeys : (k : Command) → last ≡ false → 3 ≤ length bytes → k ≡ commandOf bytes → Makes (commandMove (x .state) k) step
-      → Makes (runOf x last bytes) step
-  unfolding runOf
-  run-obeys k e n c m = rw (e, le-ltb (length bytes) 3 n, ← c) m
+      pub run-obeys : (k : Command) → ends ≡ false → short ≡ false → k ≡ commandOf bytes → Makes (commandMove (x .state) k) step
+          → Makes (runOf x last bytes) step
+      unfolding runOf
+      run-obeys k t u c m = rw (
+        ← commanded last (eqb (length bytes) 0) (ltb (length bytes) 3) (lastLine (x .state)) (stay x)
+            (commandMove (x .state) (commandOf bytes)) (sym ends-is ∙ t) (sym short-is ∙ u),
+        ← c,
+      ) m
 
   pub step-opens : x .stage ≡ Opening → Makes (openOf x last bytes) step → Makes (stepOf x last bytes) step
   unfolding stepOf
@@ -413,7 +429,7 @@ line-some : (s : State) (k : Command) → 0 < length (commandMove s k .text)
 unfolding commandMove lineOf releaseLine sliceLine
 line-some s Slice = go (showAnswer s rowRoom)
   where
-    go : (a : Answer) → 0 < length (sliceLine a (s .clock) (s .plan .cards) (rowByte s))
+    go : (a : Answer) → 0 < length (sliceLine a (s .slice) (s .plan .cards) (rowByte s))
     go Good = omega arith
     go (No w) = omega arith
 line-some s (Release kind e) = omega arith
@@ -477,7 +493,7 @@ unfolding runOf
 run-some x bytes = go (eqb (length bytes) 0)
   where
     go : (b : Bool) → 0 < length (cond b (lastLine (x .state)) (commandMove (x .state) (commandOf bytes)) .text)
-    go true = end-some (x .state .clock)
+    go true = end-some (x .state .slice)
     go false = line-some (x .state) (commandOf bytes)
 
 pub idle-over : (x : Session) (bytes : List ℕ) → length (stepOf x true bytes .text) ≡ 0 → x .stage ≡ Over

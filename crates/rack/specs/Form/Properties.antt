@@ -4,14 +4,15 @@ use mathlib.Core.Path.{_≡_, refl, sym, ap, _∙_}
 use mathlib.Core.Logic.{_≢_}
 use mathlib.Core.Bool.{Bool, true, false, not, _&&_, false≢true}
 use mathlib.Core.List.{List}
-use Prim.Native.Nat.{ℕ, _+_, _-_, _*_, _≤_, _<_}
+use Prim.Native.Nat.{ℕ, zero, suc, _+_, _-_, _*_, _≤_, _<_}
 use native.Mathlib.Decide.{decLt}
 use native.Mathlib.Omega.{arith}
 use lib.Dec.{ltb, eqb}
 use lib.ListN.{getD, replicate}
 use borrow.Author.Tests.{lt-ltb, le-ltb, ltb-true, eq-eqb, ne-eqb, eqb-true, not-false}
-use Rattle.laws.specs.Tests.{and-left, and-right, and-both, told-yes, second-no}
+use Rattle.laws.specs.Tests.{and-left, and-right, and-both, told-yes, told-no, second-no}
 use Rattle.laws.specs.Sum.{sumTo}
+use Rattle.laws.specs.Sum.Properties.{sum-more}
 use Rattle.laws.specs.All.{allTo}
 use Rattle.laws.specs.All.Properties.{all-more, all-at, all-of, all-fails}
 use Rattle.laws.specs.Written.Properties.{written-cong, stored-at}
@@ -27,8 +28,8 @@ use Rattle.unit.specs.Form.Properties.{unit-says, unit-of, empty-says, empty-of
 use Rattle.rack.specs.declared.State.{State}
 use Rattle.rack.specs.State.{unitOf, kindAt, kindPlaces, InUse, used, ProjectInUse, projectPlaces, projectUsed, sumAt}
 use Rattle.rack.specs.Sums.{leftFor, projectLeft, sumRight, sumsRight, leftBelow, leftRow}
-use Rattle.rack.specs.Sums.Properties.{sums-say, sums-of, below-at, below-all, sum-most}
-use Rattle.rack.specs.Form.{InForm, Ready, Looked, placeInForm, sumFits, sumInForm, sumsInForm, inForm, sumsTold, ready}
+use Rattle.rack.specs.Sums.Properties.{sums-say, sums-of, left-none, below-at, below-all, sum-most}
+use Rattle.rack.specs.Form.{InForm, Ready, placeInForm, sumFits, sumInForm, sumsInForm, inForm, sumsTold, ready, sumsFit, sumsAgree}
 
 -- ---- a place in use, asked by a test
 
@@ -194,65 +195,92 @@ module _ (s : State) (i : ℕ) (o : InOrder (s .plan)) (m : i < 16) where
       let before = sum-most s i 4095 (λ k q. place-left s o k (omega arith) (all-at i (placeInForm s) (sym all) k q)) c in
       omega (arith, below-at s i l so-far c (omega (arith, look-project)), before, place-left s o i m here)
 
--- ---- what it finds
+-- ---- what it finds: a is the answer, and b what a test of the sums told
 
-module _ (s : State) (left : List ℕ) where
-  -- the frame has no such slice
-  pub looked-past : (b : Bool) → b ≡ false → s .plan .frame ≤ s .slice → Looked s b left
-  unfolding inForm
-  looked-past b e l =
-      let past = le-ltb (s .slice) (s .plan .frame) l in record { told = rw (e, past); row = λ t. absurd (false≢true (rw past at t)) }
+pub check-order : (s : State) (r : Answer) → r ≡ Good → r ≡ checked (s .plan) → InOrder (s .plan)
+check-order s r good is = in-order (s .plan) (sym is ∙ good)
 
-  -- a place is not in form
-  pub looked-place : (b : Bool) (i : ℕ) → b ≡ false → i < 16 → placeInForm s i ≡ false → Looked s b left
-  unfolding inForm
-  looked-place b i e l f =
-      let no : inForm s ≡ false = sym (second-no (ltb (s .slice) (s .plan .frame)) _ (and-false-left (sym (all-fails 16 i (placeInForm s) f l)))) in
-      record { told = e ∙ sym no; row = λ t. absurd (false≢true (sym no ∙ t)) }
-    where
-      and-false-left : allTo 16 (placeInForm s) ≡ false → false ≡ (allTo 16 (placeInForm s) && sumsInForm s)
-      and-false-left q = rw q
+pub projects-most : (s : State) → InOrder (s .plan) → projectPlaces s ≤ 8
+projects-most s o = o .counts .projects-most
 
-  -- every place is: what is left is left in the plan's kinds
-  pub looked-all : (b : Bool) (i : ℕ) → InOrder (s .plan) → s .slice < s .plan .frame → true ≡ allTo i (placeInForm s) → i ≤ 16 → 16 ≤ i →
-      left ≡ leftBelow s i → b ≡ sumsInForm s → Looked s b left
-  unfolding inForm
-  looked-all b i o c all p q so-far e =
+-- a kind with nothing left adds nothing
+pub below-same : (s : State) (i : ℕ) (l : List ℕ) → l ≡ leftBelow s i → unitOf s i .left ≡ 0 → l ≡ leftBelow s (i + 1)
+below-same s i l so-far e =
+    so-far ∙ written-cong 8 (λ j. sumTo i (leftFor s j)) (λ j. sumTo (i + 1) (leftFor s j)) (replicate 8 0)
+    (λ j p. omega (arith, sum-more i (leftFor s j), left-none s j i e))
+
+all-same : (n : ℕ) (f g : ℕ → Bool) → ((i : ℕ) → i < n → f i ≡ g i) → allTo n f ≡ allTo n g
+unfolding allTo
+all-same zero f g h = refl
+all-same (suc n) f g h = rw (all-same n f g (λ i l. h i (omega arith)), h n (omega arith))
+
+module _ (s : State) (a : Answer) where
+  not-in-form : inForm s ≡ false → a ≡ bare 10 → a ≡ (refuse (not (inForm s)) (bare 10) andThen sumsTold s)
+  not-in-form e q = q ∙ rw e
+
+  in-form-told : inForm s ≡ true → a ≡ sumsTold s → a ≡ (refuse (not (inForm s)) (bare 10) andThen sumsTold s)
+  in-form-told e q = q ∙ rw e
+
+-- the frame has no such slice
+past : (s : State) → s .plan .frame ≤ s .slice → inForm s ≡ false
+unfolding inForm
+past s l = rw (le-ltb (s .slice) (s .plan .frame) l)
+
+pub formed-past : (s : State) (a : Answer) → a ≡ bare 10 → s .plan .frame ≤ s .slice →
+    a ≡ (refuse (not (inForm s)) (bare 10) andThen sumsTold s)
+formed-past s a q l = not-in-form s a (past s l) q
+
+-- a place is not in form
+place-out : (s : State) (i : ℕ) → i < 16 → placeInForm s i ≡ false → inForm s ≡ false
+unfolding inForm
+place-out s i l f =
+    let some : allTo 16 (placeInForm s) ≡ false = sym (all-fails 16 i (placeInForm s) f l) in
+    sym (second-no (ltb (s .slice) (s .plan .frame)) _ (rw some))
+
+pub formed-place : (s : State) (a : Answer) (i : ℕ) (b : Bool) → a ≡ bare 10 → i < 16 → b ≡ placeInForm s i → not b ≡ true →
+    a ≡ (refuse (not (inForm s)) (bare 10) andThen sumsTold s)
+formed-place s a i b q l e t = not-in-form s a (place-out s i l (told-no (placeInForm s i) b e t)) q
+
+-- every place is: what is left is left in the plan's kinds
+module _ (s : State) (i : ℕ) (left : List ℕ) (o : InOrder (s .plan)) (c : s .slice < s .plan .frame) (all : true ≡ allTo i (placeInForm s))
+    (p : i ≤ 16) (q : 16 ≤ i) (so-far : left ≡ leftBelow s i) where
+  every : allTo 16 (placeInForm s) ≡ true
+  every = let end : i ≡ 16 = omega arith in sym (all ∙ ap (λ (x : ℕ). allTo x (placeInForm s)) end)
+
+  form-is : inForm s ≡ sumsFit (s .sum) (projectPlaces s)
+  unfolding inForm sumsInForm sumsFit
+  form-is = rw (lt-ltb (s .slice) (s .plan .frame) c, every)
+
+  row : left ≡ leftRow s
+  row =
       let end : i ≡ 16 = omega arith in
-      let every : allTo 16 (placeInForm s) ≡ true = sym (all ∙ ap (λ (x : ℕ). allTo x (placeInForm s)) end) in
       let n = kindPlaces s in
       let most = o .counts .kinds-most in
       let unused : (k : ℕ) → k < 16 - n → unitOf s (n + k) .left ≡ 0 = λ k l.
       ap (λ (v : Unit). v .left) (empty-says (unitOf s (n + k))
       (rw (used-not s (n + k) (λ z. omega arith)) at (all-at 16 (placeInForm s) every (n + k) (omega arith)))) in
-      record {
-        told = rw (lt-ltb (s .slice) (s .plan .frame) c, every) e;
-        row = λ t.
-            so-far ∙ ap (leftBelow s) end
-            ∙ written-cong 8 (λ j. sumTo 16 (leftFor s j)) (projectLeft s) (replicate 8 0)
-            (λ j l. below-all s 16 (16 - n) (omega arith) unused j);
-      }
+      so-far ∙ ap (leftBelow s) end
+      ∙ written-cong 8 (λ j. sumTo 16 (leftFor s j)) (projectLeft s) (replicate 8 0)
+      (λ j l. below-all s 16 (16 - n) (omega arith) unused j)
 
--- what was found, opened: r is what the record order answered, and b whether the state was found in form
+  agree-is : sumsAgree (s .sum) left (projectPlaces s) ≡ sumsRight s
+  unfolding sumsAgree sumsRight
+  agree-is =
+      all-same (projectPlaces s) _ (sumRight s)
+      (λ j l. ap (eqb (sumAt s j)) (ap (λ (m : List ℕ). getD m j 0) row
+      ∙ stored-at 8 8 (projectLeft s) j (omega (arith, o .counts .projects-most)) (omega arith)))
 
-pub check-order : (s : State) (r : Answer) → r ≡ Good → r ≡ checked (s .plan) → InOrder (s .plan)
-check-order s r good is = in-order (s .plan) (sym is ∙ good)
+  module _ (a : Answer) (b : Bool) (fits : b ≡ sumsFit (s .sum) (projectPlaces s)) where
+    -- a sum beyond p is not zero
+    pub formed-sums : not b ≡ true → a ≡ bare 10 → a ≡ (refuse (not (inForm s)) (bare 10) andThen sumsTold s)
+    formed-sums t = not-in-form s a (form-is ∙ told-no _ b fits t)
 
-pub looked-row : (s : State) (b : Bool) (left : List ℕ) → Looked s b left → not b ≡ false → left ≡ leftRow s
-looked-row s b left k e = k .row (sym (k .told) ∙ not-false b e)
+    module _ (t : not b ≡ false) (d : Bool) (agree : d ≡ sumsAgree (s .sum) left (projectPlaces s)) where
+      -- a sum is not what was found
+      pub formed-differ : not d ≡ true → a ≡ bare 16 → a ≡ (refuse (not (inForm s)) (bare 10) andThen sumsTold s)
+      unfolding sumsTold
+      formed-differ f e = in-form-told s a (form-is ∙ told-yes _ b fits t) (e ∙ rw (told-no _ d (agree ∙ agree-is) f))
 
--- ---- the stored sums against what was found
-
-pub projects-most : (s : State) → InOrder (s .plan) → projectPlaces s ≤ 8
-projects-most s o = o .counts .projects-most
-
-module _ (s : State) (left : List ℕ) (j n : ℕ) (o : InOrder (s .plan)) (is : left ≡ leftRow s) (e : n ≡ projectPlaces s) (l : j < n) where
-  row-at : getD left j 0 ≡ projectLeft s j
-  row-at = ap (λ (m : List ℕ). getD m j 0) is ∙ stored-at 8 8 (projectLeft s) j (omega (arith, o .counts .projects-most)) (omega arith)
-
-  pub sum-differs : sumAt s j ≢ getD left j 0 → false ≡ sumsRight s
-  unfolding sumsRight
-  sum-differs z = all-fails (projectPlaces s) j (sumRight s) (ne-eqb (sumAt s j) (projectLeft s j) (λ q. z (q ∙ sym row-at))) (omega arith)
-
-  pub sum-agrees : sumAt s j ≡ getD left j 0 → sumRight s j ≡ true
-  sum-agrees q = eq-eqb (sumAt s j) (projectLeft s j) (q ∙ row-at)
+      pub formed-good : not d ≡ false → a ≡ Good → a ≡ (refuse (not (inForm s)) (bare 10) andThen sumsTold s)
+      unfolding sumsTold
+      formed-good f e = in-form-told s a (form-is ∙ told-yes _ b fits t) (e ∙ rw (told-yes _ d (agree ∙ agree-is) f))

@@ -30,6 +30,7 @@ use Rattle.seats.specs.Seats.Properties.{seats-found}
 use Rattle.rack.specs.declared.State.{State}
 use Rattle.rack.specs.State.{unitOf, kindAt, kindPlaces, projectPlaces, InUse, ProjectInUse}
 use Rattle.rack.specs.Form.{Ready}
+use Rattle.rack.specs.Form.Properties.{look-project}
 use Rattle.rack.specs.View.{cardsHeld, lowestCard, endCard, rankOf}
 use Rattle.rack.specs.View.Properties.{lowest-held}
 use Rattle.rack.specs.Rank.{until, working, active, outranks, viewOf, ownView, rank, served}
@@ -182,13 +183,13 @@ module _ (s : State) (r : Ready s) where
 
   -- ---- the arrays as the code fills them: n is how many places it looks through
 
-  pub project-small : (n i : ℕ) → n ≡ kinds → i < n → project i < 8
-  project-small n i e l = omega (arith, its-project i (omega arith), r .order .counts .projects-most)
+  pub project-small : (i : ℕ) → i < 16 → project i < 8
+  project-small i l = look-project s i (r .order) l
 
   pub slice-in-frame : s .slice < s .plan .frame
   slice-in-frame = r .form .slice-below
 
-  pub seats-are : (works untils low end seats : List ℕ) (n m : ℕ) → m ≡ kinds → n ≤ m → m ≤ n →
+  pub seats-are : (works untils low end seats : List ℕ) (n m : ℕ) → m ≡ kinds → 16 ≤ n → n ≤ 16 →
       works ≡ written n (worksOf s) (replicate 16 0) → untils ≡ written n (until s) (replicate 16 0) →
       low ≡ written (projectPlaces s) (lowestAt (s .plan) (s .slice)) (replicate 8 0) →
       end ≡ written (projectPlaces s) (endAt (s .plan) (s .slice)) (replicate 8 0) →
@@ -199,7 +200,7 @@ module _ (s : State) (r : Ready s) where
       ∙ written-cong kinds (seatBy works untils low end kinds) (seatOf s) (replicate 16 0) each
     where
       stored : (l : List ℕ) (f : ℕ → ℕ) → l ≡ written n f (replicate 16 0) → (k : ℕ) → k < kinds → at l k ≡ f k
-      stored l f e k q = ap (λ (x : List ℕ). at x k) e ∙ stored-at n 16 f k (omega arith) (omega (arith, r .order .counts .kinds-most))
+      stored l f e k q = ap (λ (x : List ℕ). at x k) e ∙ stored-at n 16 f k (omega (arith, r .order .counts .kinds-most)) b
 
       found : (l : List ℕ) (f : ℕ → ℕ) → l ≡ written (projectPlaces s) f (replicate 8 0) → (j : ℕ) → j < projectPlaces s → at l j ≡ f j
       found l f e j q = ap (λ (x : List ℕ). at x j) e ∙ stored-at (projectPlaces s) 8 f j q (r .order .counts .projects-most)

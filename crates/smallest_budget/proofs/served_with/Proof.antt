@@ -8,40 +8,30 @@ use borrow.Author.Needs.{needs}
 use Rattle.answer.specs.declared.Answer.the-variants.{Good}
 use Rattle.answer.specs.Answer.{eachTo}
 use Rattle.answer.specs.Answer.Properties.{each-none, each-more, each-stop, each-opened}
-use Rattle.smallest_budget.specs.Smallest.{fittedWith, servedWith}
-use Rattle.smallest_budget.specs.Smallest.Properties.{kind-skipped}
-use Rattle.smallest_budget.specs.Steps.Properties.{some-frame, frame-room, kinds-room, project-place, budget-room}
-use Rattle.smallest_budget.specs.Steps.Properties.{excess-room, fit-lacks, served-again}
+use Rattle.smallest_budget.specs.Steps.{fitBy, fittedBy, servedBy}
+use Rattle.smallest_budget.specs.Steps.Properties.{by-skipped, excess-room, by-lacks, by-fits}
 use Rattle.smallest_budget.proofs.served_with.Statement.{statement}
 use Rattle.smallest_budget.proofs.served_with.Tie as tie
 
 abbrev Inv-loop : tie.InvT-loop
-Inv-loop project workloads budget plan cards ceiling i₀ i-end i =
-    (i ≤ i-end) × (i-end ≡ plan .kinds) × (plan .kinds ≤ 16) × (Good ≡ eachTo i (fittedWith plan project budget))
+Inv-loop project kinds frame ceiling owner length deadline workload budget cards i₀ i =
+    (i ≤ kinds)
+    × (Good ≡ eachTo i (fittedBy project owner (fitBy frame ceiling length deadline workload budget)))
 
 abbrev μ-loop : tie.MeasureT-loop
-μ-loop project workloads budget plan cards ceiling i₀ i-end i = i-end - i
+μ-loop project kinds frame ceiling owner length deadline workload budget cards i₀ i = kinds - i
 
 cards-with-requires : tie.Need-cards-with-requires Inv-loop μ-loop
-cards-with-requires c κs = (search some-frame, search frame-room, search budget-room)
-
-mul-ceiling : tie.Need-mul-ceiling Inv-loop μ-loop
-mul-ceiling c = search (needs, project-place)
-
-element-copy-out-ceiling : tie.Need-element-copy-out-ceiling Inv-loop μ-loop
-element-copy-out-ceiling c = search project-place
+cards-with-requires c κs = search needs
 
 loop-holds : tie.Need-loop-holds Inv-loop μ-loop
-loop-holds c = (omega arith, refl, search kinds-room, each-none _)
+loop-holds c = (omega arith, each-none _)
 
-cast-kind : tie.Need-cast-kind Inv-loop μ-loop
-cast-kind c = search needs
+cast-at : tie.Need-cast-at Inv-loop μ-loop
+cast-at c = search needs
 
-mul-kind : tie.Need-mul-kind Inv-loop μ-loop
-mul-kind c = search needs
-
-element-copy-out-kind : tie.Need-element-copy-out-kind Inv-loop μ-loop
-element-copy-out-kind c = search needs
+element-copy-out-if1 : tie.Need-element-copy-out-if1 Inv-loop μ-loop
+element-copy-out-if1 c = search needs
 
 add-i : tie.Need-add-i Inv-loop μ-loop
 add-i c = search needs
@@ -50,16 +40,28 @@ loop-less : tie.Need-loop-less Inv-loop μ-loop
 loop-less c = search needs
 
 loop-again : tie.Need-loop-again Inv-loop μ-loop
-loop-again c = (omega arith, search, search, each-more _ _ (search) (search kind-skipped))
+loop-again c = (omega arith, each-more _ _ (search) (search by-skipped))
 
-cast-least-fit : tie.Need-cast-least-fit Inv-loop μ-loop
-cast-least-fit c = search needs
+mul-bounded : tie.Need-mul-bounded Inv-loop μ-loop
+mul-bounded c = search needs
+
+element-copy-out-bounded : tie.Need-element-copy-out-bounded Inv-loop μ-loop
+element-copy-out-bounded c = search needs
+
+bounded-requires : tie.Need-bounded-requires Inv-loop μ-loop
+bounded-requires c κs = search needs
 
 mul-least-fit : tie.Need-mul-least-fit Inv-loop μ-loop
 mul-least-fit c = search needs
 
 element-copy-out-least-fit : tie.Need-element-copy-out-least-fit Inv-loop μ-loop
 element-copy-out-least-fit c = search needs
+
+mul-least-fit-2 : tie.Need-mul-least-fit-2 Inv-loop μ-loop
+mul-least-fit-2 c = search needs
+
+element-copy-out-least-fit-2 : tie.Need-element-copy-out-least-fit-2 Inv-loop μ-loop
+element-copy-out-least-fit-2 c = search needs
 
 least-fit-requires : tie.Need-least-fit-requires Inv-loop μ-loop
 least-fit-requires c κs = search needs
@@ -71,8 +73,8 @@ not-admitted-requires : tie.Need-not-admitted-requires Inv-loop μ-loop
 not-admitted-requires c κs = search needs
 
 returns : tie.Need-returns Inv-loop μ-loop
-unfolding servedWith
-returns c = search (each-opened, fit-lacks)
+unfolding servedBy
+returns c = search (each-opened, by-lacks)
 
 add-i-2 : tie.Need-add-i-2 Inv-loop μ-loop
 add-i-2 c = search needs
@@ -82,22 +84,22 @@ loop-less-2 c = search needs
 
 loop-again-2 : tie.Need-loop-again-2 Inv-loop μ-loop
 loop-again-2 c =
-    let inside = c .before .before .before .before .before .before .before in
+    let inside = c .before .before .before .before .before .before .before .before .before in
     let here = inside .before in
-    let within = inside .loop-test .taken in
     let laid = here .before in
     let given = laid .before .args in
+    let its = c .before .before .before .before .before .before .before .if1 .left in
+    let long = c .before .before .before .before .before .bounded in
     let found = c .before .before .least-fit .result in
     let some : found .width ≡ 0 → ⊥ = search in (
-      omega (arith, within),
-      here .loop .inv .1,
-      here .loop .inv .2,
-      served-again (given .t1) (given .project) (search) (here .loop .i) (omega (arith, within)) (given .budget) (laid .cards-with .result)
-          (now (given .workloads)) found (search) (search) (search) (search) some (search),
+      omega (arith, inside .loop-test .taken),
+      each-more _ _ (here .loop .inv .1) (by-fits (given .project) (now (given .owner)) (here .loop .i) (given .frame) (given .ceiling)
+          (now (given .length)) (now (given .deadline)) (now (given .workload)) (given .budget) found (laid .cards-with .result) (search)
+          (long .result) (long .ensures .0) (search) its some),
     )
 
 returns-2 : tie.Need-returns-2 Inv-loop μ-loop
-unfolding servedWith
+unfolding servedBy
 returns-2 c = search each-stop
 
 pub served-with-spec : {M : Type 1} → statement M
@@ -107,18 +109,19 @@ served-with-spec =
     Inv-loop
     μ-loop
     cards-with-requires
-    mul-ceiling
-    element-copy-out-ceiling
     loop-holds
-    cast-kind
-    mul-kind
-    element-copy-out-kind
+    cast-at
+    element-copy-out-if1
     add-i
     loop-less
     loop-again
-    cast-least-fit
+    mul-bounded
+    element-copy-out-bounded
+    bounded-requires
     mul-least-fit
     element-copy-out-least-fit
+    mul-least-fit-2
+    element-copy-out-least-fit-2
     least-fit-requires
     cast-not-admitted
     not-admitted-requires

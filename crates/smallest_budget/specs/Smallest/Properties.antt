@@ -6,7 +6,7 @@ use Prim.Native.Nat.{ℕ, _+_, _*_, _≤_, _<_}
 use native.Mathlib.Nat.{mul-le-mul}
 use native.Mathlib.Omega.{arith}
 use lib.Dec.{eqb}
-use borrow.Author.Tests.{eq-eqb, ne-eqb, eqb-false, not-true}
+use borrow.Author.Tests.{ne-eqb, eqb-false, not-true}
 use Rattle.laws.specs.All.Properties.{all-at, all-of}
 use Rattle.laws.specs.First.{firstTo}
 use Rattle.laws.specs.First.Properties.{first-here, first-le, first-some}
@@ -14,7 +14,7 @@ use Rattle.plan.specs.declared.Plan.{Plan}
 use Rattle.answer.specs.declared.Answer.{Answer}
 use Rattle.answer.specs.declared.Answer.the-variants.{Good, No}
 use Rattle.answer.specs.declared.Refusal.{Refusal}
-use Rattle.answer.specs.Answer.{notAdmitted, _andThen_}
+use Rattle.answer.specs.Answer.{_andThen_}
 use Rattle.answer.specs.Answer.Properties.{andThen-left, refuse-good, each-at, each-of, opened-no, opened-on}
 use Rattle.plan.specs.Order.{projectOf, kindOf, budgetsFit}
 use Rattle.plan.specs.Open.{withBudget, checkedOpen}
@@ -25,25 +25,10 @@ use Rattle.smallest_budget.specs.declared.Smallest.{Smallest}
 use Rattle.smallest_budget.specs.Staying.{Stays, first-not-yet}
 use Rattle.smallest_budget.specs.Growth.{width-kept}
 use Rattle.smallest_budget.specs.Flat.{slice-flat}
-use Rattle.smallest_budget.specs.Smallest.{its, widthWith, excessWith, sliceWith, lacks, serves, mostBudget, leastBudget}
+use Rattle.smallest_budget.specs.Smallest.{its, widthWith, sliceWith, lacks, serves, mostBudget, leastBudget}
 use Rattle.smallest_budget.specs.Smallest.{fittedWith, servedWith, servedAtMost, sumFits, smallestAnswer, smallestWith, smallestOf}
 
 module _ (p : Plan) (j b : ℕ) where
-  -- ---- one kind
-
-  -- "others are not judged"
-  pub kind-skipped : (i : ℕ) → (kindOf p i .project ≡ j → ⊥) → Good ≡ fittedWith p j b i
-  kind-skipped i n = rw (ne-eqb (kindOf p i .project) j n)
-
-  pub kind-lacks : (i w x a : ℕ) → kindOf p i .project ≡ j → w ≡ widthWith p j b i → x ≡ excessWith p j b i → a ≡ sliceWith p j b i →
-      w ≡ 0 → notAdmitted i x a ≡ fittedWith p j b i
-  kind-lacks i w x a e f g h z = rw (eq-eqb (kindOf p i .project) j e, eq-eqb (widthWith p j b i) 0 (sym f ∙ z), g, h)
-
-  pub kind-fits : (i w : ℕ) → kindOf p i .project ≡ j → w ≡ widthWith p j b i → (w ≡ 0 → ⊥) → Good ≡ fittedWith p j b i
-  kind-fits i w e f n = rw (eq-eqb (kindOf p i .project) j e, ne-eqb (widthWith p j b i) 0 (λ z. n (f ∙ z)))
-
-  -- ---- all of them
-
   -- no 8 where every kind of the project has a k
   pub served-serves : servedWith p j b ≡ Good → serves p j b ≡ true
   unfolding servedWith serves

@@ -3,20 +3,19 @@
 use mathlib.Core.Path.{_≡_, refl, sym, ap, _∙_, fun-ext}
 use mathlib.Core.Bool.{Bool, true, false, cond}
 use mathlib.Core.List.{List}
-use Prim.Native.Nat.{ℕ, _+_, _-_, _*_, _/_, _%_, _≤_, _<_}
+use Prim.Native.Nat.{ℕ, zero, suc, _+_, _-_, _*_, _/_, _%_, _≤_, _<_}
 use native.Mathlib.Decide.{decLt}
 use native.Mathlib.Nat.{mod-eq-of-lt, mod-lt, mod-mod, mul-le-mul, mul-le-mul-right, div-add-mod', div-lt-iff-lt-mul, zero-add, zero-mul}
 use native.Mathlib.Omega.{arith}
 use lib.Dec.{ltb}
 use lib.ListN.{set, getD, replicate, length-replicate}
-use borrow.Author.Tests.{lt-ltb, le-ltb}
+use borrow.Author.Tests.{lt-ltb, le-ltb, eq-eqb, ne-eqb}
 use Rattle.laws.specs.Written.{written}
 use Rattle.laws.specs.Written.Properties.{written-again, written-at}
 use Rattle.plan.specs.declared.Plan.{Plan}
 use Rattle.answer.specs.declared.Answer.{Answer}
 use Rattle.answer.specs.declared.Answer.the-variants.{Good}
 use Rattle.answer.specs.Answer.{notAdmitted, eachTo}
-use Rattle.answer.specs.Answer.Properties.{each-more}
 use Rattle.plan.specs.Order.{projectOf, kindOf, budgetsFit, checked}
 use Rattle.plan.specs.Open.{withBudget, checkedOpen, InOrderOpen}
 use Rattle.plan.specs.Open.Properties.{open-opened, with-checked}
@@ -28,10 +27,11 @@ use Rattle.supply.specs.Fit.{heldAt, fitOf}
 use Rattle.supply.specs.Fit.Properties.{fit-framed, excess-within, slice-in-frame}
 use Rattle.workload.specs.Workload.{workload}
 use Rattle.workload.specs.Workload.Properties.{workload-most}
+use Rattle.smallest_budget.specs.declared.Asked.{Asked}
 use Rattle.smallest_budget.specs.Rotation.{width-anywhere, excess-anywhere}
-use Rattle.smallest_budget.specs.Smallest.{widthWith, excessWith, sliceWith, mostBudget, leastBudget, fittedWith, servedAtMost}
-use Rattle.smallest_budget.specs.Smallest.Properties.{kind-lacks, kind-fits, least-most, least-some}
-use Rattle.smallest_budget.specs.Steps.{cardsWith, workloadsOf, fitWith}
+use Rattle.smallest_budget.specs.Smallest.{widthWith, excessWith, sliceWith, mostBudget, leastBudget, fittedWith, servedWith, servedAtMost}
+use Rattle.smallest_budget.specs.Smallest.Properties.{least-most, least-some}
+use Rattle.smallest_budget.specs.Steps.{cardsWith, askedOf, fitBy, fittedBy, servedBy, fitWith}
 
 -- ---- the cards of a budget from cell 0 on
 
@@ -84,6 +84,42 @@ whole-most b F w some l e = let h : b / F < 9 = div-lt-iff-lt-mul {k = F} {x = b
 pub project-fits : (p : Plan) (j : ℕ) (a : Answer) → a ≡ Good → a ≡ checkedOpen p j → j < 256
 project-fits p j a e q = let o = open-opened p j a e q in omega (arith, o .its-place, o .counts .projects-most)
 
+-- ---- a judgement by what is asked of each kind
+
+pub asked-stop : (p : Plan) (i : ℕ) (owner length deadline works : List ℕ) →
+    owner ≡ written i (λ (k : ℕ). kindOf p k .project) (replicate 16 0) → length ≡ written i (λ (k : ℕ). kindOf p k .length) (replicate 16 0) →
+    deadline ≡ written i (λ (k : ℕ). kindOf p k .deadline) (replicate 16 0) → works ≡ written i (workload p) (replicate 16 0) →
+    i ≤ p .kinds → p .kinds ≤ i → record { owner = owner; length = length; deadline = deadline; workload = works } ≡ askedOf p
+unfolding askedOf
+asked-stop p i owner length deadline works e f g h l m =
+    let s : i ≡ p .kinds = omega arith in rw (e, f, g, h, s)
+
+each-like : (n : ℕ) (f g : ℕ → Answer) → ((i : ℕ) → i < n → f i ≡ g i) → eachTo n f ≡ eachTo n g
+unfolding eachTo
+each-like zero f g h = refl
+each-like (suc n) f g h = rw (each-like n f g (λ i l. h i (omega arith)), h n (omega arith))
+
+module _ (j : ℕ) (owner : List ℕ) (i : ℕ) where
+  pub by-skipped : (fit : ℕ → Fit) → (getD owner i 0 ≡ j → ⊥) → Good ≡ fittedBy j owner fit i
+  by-skipped fit n = rw (ne-eqb (getD owner i 0) j n)
+
+  module _ (frame ceiling : ℕ) (length deadline workload : List ℕ) (b : ℕ) (r : Fit) (cards : List ℕ) (c : cards ≡ cardsWith b frame)
+      (C : ℕ) (g : C ≡ getD length i 0) (f : r ≡ fitOf frame cards ceiling C (getD workload i 0) (getD deadline i 0)) where
+    by-is : r ≡ fitBy frame ceiling length deadline workload b i
+    by-is = f ∙ rw (c, g)
+
+    pub excess-room : 0 < frame → frame ≤ 64 → C < 65536 → r .excess < 4294967296
+    excess-room some most room =
+        let e = f ∙ fit-framed frame cards ceiling C (getD workload i 0) (getD deadline i 0) (λ z. omega arith) most in
+        rw e (omega (arith, excess-within frame (heldAt frame cards) C (getD workload i 0) (getD deadline i 0) ceiling))
+
+    pub by-lacks : (a : Answer) → getD owner i 0 ≡ j → r .width ≡ 0 → a ≡ notAdmitted i (r .excess) (r .slice) →
+        a ≡ fittedBy j owner (fitBy frame ceiling length deadline workload b) i
+    by-lacks a e z q = q ∙ rw (eq-eqb (getD owner i 0) j e, ← by-is, eq-eqb (r .width) 0 z)
+
+    pub by-fits : getD owner i 0 ≡ j → (r .width ≡ 0 → ⊥) → Good ≡ fittedBy j owner (fitBy frame ceiling length deadline workload b) i
+    by-fits e n = rw (eq-eqb (getD owner i 0) j e, ← by-is, ne-eqb (r .width) 0 n)
+
 -- ---- a plan in order but for one budget
 
 module _ (p : Plan) (j : ℕ) (o : InOrderOpen p j) where
@@ -99,7 +135,7 @@ module _ (p : Plan) (j : ℕ) (o : InOrderOpen p j) where
   pub project-place : j < 8
   project-place = omega (arith, o .its-place, o .counts .projects-most)
 
-  most-eight : mostBudget p j ≤ 8 * p .frame
+  pub most-eight : mostBudget p j ≤ 8 * p .frame
   most-eight =
       omega (
         arith,
@@ -121,8 +157,8 @@ module _ (p : Plan) (j : ℕ) (o : InOrderOpen p j) where
   most-above most e = omega (arith, e, most-some)
 
   -- half way is not above it
-  pub middle-room : (most below enough : ℕ) → most ≡ mostBudget p j → below < enough → enough ≤ most → (below + enough) / 2 ≤ mostBudget p j
-  middle-room most below enough e l m = omega arith
+  pub middle-room : (most below enough : ℕ) → most ≡ mostBudget p j → below < enough → enough ≤ most → (below + enough) / 2 ≤ 8 * p .frame
+  middle-room most below enough e l m = budget-room ((below + enough) / 2) (omega arith)
 
   pub ceiling-fits : projectOf p j .ceiling < 65536
   ceiling-fits = omega (arith, o .ceiling-most j (o .its-place), o .counts .cards-most)
@@ -151,12 +187,6 @@ module _ (p : Plan) (j : ℕ) (o : InOrderOpen p j) where
     pub workload-room : (w : ℕ) → w ≡ workload p i → w < 4294967296
     workload-room w e = omega (arith, e, workload-most p (o .counts .kinds-most) (o .kind-at) i l)
 
-    workload-at : (works : List ℕ) → works ≡ workloadsOf p → getD works i 0 ≡ workload p i
-    unfolding workloadsOf
-    workload-at works e =
-        rw e (written-at (p .kinds) (workload p) (replicate 16 0) 0 i l
-        (omega (arith, length-replicate {A = ℕ} 16 0, o .counts .kinds-most)))
-
     pub with-room : (b : ℕ) (r : Fit) → r ≡ fitWith p j b i → r .excess < 16777216
     unfolding excessWith
     with-room b r e =
@@ -180,34 +210,47 @@ module _ (p : Plan) (j : ℕ) (o : InOrderOpen p j) where
           o .counts .frame-most,
         )
 
-    -- what `least_fit` found of the cards from cell 0 on is the fit on the layout as it is
-    module _ (b : ℕ) (cards works : List ℕ) (r : Fit) (c : cards ≡ cardsWith b (p .frame)) (w : works ≡ workloadsOf p)
-        (f : r ≡ fitOf (p .frame) cards (projectOf p j .ceiling) (kindOf p i .length) (getD works i 0) (kindOf p i .deadline)) where
-      fit-is : r ≡ fitWith p j b i
-      unfolding widthWith excessWith sliceWith
-      fit-is =
-          f ∙ rw (
-            c,
-            workload-at works w,
-            fit-framed (p .frame) (cardsWith b (p .frame)) (projectOf p j .ceiling) (kindOf p i .length) (workload p i)
-                (kindOf p i .deadline) (λ z. omega (arith, o .counts .some-slice)) (o .counts .frame-most),
-            cards-held b,
-            width-anywhere 0 (firstCell p j) b (p .frame) (kindOf p i .length) (workload p i) (kindOf p i .deadline)
-                (projectOf p j .ceiling),
-            excess-anywhere 0 (firstCell p j) b (p .frame) (kindOf p i .length) (workload p i) (kindOf p i .deadline)
-                (projectOf p j .ceiling),
-          )
+    asked-at : (f : ℕ → ℕ) → getD (written (p .kinds) f (replicate 16 0)) i 0 ≡ f i
+    asked-at f =
+        written-at (p .kinds) f (replicate 16 0) 0 i l (omega (arith, length-replicate {A = ℕ} 16 0, o .counts .kinds-most))
 
-      pub excess-room : r .excess < 4294967296
-      excess-room = omega (arith, with-room b r fit-is)
+    -- what `least_fit` finds of the cards from cell 0 on is the fit on the layout as it is
+    fit-is : (b : ℕ) →
+        fitBy (p .frame) (projectOf p j .ceiling) (askedOf p .length) (askedOf p .deadline) (askedOf p .workload) b i ≡ fitWith p j b i
+    unfolding askedOf widthWith excessWith sliceWith
+    fit-is b =
+        rw (
+          asked-at (λ (k : ℕ). kindOf p k .length),
+          asked-at (λ (k : ℕ). kindOf p k .deadline),
+          asked-at (workload p),
+          fit-framed (p .frame) (cardsWith b (p .frame)) (projectOf p j .ceiling) (kindOf p i .length) (workload p i)
+              (kindOf p i .deadline) (λ z. omega (arith, o .counts .some-slice)) (o .counts .frame-most),
+          cards-held b,
+          width-anywhere 0 (firstCell p j) b (p .frame) (kindOf p i .length) (workload p i) (kindOf p i .deadline)
+              (projectOf p j .ceiling),
+          excess-anywhere 0 (firstCell p j) b (p .frame) (kindOf p i .length) (workload p i) (kindOf p i .deadline)
+              (projectOf p j .ceiling),
+        )
 
-      pub fit-lacks : (a : Answer) → kindOf p i .project ≡ j → r .width ≡ 0 → a ≡ notAdmitted i (r .excess) (r .slice) →
-          a ≡ fittedWith p j b i
-      fit-lacks a e z q =
-          q ∙ kind-lacks p j b i (r .width) (r .excess) (r .slice) e (ap (λ (v : Fit). v .width) fit-is)
-          (ap (λ (v : Fit). v .excess) fit-is) (ap (λ (v : Fit). v .slice) fit-is) z
+    owner-at : getD (askedOf p .owner) i 0 ≡ kindOf p i .project
+    unfolding askedOf
+    owner-at = asked-at (λ (k : ℕ). kindOf p k .project)
 
-      pub served-again : kindOf p i .project ≡ j → (r .width ≡ 0 → ⊥) → Good ≡ eachTo i (fittedWith p j b) →
-          Good ≡ eachTo (i + 1) (fittedWith p j b)
-      served-again e n so =
-          each-more i (fittedWith p j b) so (kind-fits p j b i (r .width) e (ap (λ (v : Fit). v .width) fit-is) n)
+    fitted-is : (b : ℕ) →
+        fittedBy j (askedOf p .owner)
+        (fitBy (p .frame) (projectOf p j .ceiling) (askedOf p .length) (askedOf p .deadline) (askedOf p .workload) b) i ≡ fittedWith p j b i
+    fitted-is b = rw (owner-at, fit-is b)
+
+  -- a judgement by what is asked of each kind is the judgement of the plan
+  pub served-is : (b : ℕ) (owner length deadline workload : List ℕ) (a : Answer) → owner ≡ askedOf p .owner → length ≡ askedOf p .length →
+      deadline ≡ askedOf p .deadline → workload ≡ askedOf p .workload →
+      a ≡ servedBy j (p .kinds) owner (fitBy (p .frame) (projectOf p j .ceiling) length deadline workload b) → a ≡ servedWith p j b
+  unfolding servedBy servedWith
+  served-is b owner length deadline workload a f g h w e =
+      e ∙ rw (f, g, h, w) (each-like (p .kinds) _ (fittedWith p j b) (λ i l. fitted-is i l b))
+
+  pub served-open : (b : ℕ) (k : Asked) (a : Answer) → k ≡ askedOf p →
+      a ≡ servedBy j (p .kinds) (k .owner) (fitBy (p .frame) (projectOf p j .ceiling) (k .length) (k .deadline) (k .workload) b) →
+      a ≡ servedWith p j b
+  served-open b k a e f =
+      served-is b (k .owner) (k .length) (k .deadline) (k .workload) a (rw e) (rw e) (rw e) (rw e) f

@@ -19,6 +19,9 @@ returns : tie.Need-returns
 unfolding ranges
 returns c = search (opened-no, opened-on)
 
+budgets-fit-requires : tie.Need-budgets-fit-requires
+budgets-fit-requires c κs = search needs
+
 kinds-in-range-requires : tie.Need-kinds-in-range-requires
 kinds-in-range-requires c κs = search needs
 
@@ -32,9 +35,6 @@ returns-2 : tie.Need-returns-2
 unfolding ranges
 returns-2 c = search (opened-no, opened-on)
 
-budgets-fit-requires : tie.Need-budgets-fit-requires
-budgets-fit-requires c κs = search needs
-
 returns-3 : tie.Need-returns-3
 unfolding ranges
 returns-3 c = search (opened-no, opened-on)
@@ -47,9 +47,9 @@ ranges-spec =
     enum-told
     enum-told-2
     returns
+    budgets-fit-requires
     kinds-in-range-requires
     enum-told-3
     enum-told-4
     returns-2
-    budgets-fit-requires
     returns-3)

@@ -16,11 +16,11 @@ use Rattle.rack.proofs.State.seats.Tie as tie
 
 abbrev Inv-loop : tie.InvT-loop
 Inv-loop self plan kinds works₀ until₀ i₀ works until i =
-    (i ≤ kinds) × (kinds ≤ 16) × (works ≡ written i (worksOf self) (replicate 16 0))
+    (i ≤ 16) × (kinds ≤ 16) × (works ≡ written i (worksOf self) (replicate 16 0))
     × (until ≡ written i (Rank.until self) (replicate 16 0))
 
 abbrev μ-loop : tie.MeasureT-loop
-μ-loop self plan kinds works₀ until₀ i₀ works until i = kinds - i
+μ-loop self plan kinds works₀ until₀ i₀ works until i = 16 - i
 
 places-requires : tie.Need-places-requires Inv-loop μ-loop
 places-requires c κs = search needs

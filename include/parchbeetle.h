@@ -30,9 +30,9 @@ extern "C" {
  * change them; an image belongs to the version that made it. Plan bytes are read by
  * every later version.
  */
-#define PARCHBEETLE_VERSION "0.6.0"
+#define PARCHBEETLE_VERSION "0.7.0"
 #define PARCHBEETLE_VERSION_MAJOR 0
-#define PARCHBEETLE_VERSION_MINOR 6
+#define PARCHBEETLE_VERSION_MINOR 7
 #define PARCHBEETLE_VERSION_PATCH 0
 
 /* ---- Images */
@@ -45,7 +45,7 @@ extern "C" {
  * A plan image has the four fields of a plan, then 8 places of a project, then 16
  * places of a kind; places of projects at or beyond `projects` and of kinds at or
  * beyond `kinds` hold zeros. A state image has the plan image, the field of a state,
- * and then 16 places of a kind's unit.
+ * 16 places of a kind's unit, and then 8 places of a project's sum.
  */
 #define PARCHBEETLE_PLAN_FIELDS(field)                                                  \
     field(cards, 1)       /* m, 1..8 */                                                 \
@@ -71,8 +71,11 @@ extern "C" {
     field(at, 4)          /* the clock at its last accepted release */                  \
     field(left, 2)        /* slices left */
 
+#define PARCHBEETLE_SUM_FIELDS(field)                                                   \
+    field(left, 2)        /* slices left of all the project's kinds; beyond p: 0 */
+
 #define PARCHBEETLE_PLAN_IMAGE 140u
-#define PARCHBEETLE_STATE_IMAGE 256u
+#define PARCHBEETLE_STATE_IMAGE 272u
 
 /*
  * What a verdict writes: bytes 0-15 are the least k of each kind, bytes 16-31 the bad
@@ -98,6 +101,7 @@ extern "C" {
  *   uint32_t parchbeetle_kind_deadline(const uint8_t *plan, size_t kind);
  *   uint32_t parchbeetle_state_clock(const uint8_t *state);
  *   uint32_t parchbeetle_unit_left(const uint8_t *state, size_t kind);
+ *   uint32_t parchbeetle_sum_left(const uint8_t *state, size_t project);
  *
  * and so on. The image must be whole. A state image begins with its plan image, so
  * the functions of plan, project and kind take either. A place that is not there
@@ -150,6 +154,7 @@ extern "C" {
     number(13, "the unit's length is 0 or above its kind's")                    \
     number(14, "the kind's last release was less than its separation ago")      \
     number(15, "slices of the kind's earlier unit are left")                    \
+    number(16, "a stored sum differs from what is left")                        \
     number(17, "cards out of range, or no list of kinds")                       \
     number(18, "more than eight kinds are listed")                              \
     number(19, "the separations' greatest common divisor exceeds 64")           \
@@ -220,16 +225,24 @@ uint64_t parchbeetle_build(uint64_t cards, const uint8_t *list, size_t list_len,
 /* ---- Running */
 
 /*
- * A fresh start: the first 256 bytes at `state` are the plan at clock 0, with no
- * kind ever released.
- * Refusals: as parchbeetle_check, then 8, then 9 (state_len below 256).
+ * A state keeps beside each kind's slices left the sum of them for each project: a
+ * release raises it, an advance lowers it. Every call below that is given a state
+ * looks at both. A bit that flips in a sum or in any slices left is told by the next
+ * call, as 16, or as 10 where that field is then out of form: the state must not be
+ * used on, and the call has changed nothing.
+ */
+
+/*
+ * A fresh start: the first 272 bytes at `state` are the plan at clock 0, with no
+ * kind ever released and every sum 0.
+ * Refusals: as parchbeetle_check, then 8, then 9 (state_len below 272).
  */
 uint64_t parchbeetle_fresh(const uint8_t *plan, size_t plan_len, uint8_t *state, size_t state_len);
 
 /*
  * Releases a unit of `kind` with length `e`, at the state's clock. The state is
  * changed in place.
- * Refusals: 9 (state_len below 256), the plan's 2 to 7, 10, 12, 13, 14, 15.
+ * Refusals: 9 (state_len below 272), the plan's 2 to 7, 10, 16, 12, 13, 14, 15.
  */
 uint64_t parchbeetle_release(uint8_t *state, size_t state_len, uint64_t kind, uint64_t e);
 
@@ -237,14 +250,14 @@ uint64_t parchbeetle_release(uint8_t *state, size_t state_len, uint64_t kind, ui
  * Shows the next slice and keeps the state: the first m bytes at `row` say which kind
  * each card is to serve: kind number plus 1, or 0. It may be shown as often as wanted;
  * a release changes the state, so that what was shown before it may no longer hold.
- * Refusals: 9 (state_len below 256), the plan's 2 to 7, 10, 9 (row_len below m), 11.
+ * Refusals: 9 (state_len below 272), the plan's 2 to 7, 10, 16, 9 (row_len below m), 11.
  */
 uint64_t parchbeetle_show(const uint8_t *state, size_t state_len, uint8_t *row, size_t row_len);
 
 /*
  * Runs the slice that parchbeetle_show shows on this very state, shown or not. The
  * state is changed in place.
- * Refusals: 9 (state_len below 256), the plan's 2 to 7, 10, 11.
+ * Refusals: 9 (state_len below 272), the plan's 2 to 7, 10, 16, 11.
  */
 uint64_t parchbeetle_advance(uint8_t *state, size_t state_len);
 
@@ -278,10 +291,14 @@ struct parchbeetle_plan {
 struct parchbeetle_unit {
     PARCHBEETLE_UNIT_FIELDS(PARCHBEETLE_BYTES_)
 };
+struct parchbeetle_sum {
+    PARCHBEETLE_SUM_FIELDS(PARCHBEETLE_BYTES_)
+};
 struct parchbeetle_state {
     struct parchbeetle_plan plan;
     PARCHBEETLE_STATE_FIELDS(PARCHBEETLE_BYTES_)
     struct parchbeetle_unit unit[16];
+    struct parchbeetle_sum sum[8];
 };
 #undef PARCHBEETLE_BYTES_
 
@@ -341,11 +358,13 @@ static inline void parchbeetle_put_(uint8_t *field, size_t bytes, uint64_t value
 #define PARCHBEETLE_OF_KIND_(field, bytes) PARCHBEETLE_EACH_(plan, kind, 16, field, bytes)
 #define PARCHBEETLE_OF_STATE_(field, bytes) PARCHBEETLE_ONCE_(state, field, bytes)
 #define PARCHBEETLE_OF_UNIT_(field, bytes) PARCHBEETLE_EACH_(state, unit, 16, field, bytes)
+#define PARCHBEETLE_OF_SUM_(field, bytes) PARCHBEETLE_EACH_(state, sum, 8, field, bytes)
 PARCHBEETLE_PLAN_FIELDS(PARCHBEETLE_OF_PLAN_)
 PARCHBEETLE_PROJECT_FIELDS(PARCHBEETLE_OF_PROJECT_)
 PARCHBEETLE_KIND_FIELDS(PARCHBEETLE_OF_KIND_)
 PARCHBEETLE_STATE_FIELDS(PARCHBEETLE_OF_STATE_)
 PARCHBEETLE_UNIT_FIELDS(PARCHBEETLE_OF_UNIT_)
+PARCHBEETLE_SUM_FIELDS(PARCHBEETLE_OF_SUM_)
 #undef PARCHBEETLE_ONCE_
 #undef PARCHBEETLE_EACH_
 #undef PARCHBEETLE_OF_PLAN_
@@ -353,6 +372,7 @@ PARCHBEETLE_UNIT_FIELDS(PARCHBEETLE_OF_UNIT_)
 #undef PARCHBEETLE_OF_KIND_
 #undef PARCHBEETLE_OF_STATE_
 #undef PARCHBEETLE_OF_UNIT_
+#undef PARCHBEETLE_OF_SUM_
 
 #ifdef __cplusplus
 }

@@ -137,9 +137,11 @@ static void functions(void) {
 
     answers("fresh", parchbeetle_fresh(plan, PLAN, state, STATE), 0, 0, 0, 0);
     expect("the plan in the state", memcmp(state, plan, PLAN) == 0);
+    expect("the sums of a fresh start", parchbeetle_sum_left(state, 0) == 0 && parchbeetle_sum_left(state, 1) == 0);
     answers("fresh, no room", parchbeetle_fresh(plan, PLAN, state, STATE - 1), 9, 0, 0, 0);
 
     answers("release", parchbeetle_release(state, STATE, 0, 6), 0, 0, 0, 0);
+    expect("the sum raised", parchbeetle_sum_left(state, 0) == 6 && parchbeetle_sum_left(state, 1) == 0);
     memcpy(kept, state, STATE);
     answers("release, too early", parchbeetle_release(state, STATE, 0, 6), 14, 0, 0, 0);
     answers("release, no kind", parchbeetle_release(state, STATE, (uint64_t)1 << 32, 1), 12, 0, 0, 0);
@@ -156,6 +158,33 @@ static void functions(void) {
     answers("advance", parchbeetle_advance(state, STATE), 0, 0, 0, 0);
     expect("clock", parchbeetle_state_clock(state) == 1);
     expect("left", parchbeetle_unit_left(state, 0) == 5);
+    expect("the sum lowered", parchbeetle_sum_left(state, 0) == 5);
+
+    /* A flipped bit in a sum or in slices left. */
+    static const struct {
+        int sum;
+        size_t place;
+        uint32_t bit;
+        unsigned number;
+    } flips[] = {{1, 0, 1, 16}, {1, 1, 0x8000, 16}, {1, 2, 1, 10}, {0, 0, 1, 16}, {0, 0, 8, 10}, {0, 1, 1, 10}, {0, 15, 1, 10}};
+    for (size_t i = 0; i < sizeof flips / sizeof flips[0]; i++) {
+        size_t place = flips[i].place;
+        memcpy(kept, state, STATE);
+        if (flips[i].sum) {
+            parchbeetle_set_sum_left(kept, place, parchbeetle_sum_left(kept, place) ^ flips[i].bit);
+        } else {
+            parchbeetle_set_unit_left(kept, place, parchbeetle_unit_left(kept, place) ^ flips[i].bit);
+        }
+        uint8_t flipped[STATE];
+        memcpy(flipped, kept, STATE);
+        answers("release, a flipped bit", parchbeetle_release(kept, STATE, 1, 2), flips[i].number, 0, 0, 0);
+        answers("release, no kind and a flipped bit", parchbeetle_release(kept, STATE, 3, 0), flips[i].number, 0, 0, 0);
+        answers("show, a flipped bit", parchbeetle_show(kept, STATE, row, 2), flips[i].number, 0, 0, 0);
+        answers("show, a flipped bit and no room", parchbeetle_show(kept, STATE, row, 1), flips[i].number, 0, 0, 0);
+        answers("advance, a flipped bit", parchbeetle_advance(kept, STATE), flips[i].number, 0, 0, 0);
+        expect("a flipped bit is kept", memcmp(kept, flipped, STATE) == 0);
+    }
+
     parchbeetle_set_state_clock(state, 1000000000);
     answers("show, at the end", parchbeetle_show(state, STATE, row, 2), 11, 0, 0, 0);
     answers("show, at the end, no room", parchbeetle_show(state, STATE, row, 1), 9, 0, 0, 0);
@@ -191,6 +220,7 @@ static void stands(const char *what, uint32_t found, uint32_t value, size_t at, 
 enum { PROJECTS = 4, PROJECT = 3 };
 enum { KINDS = PROJECTS + 8 * PROJECT, KIND = 7 };
 enum { CLOCK = KINDS + 16 * KIND, UNITS = CLOCK + 4, UNIT = 7 };
+enum { SUMS = UNITS + 16 * UNIT, SUM = 2 };
 
 static void fields(void) {
     ONCE(plan_cards, 0x12, 0, 1);
@@ -213,6 +243,9 @@ static void fields(void) {
         EACH(unit_at, i, 0x12345678, UNITS + UNIT * i + 1, 4);
         EACH(unit_left, i, 0x1234, UNITS + UNIT * i + 5, 2);
     }
+    for (size_t j = 0; j < 8; j++) {
+        EACH(sum_left, j, 0x1234, SUMS + SUM * j, 2);
+    }
     expect("every byte of the images is some field's", covered == sizeof image);
 
     /* A place that is not there, and values too wide. */
@@ -220,6 +253,8 @@ static void fields(void) {
     stands("no project 8", parchbeetle_project_budget(image, 8), 0, 0, 0);
     parchbeetle_set_unit_left(image, 16, 1);
     stands("no kind 16", parchbeetle_unit_left(image, 16), 0, 0, 0);
+    parchbeetle_set_sum_left(image, 8, 1);
+    stands("no sum 8", parchbeetle_sum_left(image, 8), 0, 0, 0);
     parchbeetle_set_kind_length(image, 0, 65536 + 5);
     stands("too wide", parchbeetle_kind_length(image, 0), 65535, KINDS + 5, 2);
     parchbeetle_set_state_clock(image, (uint64_t)1 << 32);
@@ -230,7 +265,7 @@ static void words(void) {
     expect("0 in words", strcmp(parchbeetle_words(0), "good") == 0);
     for (unsigned number = 1; number < 28; number++) {
         int known = strcmp(parchbeetle_words(number), parchbeetle_words(28)) != 0;
-        expect("a number in words", known == ((number < 20 && number != 16) || number == 27));
+        expect("a number in words", known == (number < 20 || number == 27));
     }
     expect("28 is no number", strcmp(parchbeetle_words(28), "no number of this version") == 0);
 }

@@ -1,5 +1,5 @@
 /* A card host: makes a plan, asks for the budget that it needs, starts on it, releases two units, and shows and runs slices until none
- * is left of them. */
+ * is left of them. Then a bit flips in its memory. */
 #include <stdio.h>
 
 #include "parchbeetle.h"
@@ -28,7 +28,7 @@ static void show(const uint8_t *state) {
     for (unsigned card = 0; card < CARDS; card++) {
         row[card] == 0 ? printf(" idle") : printf(" kind %u", row[card] - 1u);
     }
-    printf("\n");
+    printf(", %u left\n", parchbeetle_sum_left(state, 0));
 }
 
 int main(void) {
@@ -56,9 +56,12 @@ int main(void) {
     /* What was shown no longer holds, so it is shown again. */
     good("release of kind 1", parchbeetle_release(state, sizeof state, 1, 2));
     good("again", parchbeetle_release(state, sizeof state, 1, 2));
-    while (parchbeetle_unit_left(state, 0) + parchbeetle_unit_left(state, 1) > 0) {
+    while (parchbeetle_sum_left(state, 0) > 0) {
         show(state);
         parchbeetle_advance(state, sizeof state);
     }
+    /* The next call says so, whichever it is. */
+    parchbeetle_set_unit_left(state, 0, parchbeetle_unit_left(state, 0) ^ 1);
+    good("after a flipped bit", parchbeetle_advance(state, sizeof state));
     return 0;
 }

@@ -76,7 +76,14 @@ pub fn all_active(n: u16, frame: u8, d: u16) -> State {
             left: 100,
         };
     }
-    state
+    state.summed()
+}
+
+/// The same, where the last kind was never released.
+pub fn last_due(n: u16, frame: u8, d: u16) -> State {
+    let mut state = all_active(n, frame, d);
+    state.kinds[usize::from(n) - 1] = KindState::default();
+    state.summed()
 }
 
 /// A call of the stream.

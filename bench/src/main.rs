@@ -5,7 +5,9 @@
 use bench::inputs::{self, Command, Stream};
 use bench::timing::{medians, Row, Table, FEW_TURNS, SIDES, TURNS};
 use bench::tuned;
-use compare::interface::{number, plan_image, state_image, Case, Op, Side, PLAN_IMAGE};
+use compare::interface::{
+    number, plan_image, state_image, Case, Op, Side, PLAN_IMAGE, STATE_IMAGE,
+};
 use compare::proved::Proved;
 use compare::second_side::Second;
 use second::bytes::pack;
@@ -17,7 +19,7 @@ fn main() {
     println!("proved: the static library, images in and out. second: the second program, on the same images.");
     println!("tuned: the same rules in Rust, records in place. Nanoseconds are medians of {TURNS} turns of 1 ms,");
     println!("of {FEW_TURNS} turns where one call takes longer; the sides take turns. A state is copied in before each");
-    println!("single slice or half of one; no other buffer is cleared or filled. All sides gave the same before they were timed.");
+    println!("single slice, half of one or release; no other buffer is cleared or filled. All sides gave the same before they were timed.");
     if !bindings::LINKED {
         println!("\nTHE PROVED COLUMN SAYS NOTHING: the library cannot be linked here, an emulator makes its calls.");
     }
@@ -92,6 +94,13 @@ fn main() {
             let name = format!("{}, n {n}, F 64", half.name());
             table.add(half_slice(name, half, &inputs::all_active(n, 64, 4095)));
         }
+    }
+    table.print();
+
+    let mut table = Table::new("a release (as above, the last kind never released)");
+    for n in [1, 8, 16] {
+        let name = format!("n {n}, F 64");
+        table.add(release(name, &inputs::last_due(n, 64, 4095)));
     }
     table.print();
 
@@ -233,7 +242,7 @@ fn agree_on_slice(name: &str, state: &State) {
 fn half_slice(name: String, half: Half, state: &State) -> Row {
     agree_on_slice(&name, state);
     let image = state_image(state);
-    let through = |side: &dyn Side, running: &mut [u8; 256], row: &mut [u8; 8]| {
+    let through = |side: &dyn Side, running: &mut [u8; STATE_IMAGE], row: &mut [u8; 8]| {
         running.copy_from_slice(black_box(&image));
         kept(match half {
             Half::Show => side.show(black_box(running), black_box(row)),
@@ -258,11 +267,41 @@ fn half_slice(name: String, half: Half, state: &State) -> Row {
     )
 }
 
+/// A release of the last kind.
+fn release(name: String, state: &State) -> Row {
+    let (kind, e) = (u64::from(state.plan.n) - 1, 100);
+    let image = state_image(state);
+    agree(&Case::release(image.to_vec(), kind, e));
+    let mut own = *state;
+    let same = tuned::release(&mut own, kind, e) == 0 && own == second::release(state, kind, e).1;
+    stop_unless(same, "tuned differs", &name);
+    let through = |side: &dyn Side, running: &mut [u8; STATE_IMAGE]| {
+        running.copy_from_slice(black_box(&image));
+        kept(side.release(black_box(running), black_box(kind), black_box(e)));
+    };
+    let (mut one, mut other) = (image, image);
+    medians(
+        name,
+        [
+            &mut || through(&Proved, &mut one),
+            &mut || through(&Second, &mut other),
+            &mut || {
+                own = *black_box(state);
+                kept(tuned::release(
+                    black_box(&mut own),
+                    black_box(kind),
+                    black_box(e),
+                ));
+            },
+        ],
+    )
+}
+
 fn slice(name: String, state: &State) -> Row {
     agree_on_slice(&name, state);
     let image = state_image(state);
     let (mut own, mut row) = (*state, [0; 8]);
-    let through = |side: &dyn Side, running: &mut [u8; 256], row: &mut [u8; 8]| {
+    let through = |side: &dyn Side, running: &mut [u8; STATE_IMAGE], row: &mut [u8; 8]| {
         running.copy_from_slice(black_box(&image));
         kept(side.show(black_box(running), black_box(row)));
         kept(side.advance(black_box(running)));

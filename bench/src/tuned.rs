@@ -174,7 +174,7 @@ fn hold(held: &mut [u8; 128], first: u32, budget: u32, frame: u8) {
     }
 }
 
-/// What the other kinds of its project may ask for within a kind's deadline.
+/// What the other kinds of its project may ask for within a kind's deadline, by document 000's equation 3.
 fn workload(plan: &Plan, i: usize) -> u32 {
     let kinds = &plan.kinds[..usize::from(plan.n)];
     let kind = &kinds[i];
@@ -183,7 +183,8 @@ fn workload(plan: &Plan, i: usize) -> u32 {
     for (j, other) in kinds.iter().enumerate() {
         if j != i && other.project == kind.project {
             let (t, c) = (u32::from(other.separation), u32::from(other.length));
-            w += d / t * c + c.min(d % t);
+            let whole = (d + t - u32::from(other.deadline)) / t;
+            w += whole * c + c.min(d.saturating_sub(whole * t));
         }
     }
     w
@@ -308,7 +309,7 @@ pub fn fresh(plan: &Plan, state: &mut State) -> u64 {
     word
 }
 
-/// The record order and 10.
+/// The record order, 10 and 16.
 fn state_check(state: &State) -> u64 {
     let word = check(&state.plan);
     if word != 0 {
@@ -317,7 +318,8 @@ fn state_check(state: &State) -> u64 {
     if state.clock > LAST_CLOCK {
         return 10;
     }
-    let n = usize::from(state.plan.n);
+    let (p, n) = (usize::from(state.plan.p), usize::from(state.plan.n));
+    let mut sums = [0; 8];
     for (unit, kind) in state.kinds.iter().zip(&state.plan.kinds).take(n) {
         let in_form = match unit.released {
             true => unit.at <= state.clock && unit.left <= kind.length,
@@ -326,13 +328,18 @@ fn state_check(state: &State) -> u64 {
         if !in_form {
             return 10;
         }
+        sums[usize::from(kind.project) & 7] += unit.left;
     }
-    match state.kinds[n..]
-        .iter()
-        .any(|&unit| unit != KindState::default())
-    {
-        true => 10,
-        false => 0,
+    let unused = &state.kinds[n..];
+    if unused.iter().any(|&unit| unit != KindState::default()) {
+        return 10;
+    }
+    if state.sums[p..].iter().any(|&sum| sum != 0) {
+        return 10;
+    }
+    match state.sums == sums {
+        true => 0,
+        false => 16,
     }
 }
 
@@ -361,6 +368,7 @@ pub fn release(state: &mut State, kind: u64, e: u64) -> u64 {
         at: state.clock,
         left: e as u16,
     };
+    state.sums[usize::from(of_plan.project) & 7] += e as u16;
     0
 }
 
@@ -393,7 +401,9 @@ pub fn advance(state: &mut State) -> u64 {
     let mut kinds = 0u32;
     seated(state, |_, i| kinds |= 1 << i);
     while kinds != 0 {
-        state.kinds[kinds.trailing_zeros() as usize & 15].left -= 1;
+        let i = kinds.trailing_zeros() as usize & 15;
+        state.kinds[i].left -= 1;
+        state.sums[usize::from(state.plan.kinds[i].project) & 7] -= 1;
         kinds &= kinds - 1;
     }
     state.clock += 1;

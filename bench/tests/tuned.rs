@@ -3,7 +3,8 @@
 use bench::tuned;
 use compare::interface::word;
 use generate::{
-    fixed_open_budgets, fixed_plan_records, fixed_state_records, fixed_streams, Generator,
+    fixed_open_budgets, fixed_plan_records, fixed_state_records, fixed_streams, fixed_sums,
+    Generator,
 };
 use second::{Plan, State};
 
@@ -71,7 +72,8 @@ fn bytes() {
 fn states() {
     let mut g = Generator::new(53);
     let generated: Vec<State> = (0..2000).map(|_| g.state_record()).collect();
-    for state in fixed_state_records().into_iter().chain(generated) {
+    let fixed = fixed_state_records().into_iter().chain(fixed_sums());
+    for state in fixed.chain(generated) {
         let (kind, e) = g.release_numbers(&state);
         let (answer, expected) = second::release(&state, kind, e);
         let mut next = state;

@@ -46,7 +46,7 @@ impl Answer {
 }
 
 /// Each number with a short sentence, as in the header.
-pub const NUMBERS: [(u8, &str); 20] = [
+pub const NUMBERS: [(u8, &str); 21] = [
     (0, "good"),
     (1, "fewer bytes than a plan takes"),
     (2, "cards, projects, kinds or frame out of range"),
@@ -69,6 +69,7 @@ pub const NUMBERS: [(u8, &str); 20] = [
         "the kind's last release was less than its separation ago",
     ),
     (15, "slices of the kind's earlier unit are left"),
+    (16, "a stored sum differs from what is left"),
     (17, "cards out of range, or no list of kinds"),
     (18, "more than eight kinds are listed"),
     (19, "the separations' greatest common divisor exceeds 64"),

@@ -27,7 +27,7 @@ pub const LINKED: bool = cfg!(target_arch = "x86_64");
 /// Bytes of a plan image.
 pub const PLAN_IMAGE: usize = 140;
 /// Bytes of a state image.
-pub const STATE_IMAGE: usize = 256;
+pub const STATE_IMAGE: usize = 272;
 /// Bytes of a verdict: the k of each kind, then the slice of each.
 pub const VERDICT_BYTES: usize = 32;
 /// The most bytes that a plan takes.

@@ -158,6 +158,8 @@ records! {
         pub clock: u32,
         /// A place for each kind's unit.
         pub unit: [Unit; 16],
+        /// What each project has left, summed over its kinds.
+        pub sum: [u16; 8],
     }
 }
 

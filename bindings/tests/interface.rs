@@ -250,6 +250,11 @@ fn listed(header: &str, record: &str) -> Vec<(String, String)> {
                 continue;
             };
             let kind = kind[..1].to_uppercase() + &kind[1..];
+            // A place with one field alone is that number.
+            let kind = match &listed(header, &kind)[..] {
+                [(_, number)] => number.clone(),
+                _ => kind,
+            };
             before.push(match name.trim_end_matches(']').split_once('[') {
                 Some((name, places)) => (name.to_string(), format!("[{kind}; {places}]")),
                 None => (name.to_string(), kind),
@@ -276,8 +281,14 @@ fn rows(header: &str, record: &str) -> Rows {
         }
         match kind.trim_matches(['[', ']']).split_once("; ") {
             Some((kind, places)) => {
-                let fields = rows(header, kind).into_iter().flat_map(|(_, bits)| bits);
-                found.push((places.parse().unwrap_or(0), fields.collect()));
+                let fields = match kind.strip_prefix('u').and_then(leading) {
+                    Some(bits) => vec![bits],
+                    None => rows(header, kind)
+                        .into_iter()
+                        .flat_map(|(_, bits)| bits)
+                        .collect(),
+                };
+                found.push((places.parse().unwrap_or(0), fields));
             }
             None => found.extend(rows(header, &kind)),
         }
@@ -556,7 +567,7 @@ fn the_header_the_bindings_and_the_exported_functions_agree() {
     let texts = texts();
     let found = differences(&texts);
     assert!(found.is_empty(), "{}", found.join("\n"));
-    assert!(declared(&texts.header).len() >= 10);
+    assert_eq!(declared(&texts.header).len(), 11);
 }
 
 #[test]
@@ -611,18 +622,22 @@ fn one_thing_changed_on_one_side_is_found() {
         (code, "[Unit; ", "[Other; "),
         (images, "unitWidths = 8 ∷ 32", "unitWidths = 32 ∷ 8"),
         (images, "row 8 projectWidths", "row 9 projectWidths"),
+        (header, "sum sum[8]", "sum sum[9]"),
+        (header, "field(left, 2)        /* slices left of all", "field(left, 4)        /* slices left of all"),
+        (bindings, "pub sum: [u16; 8]", "pub sum: [u32; 8]"),
+        (code, "pub sum: [u16; ", "pub sums: [u16; "),
         // A size.
         (header, "PLAN_IMAGE 140u", "PLAN_IMAGE 141u"),
         (header, "VERDICT_BYTES 32u", "VERDICT_BYTES 16u"),
         (bindings, "MOST_ROW_BYTES: usize = 8", "MOST_ROW_BYTES: usize = 16"),
         // A number: its words, one that is not given, one that is not listed or not said of any function.
         (header, "there is no such kind", "no such kind"),
-        (bindings, "(13, ", "(16, "),
-        (header, "number(15, \"slices", "number(16, \"slices"),
-        (code, "struct Plan {", "bare(16) struct Plan {"),
+        (bindings, "(13, ", "(28, "),
+        (header, "number(15, \"slices", "number(28, \"slices"),
+        (code, "struct Plan {", "bare(28) struct Plan {"),
         (header, "12, 13, 14, 15.", "12, 13, 14."),
         (header, "2, 3, 27, 4", "2, 3, 4"),
-        (header, "17 (cards", "16 (cards"),
+        (header, "17 (cards", "28 (cards"),
         (version, ".", ".1."),
         (header, "VERSION_MINOR ", "VERSION_MINOR 9"),
     ] {
@@ -726,6 +741,7 @@ fn the_records_are_what_the_library_reads_and_writes() {
         at: 1,
         left: 1,
     };
+    expected.sum[1] = 1;
     assert_eq!(state, expected);
     assert_eq!(State::of_image(&state.image()), state);
 
@@ -742,6 +758,14 @@ fn the_records_are_what_the_library_reads_and_writes() {
         "the kind's last release was less than its separation ago"
     );
     assert_eq!(state, expected);
+
+    state.sum[1] ^= 1;
+    let flipped = state;
+    for refused in [state.release(0, 1), state.show(&mut row), state.advance()] {
+        assert_eq!(refused.map_err(|answer| answer.number), Err(16));
+    }
+    assert_eq!(state, flipped);
+    assert_eq!(in_words(16), "a stored sum differs from what is left");
 }
 
 #[test]
@@ -761,7 +785,9 @@ fn the_sizes_are_the_librarys() {
         (PLAN_IMAGE, &|size| {
             build(1, &[0, 2, 0, 1], &mut vec![0; size])
         }),
-        (PLAN_IMAGE, &|size| fresh(&plan[..size], &mut [0; 256])),
+        (PLAN_IMAGE, &|size| {
+            fresh(&plan[..size], &mut [0; STATE_IMAGE])
+        }),
         (STATE_IMAGE, &|size| fresh(&plan, &mut vec![0; size])),
         (STATE_IMAGE, &|size| release(&mut copy(size), 0, 1)),
         (STATE_IMAGE, &|size| show(&state[..size], &mut [0; 2])),

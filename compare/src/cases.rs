@@ -6,16 +6,18 @@
 //! bytes whole and damaged, states on it, and a run from its fresh start, step by step.
 
 use crate::interface::{
-    plan_image, plan_of, state_image, state_of, Case, Op, PLAN_IMAGE, STATE_IMAGE, VERDICT_BYTES,
+    plan_image, plan_of, state_image, state_of, Case, Op, PLAN_IMAGE, STATE_IMAGE, SUMS_AT,
+    UNITS_AT, VERDICT_BYTES,
 };
 use generate::{
     fixed_lists, fixed_open_budgets, fixed_plan_records, fixed_state_records, fixed_streams,
-    list_bytes, spare_bits, Generator,
+    fixed_sums, list_bytes, spare_bits, Generator,
 };
 use second::bytes::{pack, plan_bytes};
 use second::play::{command, Command};
 use second::rack::LAST_CLOCK;
 use second::{Kind, KindState, Plan, Project, State};
+use std::sync::OnceLock;
 
 /// The calls made on one image or one string of plan bytes.
 pub type Record = Vec<Case>;
@@ -46,6 +48,8 @@ pub enum Fixed {
     Plan(Plan),
     /// Releases, showings and an advance of a state.
     State(State),
+    /// A few of each, of a state whose sums may differ.
+    Sums(State),
     /// Plan bytes, read.
     Bytes(Vec<u8>),
     /// One call.
@@ -54,9 +58,15 @@ pub enum Fixed {
     Released(Plan, usize, u8),
 }
 
-/// Each refusal at each place, each boundary of a budget left open and of a list, each length of each buffer, each released
-/// byte, and all plans and states of a small size.
-pub fn fixed() -> Vec<Fixed> {
+/// Each refusal at each place, each boundary of a budget left open and of a list, each sum that differs, each length of each buffer,
+/// each released byte, and all plans and states of a small size.
+pub fn fixed() -> &'static [Fixed] {
+    // The self-test takes them once for each fault.
+    static FIXED: OnceLock<Vec<Fixed>> = OnceLock::new();
+    FIXED.get_or_init(all_fixed)
+}
+
+fn all_fixed() -> Vec<Fixed> {
     let plans = fixed_plan_records().into_iter().chain(small_plans());
     let states = fixed_state_records().into_iter().chain(small_states());
     let bytes = fixed_streams().into_iter().map(|stream| stream.bytes);
@@ -71,6 +81,7 @@ pub fn fixed() -> Vec<Fixed> {
         )
         .chain(open.map(|(plan, project)| Fixed::Call(open_budget(&plan, project))))
         .chain(states.map(Fixed::State))
+        .chain(fixed_sums().into_iter().map(Fixed::Sums))
         .chain(bytes.map(Fixed::Bytes))
         .chain(lengths().into_iter().map(Fixed::Call))
         .chain(released_bytes())
@@ -83,6 +94,7 @@ impl Fixed {
         match self {
             Fixed::Plan(plan) => on_plan(plan),
             Fixed::State(state) => on_state(state),
+            Fixed::Sums(state) => on_sums(state),
             Fixed::Bytes(bytes) => {
                 let read = |count| Case::new(Op::Read, bytes.clone(), vec![0xEE; count]);
                 vec![read(PLAN_IMAGE), read(PLAN_IMAGE - 1)]
@@ -152,6 +164,20 @@ fn on_state(state: &State) -> Record {
     record
 }
 
+/// A showing with room and one without, an advance, and releases: good, of no kind, and of a kind with slices left.
+fn on_sums(state: &State) -> Record {
+    let image = state_image(state).to_vec();
+    let m = needed(Op::Show, &state.plan);
+    vec![
+        Case::release(image.clone(), 0, 1),
+        Case::release(image.clone(), 3, 1),
+        Case::release(image.clone(), 16, 0),
+        Case::new(Op::Show, image.clone(), vec![0xEE; m]),
+        Case::new(Op::Show, image.clone(), Vec::new()),
+        Case::new(Op::Advance, image, Vec::new()),
+    ]
+}
+
 /// Every length of every buffer, from none to two more than needed.
 fn lengths() -> Vec<Case> {
     let mut cases = Vec::new();
@@ -209,7 +235,7 @@ fn on_released(plan: &Plan, place: usize, value: u8) -> Record {
         ..State::default()
     };
     let mut image = state_image(&state).to_vec();
-    image[PLAN_IMAGE + 4 + 7 * place] = value;
+    image[UNITS_AT + 7 * place] = value;
     vec![
         Case::release(image.clone(), 0, 1),
         Case::release(image.clone(), 12, 1),
@@ -269,7 +295,7 @@ fn small_states() -> Vec<State> {
                         ..State::default()
                     };
                     state.kinds[..3].copy_from_slice(&[first, second, third]);
-                    states.push(state);
+                    states.push(state.summed());
                 }
             }
         }
@@ -617,7 +643,7 @@ fn state_records(g: &mut Generator, state: &mut State, records: &mut Vec<Record>
 fn state_record(g: &mut Generator, image: &[u8; STATE_IMAGE]) -> Record {
     let mut readable = *image;
     for place in 0..16 {
-        readable[PLAN_IMAGE + 4 + 7 * place] = readable[PLAN_IMAGE + 4 + 7 * place].min(1);
+        readable[UNITS_AT + 7 * place] = readable[UNITS_AT + 7 * place].min(1);
     }
     let state = state_of(&readable).unwrap_or_default();
     let (kind, e) = g.release_numbers(&state);
@@ -637,7 +663,7 @@ fn nudge_state(g: &mut Generator, image: &mut [u8; STATE_IMAGE]) {
         0 => g.below(16),
         _ => g.below(n),
     };
-    let at = PLAN_IMAGE + 4 + 7 * place as usize;
+    let at = UNITS_AT + 7 * place as usize;
     let add = |g: &mut Generator, field: &mut [u8]| {
         // One more or one less, as one big-endian number.
         let up = g.one_in(2);
@@ -652,7 +678,12 @@ fn nudge_state(g: &mut Generator, image: &mut [u8; STATE_IMAGE]) {
             }
         }
     };
-    match g.below(10) {
+    let project = match g.below(8) {
+        0 => g.below(8),
+        _ => g.below(u64::from(image[1]).clamp(1, 8)),
+    };
+    let sum = SUMS_AT + 2 * project as usize;
+    match g.below(13) {
         0 => image[g.below(STATE_IMAGE as u64) as usize] = g.number() as u8,
         1 => image[at] = g.number() as u8,
         2 => image[at] ^= 1,
@@ -662,7 +693,19 @@ fn nudge_state(g: &mut Generator, image: &mut [u8; STATE_IMAGE]) {
         }
         4 | 5 => add(g, &mut image[PLAN_IMAGE..PLAN_IMAGE + 4]),
         6 | 7 => add(g, &mut image[at + 1..at + 5]),
+        8 => add(g, &mut image[sum..sum + 2]),
+        9 => image[sum + g.below(2) as usize] ^= 1 << g.below(8),
+        10 => {
+            // Two sums changed over.
+            let other = SUMS_AT + 2 * g.below(8) as usize;
+            image.swap(sum, other);
+            image.swap(sum + 1, other + 1);
+        }
         _ => add(g, &mut image[at + 5..at + 7]),
+    }
+    // The sums go with what is left, or do not.
+    if let (true, Some(state)) = (g.one_in(2), state_of(image)) {
+        *image = state_image(&state.summed());
     }
 }
 

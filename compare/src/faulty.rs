@@ -5,15 +5,15 @@
 //! agree with the second program, so that a fault is found for what it is.
 
 use crate::interface::{
-    number, plan_image, plan_of, refused, state_image, word, Side, PLAN_IMAGE, STATE_IMAGE,
-    VERDICT_BYTES,
+    number, plan_image, plan_of, refused, state_image, word, Op, Side, PLAN_IMAGE, STATE_IMAGE,
+    SUMS_AT, UNITS_AT, VERDICT_BYTES,
 };
 use crate::second_side::{state_or_refuse, Second};
 use second::layout::{cards_held, cells, h, h_of_cells};
 use second::one_kind::listed;
 use second::plan::budgets_sum_above;
 use second::play::{command, Command};
-use second::rack::{in_form, LAST_CLOCK};
+use second::rack::{a_stored_sum_differs, in_form, sum_of_what_is_left, LAST_CLOCK};
 use second::supply::supply_and_slice;
 use second::verdict::{ceiling_of, excess, least_k, workload};
 use second::{Answer, Plan, State};
@@ -107,12 +107,28 @@ pub enum Fault {
     AdvanceGoesOn,
     AdvanceRemembers,
     PlayRowAfter,
+    SumNotRaised,
+    SumRaisedByLength,
+    SumNotLowered,
+    SumLoweredByHeld,
+    SumOfAll,
+    SumAtMost,
+    SumLowByte,
+    SumBeyond,
+    SumRepaired,
+    SumRepairedBySixteen,
+    SumBytes,
+    SixteenFirst,
+    SixteenInShow,
+    SixteenAfterNine,
+    SixteenAfterTwelve,
+    SixteenPlace,
 }
 
 use Fault::*;
 
 /// Each fault that records must show: its name and what it is.
-pub const RECORD_FAULTS: [(Fault, &str, &str); 71] = [
+pub const RECORD_FAULTS: [(Fault, &str, &str); 87] = [
     (SumFirst, "sum-first", "7 is told before 4"),
     (FiveFirst, "five-first", "all kinds for 5 before any 6"),
     (
@@ -380,6 +396,70 @@ pub const RECORD_FAULTS: [(Fault, &str, &str); 71] = [
         "build-nine-first",
         "a short plan is told before 7",
     ),
+    (
+        SumNotRaised,
+        "sum-not-raised",
+        "a release leaves the sum as it was",
+    ),
+    (
+        SumRaisedByLength,
+        "sum-raised-by-c",
+        "a release raises the sum by C",
+    ),
+    (
+        SumNotLowered,
+        "sum-not-lowered",
+        "an advance leaves the sums as they were",
+    ),
+    (
+        SumLoweredByHeld,
+        "sum-by-held",
+        "an advance lowers a sum by the cards held",
+    ),
+    (
+        SumOfAll,
+        "sum-of-all",
+        "only the sum of all projects is compared",
+    ),
+    (SumAtMost, "sum-at-most", "a sum that is too small passes"),
+    (
+        SumLowByte,
+        "sum-low-byte",
+        "only the low byte of a sum is compared",
+    ),
+    (
+        SumBeyond,
+        "sum-beyond",
+        "the sums beyond p are not looked at",
+    ),
+    (
+        SumRepaired,
+        "sum-repaired",
+        "a release puts a sum right instead of telling 16",
+    ),
+    (
+        SumRepairedBySixteen,
+        "sum-put-right",
+        "16 is told, and the sums given back are put right",
+    ),
+    (
+        SumBytes,
+        "sum-bytes",
+        "a sum's low byte stands first in the image",
+    ),
+    (SixteenFirst, "sixteen-first", "16 is told before 10"),
+    (SixteenInShow, "sixteen-in-show", "16 is told by show alone"),
+    (SixteenAfterNine, "sixteen-after-9", "16 is told after 9"),
+    (
+        SixteenAfterTwelve,
+        "sixteen-after-12",
+        "16 is told after 12",
+    ),
+    (
+        SixteenPlace,
+        "sixteen-place",
+        "16 has the first such project for its place",
+    ),
 ];
 
 /// Each fault that streams must show.
@@ -471,11 +551,81 @@ impl Faulty {
         }
         if self.is(ReleasedByte) && size == STATE_IMAGE {
             for place in 0..16 {
-                let released = &mut seen[PLAN_IMAGE + 4 + 7 * place];
+                let released = &mut seen[UNITS_AT + 7 * place];
                 *released = (*released).min(1);
             }
         }
+        if size == STATE_IMAGE {
+            self.turn_sums(&mut seen);
+        }
         seen
+    }
+
+    /// The bytes of the sums in the order in which this copy has them.
+    fn turn_sums(&self, image: &mut [u8]) {
+        if self.is(SumBytes) {
+            for sum in image[SUMS_AT..STATE_IMAGE].chunks_exact_mut(2) {
+                sum.swap(0, 1);
+            }
+        }
+    }
+
+    /// Whether a function of this copy takes the stored sums for those of what is left.
+    fn passes_sums(&self, op: Op, state: &State) -> bool {
+        let below = 0..usize::from(state.plan.p).min(8);
+        let mut pairs = below.map(|project| {
+            let stored = u64::from(state.sums[project]);
+            (stored, sum_of_what_is_left(state, project))
+        });
+        match self.0 {
+            SumOfAll => {
+                let (stored, left): (Vec<_>, Vec<_>) = pairs.unzip();
+                stored.iter().sum::<u64>() == left.iter().sum()
+            }
+            SumAtMost => pairs.all(|(stored, left)| stored <= left),
+            SumLowByte => pairs.all(|(stored, left)| stored % 256 == left % 256),
+            SumRepaired => op == Op::Release,
+            SixteenInShow => op != Op::Show,
+            _ => false,
+        }
+    }
+
+    /// A function on a state, by this copy's rules about the sums.
+    fn summed(
+        &self,
+        op: Op,
+        state: &State,
+        call: impl FnOnce(&State) -> (Answer, State),
+    ) -> (Answer, State) {
+        let mut seen = *state;
+        let p = usize::from(state.plan.p).min(8);
+        if self.is(SumBeyond) {
+            seen.sums[p..].fill(0);
+        }
+        // What is beyond p is looked at all the same.
+        if self.passes_sums(op, state) {
+            seen = seen.summed();
+            seen.sums[p..].copy_from_slice(&state.sums[p..]);
+        }
+        let (mut answer, mut next) = call(&seen);
+        match (self.0, answer.number) {
+            (SixteenFirst, 10) if a_stored_sum_differs(state) => answer.number = 16,
+            (SixteenPlace, 16) => {
+                let differs = |&project: &usize| {
+                    u64::from(state.sums[project]) != sum_of_what_is_left(state, project)
+                };
+                answer.place = (0..8).find(differs).unwrap_or(0) as u64;
+            }
+            _ => {}
+        }
+        // The stored sums are raised and lowered, not put right.
+        if !self.is(SumRepaired) {
+            for (place, sum) in next.sums.iter_mut().enumerate() {
+                let moved = sum.wrapping_sub(seen.sums[place]);
+                *sum = state.sums[place].wrapping_add(moved);
+            }
+        }
+        (answer, next)
     }
 
     /// A refusal by the record order, with this copy's order.
@@ -514,15 +664,26 @@ impl Faulty {
     }
 
     /// A function on a state image, changed in place when this copy's answer is good.
-    fn on_state(&self, image: &mut [u8], call: impl FnOnce(&State) -> (Answer, State)) -> u64 {
+    fn on_state(
+        &self,
+        op: Op,
+        image: &mut [u8],
+        call: impl FnOnce(&State) -> (Answer, State),
+    ) -> u64 {
         let seen = self.seen(image, STATE_IMAGE);
         match state_or_refuse(&seen) {
             Ok(state) => {
-                let (answer, next) = call(&state);
+                let (answer, mut next) = self.summed(op, &state, call);
                 let word = self.order(&state.plan, word(answer, 0));
-                if number(word) == 0 {
+                let repairs = self.is(SumRepairedBySixteen) && number(word) == 16;
+                if repairs {
+                    next = state.summed();
+                }
+                if number(word) == 0 || repairs {
+                    let mut after = state_image(&next);
+                    self.turn_sums(&mut after);
                     let count = image.len().min(STATE_IMAGE);
-                    image[..count].copy_from_slice(&state_image(&next)[..count]);
+                    image[..count].copy_from_slice(&after[..count]);
                 }
                 word
             }
@@ -810,13 +971,24 @@ impl Faulty {
 
     fn released(&self, state: &State, kind: u64, e: u64) -> (Answer, State) {
         let kind = if self.is(LowByte) { kind % 256 } else { kind };
-        let (answer, next) = second::release(state, kind, e);
+        let (mut answer, mut next) = second::release(state, kind, e);
+        if self.is(SixteenAfterTwelve) && answer.number == 16 && kind >= u64::from(state.plan.n) {
+            answer.number = 12;
+        }
         let (Some(place), Some(of_plan)) = (
             state.kinds.get(kind as usize),
             state.plan.kinds.get(kind as usize),
         ) else {
             return (answer, next);
         };
+        let project = usize::from(of_plan.project);
+        if let (true, Some(sum)) = (answer.is_good(), state.sums.get(project)) {
+            match self.0 {
+                SumNotRaised => next.sums = state.sums,
+                SumRaisedByLength => next.sums[project] = sum + of_plan.length,
+                _ => {}
+            }
+        }
         let gone = u64::from(state.clock.saturating_sub(place.at));
         let t = u64::from(of_plan.separation);
         match (self.0, answer.number) {
@@ -856,11 +1028,16 @@ impl Faulty {
     }
 
     fn shown(&self, state: &State, row: &mut [u8]) -> Answer {
-        let in_order = second::check(&state.plan).is_good() && in_form(state);
+        let in_order =
+            second::check(&state.plan).is_good() && in_form(state) && !a_stored_sum_differs(state);
         if self.is(ElevenFirst) && in_order && state.clock == LAST_CLOCK {
             return Answer::refused(11);
         }
-        let answer = second::show(state, &mut row.to_vec());
+        let mut answer = second::show(state, &mut row.to_vec());
+        let short = row.len() < usize::from(state.plan.m);
+        if self.is(SixteenAfterNine) && answer.number == 16 && short {
+            answer.number = 9;
+        }
         let at_the_end = self.is(ShowWithout11) && answer.number == 11;
         if !answer.is_good() && !at_the_end {
             return answer;
@@ -889,10 +1066,27 @@ impl Faulty {
             _ => self.chosen(state),
         };
         next.kinds = state.kinds;
+        next.sums = state.sums;
         for (_, i) in chosen {
-            if !(self.is(FirstFrame) && state.clock >= u32::from(state.plan.frame)) {
-                next.kinds[i].left = next.kinds[i].left.saturating_sub(1);
+            let stands = self.is(FirstFrame) && state.clock >= u32::from(state.plan.frame);
+            let left = &mut next.kinds[i].left;
+            if *left > 0 && !stands {
+                *left -= 1;
+                let sum = &mut next.sums[usize::from(state.plan.kinds[i].project)];
+                *sum = sum.saturating_sub(1);
             }
+        }
+        match self.0 {
+            SumNotLowered => next.sums = state.sums,
+            SumLoweredByHeld => {
+                let cells = cells(&state.plan);
+                let now = u64::from(state.clock) % u64::from(state.plan.frame);
+                for project in 0..usize::from(state.plan.p) {
+                    let held = cards_held(&cells, project, now).len() as u16;
+                    next.sums[project] = state.sums[project].saturating_sub(held);
+                }
+            }
+            _ => {}
         }
         (Answer::GOOD, next)
     }
@@ -1020,19 +1214,21 @@ impl Side for Faulty {
     }
 
     fn release(&self, state: &mut [u8], kind: u64, e: u64) -> u64 {
-        self.on_state(state, |state| self.released(state, kind, e))
+        self.on_state(Op::Release, state, |state| self.released(state, kind, e))
     }
 
     fn show(&self, state: &[u8], row: &mut [u8]) -> u64 {
         let m = state.first().map_or(0, |&m| usize::from(m));
         // A showing keeps the state.
         let mut kept = state.to_vec();
-        let word = self.on_state(&mut kept, |state| (self.shown(state, row), *state));
+        let word = self.on_state(Op::Show, &mut kept, |state| {
+            (self.shown(state, row), *state)
+        });
         self.after(word, row, m)
     }
 
     fn advance(&self, state: &mut [u8]) -> u64 {
-        self.on_state(state, |state| self.advanced(state))
+        self.on_state(Op::Advance, state, |state| self.advanced(state))
     }
 }
 

@@ -6,7 +6,11 @@ use std::fmt;
 /// Bytes of a plan image.
 pub const PLAN_IMAGE: usize = 140;
 /// Bytes of a state image.
-pub const STATE_IMAGE: usize = 256;
+pub const STATE_IMAGE: usize = 272;
+/// Where the units begin in a state image: behind the plan and the clock.
+pub const UNITS_AT: usize = PLAN_IMAGE + 4;
+/// Where the sums begin: behind sixteen units of seven bytes.
+pub const SUMS_AT: usize = UNITS_AT + 16 * 7;
 /// Bytes of a verdict: the k of each kind, then the slice of each.
 pub const VERDICT_BYTES: usize = 32;
 
@@ -147,7 +151,7 @@ pub fn plan_image(plan: &Plan) -> [u8; PLAN_IMAGE] {
     bytes
 }
 
-/// The state that an image of at least 256 bytes holds; none when a released byte is neither 0 nor 1.
+/// The state that an image of at least 272 bytes holds; none when a released byte is neither 0 nor 1.
 pub fn state_of(image: &[u8]) -> Option<State> {
     let mut fields = Fields { bytes: image };
     let mut state = State {
@@ -166,6 +170,9 @@ pub fn state_of(image: &[u8]) -> Option<State> {
             left: fields.u16(),
         };
     }
+    for sum in &mut state.sums {
+        *sum = fields.u16();
+    }
     Some(state)
 }
 
@@ -182,6 +189,9 @@ pub fn state_image(state: &State) -> [u8; STATE_IMAGE] {
         image.put(&[u8::from(place.released)]);
         image.put(&place.at.to_be_bytes());
         image.put(&place.left.to_be_bytes());
+    }
+    for sum in &state.sums {
+        image.put(&sum.to_be_bytes());
     }
     bytes
 }
@@ -423,6 +433,13 @@ pub fn image_in_words(case: &Case) -> Option<String> {
         line += &format!(", clock {}, released, at, left", fields.u32());
         for _ in plan.used_kinds() {
             line += &format!(" ({},{},{})", fields.u8(), fields.u32(), fields.u16());
+        }
+        let mut fields = Fields {
+            bytes: &image[SUMS_AT..],
+        };
+        line += ", sums";
+        for _ in 0..8 {
+            line += &format!(" {}", fields.u16());
         }
     }
     Some(line)

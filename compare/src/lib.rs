@@ -9,6 +9,7 @@
 
 pub mod cases;
 pub mod faulty;
+pub mod flips;
 pub mod interface;
 pub mod proved;
 pub mod run;

@@ -14,13 +14,14 @@ use std::process::ExitCode;
 use std::time::Instant;
 
 const USAGE: &str = "\
-usage: compare --play PLAYER [--seed N] [--count N] [--streams N] [--one-in N] [--numbers]
+usage: compare --play PLAYER [--seed N] [--count N] [--flips N] [--streams N] [--one-in N] [--numbers]
        compare --self-test [--seed N]
        compare --again 'CALL' | --again 'stream HEX' --play PLAYER
 
   --play PLAYER the words that start the proved player, an emulator's before its own; not needed with --streams 0
   --seed N      the seed of the generated cases (1)
   --count N     about so many generated records, beside the fixed ones (1000000)
+  --flips N     about so many reached states in which each bit of a sum or of slices left is flipped (3000)
   --streams N   generated streams, beside the fixed ones (20000); 0: no streams at all
   --one-in N    of the fixed streams one in N, beside those that document 01 gives or that fail (1)
   --numbers     also shows how often each number was given back
@@ -34,6 +35,7 @@ struct Arguments {
     play: Option<String>,
     seed: u64,
     count: u64,
+    flips: u64,
     streams: u64,
     one_in: usize,
     numbers: bool,
@@ -47,6 +49,7 @@ fn arguments() -> Result<Arguments, String> {
         play: None,
         seed: 1,
         count: 1_000_000,
+        flips: 3_000,
         streams: 20_000,
         one_in: 1,
         numbers: false,
@@ -66,6 +69,7 @@ fn arguments() -> Result<Arguments, String> {
             "--play" => found.play = Some(value()?),
             "--seed" => found.seed = number(value()?)?,
             "--count" => found.count = number(value()?)?,
+            "--flips" => found.flips = number(value()?)?,
             "--streams" => found.streams = number(value()?)?,
             "--one-in" => found.one_in = number(value()?)?.max(1) as usize,
             "--numbers" => found.numbers = true,
@@ -118,6 +122,7 @@ fn run(arguments: &Arguments) -> io::Result<Result<u8, String>> {
         fixed: true,
         generated,
         one_in: arguments.one_in,
+        flips: arguments.flips,
         seed: arguments.seed,
     };
     let found = records(&Proved, part(arguments.count), &mut tally);
@@ -136,6 +141,7 @@ fn run(arguments: &Arguments) -> io::Result<Result<u8, String>> {
     if let Some(difference) = &difference {
         print!("{difference}");
     }
+    println!("{}", tally.flips.in_words());
     println!(
         "compared {} records ({} calls) and {} streams ({} lines), seed {}, {} s: {}",
         tally.records,
@@ -194,16 +200,18 @@ fn again(line: &str, arguments: &Arguments) -> io::Result<Result<u8, String>> {
 fn self_test(seed: u64) -> io::Result<bool> {
     const RECORDS: u64 = 100_000;
     const STREAMS: u64 = 2_000;
+    const FLIPS: u64 = 25;
     let start = Instant::now();
     let mut good = true;
     let parts = |generated| {
-        let part = |fixed, generated| Part {
+        let part = |fixed, generated, flips| Part {
             fixed,
             generated,
             one_in: 1,
+            flips,
             seed,
         };
-        [part(true, 0), part(false, generated)]
+        [part(true, 0, 0), part(false, generated, FLIPS)]
     };
     let mut tell = |name: &str, what: &str, unit: &str, after: [Option<u64>; 2]| {
         // The fixed and the generated cases together are one comparison.
@@ -244,6 +252,7 @@ fn self_test(seed: u64) -> io::Result<bool> {
         fixed: true,
         generated,
         one_in: 1,
+        flips: FLIPS,
         seed,
     };
     let mut tally = Tally::default();

@@ -1,7 +1,10 @@
 //! The comparison itself: the first difference, and how much was compared before it.
 
 use crate::cases::{self, Fixed, Rounds};
-use crate::interface::{hex, image_in_words, number, outcome_in_words, Case, Outcome, Side, OPS};
+use crate::flips::{self, Told, STATES_A_RUN};
+use crate::interface::{
+    hex, image_in_words, number, outcome_in_words, refused, Case, Outcome, Side, OPS,
+};
 use crate::second_side::Second;
 use crate::shrink::{smaller_case, smaller_stream};
 use crate::streams::{self, second_plays, End, Program, Stream};
@@ -27,6 +30,8 @@ pub struct Tally {
     pub streams: u64,
     /// Lines that they printed.
     pub lines: u64,
+    /// Flipped bits in states, and what the compared side said to them.
+    pub flips: Told,
 }
 
 /// The most bytes of a stream that are printed, and that are tried to be made fewer.
@@ -36,7 +41,7 @@ const MOST_SHOWN: usize = 60_000;
 pub struct RecordDifference {
     /// The call.
     pub case: Case,
-    /// What document 01 gives for it, where it does, and where it says so.
+    /// What the documents give for it, where they do, and where they say so.
     pub expected: Option<(&'static str, Outcome)>,
 }
 
@@ -55,6 +60,8 @@ pub struct Part {
     pub generated: u64,
     /// Of the fixed streams one in so many, beside those that document 01 gives or that fail.
     pub one_in: usize,
+    /// About so many reached states in which each bit of a sum or of slices left is flipped.
+    pub flips: u64,
     /// The seed of the generated cases.
     pub seed: u64,
 }
@@ -141,7 +148,56 @@ pub fn records(
         let mut records = rounds.round(round).into_iter();
         records.find_map(|record| record_differs(side, record, tally))
     };
-    in_order(part.generated.div_ceil(Rounds::RECORDS), work, tally)
+    let found = in_order(part.generated.div_ceil(Rounds::RECORDS), work, tally);
+    if found.is_some() {
+        return found;
+    }
+    let work = |at: u64, tally: &mut Tally| {
+        let (mut g, states) = flips::run(part.seed, at);
+        let mut states = states.iter();
+        states.find_map(|state| flip_differs(side, flips::calls(&mut g, state), tally))
+    };
+    in_order(part.flips.div_ceil(STATES_A_RUN), work, tally)
+}
+
+/// The calls on a state as it is, and on the state with each bit flipped; a flip that is not told differs from what document 02 says.
+fn flip_differs(side: &impl Side, calls: Vec<Case>, tally: &mut Tally) -> Option<RecordDifference> {
+    let flipped: Vec<_> = flips::flipped(&calls).collect();
+    tally.flips.states += 1;
+    let found = record_differs(side, calls, tally);
+    if found.is_some() {
+        return found;
+    }
+    for record in flipped {
+        tally.records += 1;
+        let mut told = Vec::new();
+        for case in record {
+            tally.calls += 1;
+            let expected = case.run(&Second);
+            tally.numbers[case.op as usize][number(expected.word) as usize % NUMBERS] += 1;
+            let outcome = case.run(side);
+            if outcome != expected {
+                return Some(RecordDifference {
+                    case,
+                    expected: None,
+                });
+            }
+            told.push((case, outcome));
+        }
+        if !tally.flips.count(&told) {
+            let (case, outcome) = told.swap_remove(0);
+            let expected = Outcome {
+                word: refused(16),
+                given: case.given.clone(),
+                ..outcome
+            };
+            return Some(RecordDifference {
+                case,
+                expected: Some(("(vii): a flipped bit is told by every call", expected)),
+            });
+        }
+    }
+    None
 }
 
 fn record_differs(
@@ -212,7 +268,7 @@ impl RecordDifference {
     pub fn in_words(&self, side: &impl Side, name: &str) -> String {
         let (heading, case) = match &self.expected {
             Some((place, _)) => (
-                format!("not as document 01 says ({place})"),
+                format!("not as the documents say ({place})"),
                 self.case.clone(),
             ),
             None => {
@@ -233,7 +289,7 @@ impl RecordDifference {
             Some((_, expected)) => {
                 tell(name, &one, expected);
                 tell("second", &other, expected);
-                tell("01", expected, &one);
+                tell("said", expected, &one);
             }
             None => {
                 tell(name, &one, &other);
@@ -308,6 +364,7 @@ impl Tally {
         self.calls += other.calls;
         self.streams += other.streams;
         self.lines += other.lines;
+        self.flips.add(&other.flips);
         for (own, other) in self.numbers.iter_mut().zip(&other.numbers) {
             for (own, other) in own.iter_mut().zip(other) {
                 *own += other;

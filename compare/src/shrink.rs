@@ -1,6 +1,6 @@
 //! A first difference made small: bytes are taken away and lowered as long as the difference stays.
 
-use crate::interface::{Case, Op, PLAN_IMAGE, STATE_IMAGE};
+use crate::interface::{Case, Op, PLAN_IMAGE, STATE_IMAGE, SUMS_AT, UNITS_AT};
 
 /// At most so many tries.
 const TRIES: u32 = 20_000;
@@ -26,6 +26,43 @@ impl<T: PartialEq> Smallest<'_, T> {
     }
 }
 
+impl Smallest<'_, Case> {
+    /// First with the stored sums moved as what is left has been, then as it is.
+    fn try_with_sums(&mut self, tried: Case) -> bool {
+        let moved = with_sums_moved(&self.best, &tried);
+        self.try_one(moved) || self.try_one(tried)
+    }
+}
+
+/// A state image with each stored sum changed by as much as what its project has left.
+fn with_sums_moved(before: &Case, tried: &Case) -> Case {
+    let mut moved = tried.clone();
+    let (was, is) = (left_by_project(before), left_by_project(tried));
+    for (place, (was, is)) in was.into_iter().zip(is).enumerate() {
+        let at = SUMS_AT + 2 * place;
+        if let Some([high, low]) = moved.given.get_mut(at..at + 2) {
+            let sum = u16::from_be_bytes([*high, *low]);
+            [*high, *low] = sum.wrapping_add(is.wrapping_sub(was)).to_be_bytes();
+        }
+    }
+    moved
+}
+
+/// What each project has left in a state image; nothing in any other.
+fn left_by_project(case: &Case) -> [u16; 8] {
+    let mut left = [0u16; 8];
+    let image = &case.given;
+    if matches!(case.op, Op::Release | Op::Show | Op::Advance) && image.len() >= STATE_IMAGE {
+        for kind in 0..usize::from(image[2]).min(16) {
+            let unit = UNITS_AT + 7 * kind;
+            let project = usize::from(image[28 + 7 * kind]) % 8;
+            let own = u16::from_be_bytes([image[unit + 5], image[unit + 6]]);
+            left[project] = left[project].wrapping_add(own);
+        }
+    }
+    left
+}
+
 /// A smaller call on which the two sides still differ.
 pub fn smaller_case(case: &Case, differs: &mut dyn FnMut(&Case) -> bool) -> Case {
     let mut smallest = Smallest {
@@ -36,7 +73,8 @@ pub fn smaller_case(case: &Case, differs: &mut dyn FnMut(&Case) -> bool) -> Case
     loop {
         let mut better = false;
         for kind in (0..16).rev() {
-            better |= smallest.try_one(without_kind(&smallest.best, kind));
+            let tried = without_kind(&smallest.best, kind);
+            better |= smallest.try_with_sums(tried);
         }
         for place in (0..smallest.best.given.len()).rev() {
             better |= lower_byte(&mut smallest, place, |case| &mut case.given);
@@ -88,7 +126,7 @@ fn lower_byte(
             return false;
         }
         bytes[place] = lower(bytes[place]);
-        if smallest.try_one(tried) {
+        if smallest.try_with_sums(tried) {
             return true;
         }
     }
@@ -112,7 +150,7 @@ fn without_kind(case: &Case, kind: usize) -> Case {
     };
     move_up(28);
     if matches!(case.op, Op::Release | Op::Show | Op::Advance) && case.given.len() >= STATE_IMAGE {
-        move_up(PLAN_IMAGE + 4);
+        move_up(UNITS_AT);
     }
     if case.op == Op::Release && tried.numbers[0] > kind as u64 {
         tried.numbers[0] -= 1;

@@ -240,6 +240,7 @@ pub fn table() -> Vec<Named> {
         at: 4,
         left: 2,
     };
+    state.sums[1] = 2;
     table.good("release at exactly T passes", case, 0, &[]);
     if let Some(row) = table.rows.last_mut() {
         row.expected.given = state_image(&state).to_vec();
@@ -250,6 +251,7 @@ pub fn table() -> Vec<Named> {
     let case = advancing(&state);
     let mut after = State { clock: 5, ..state };
     after.kinds[1].left = 1;
+    after.sums[1] = 1;
     table.good("(iv), advanced", case, 0, &[]);
     if let Some(row) = table.rows.last_mut() {
         row.expected.given = state_image(&after).to_vec();
@@ -263,6 +265,29 @@ pub fn table() -> Vec<Named> {
     table.refused("(iv), 9 before 11", showing(&end, 1), 9, 0, 0);
     table.refused("(iv), 11", showing(&end, 2), 11, 0, 0);
     table.refused("(iv), 11", advancing(&end), 11, 0, 0);
+
+    // (vii): one bit of a sum, of slices left, and of a sum beyond p; 10 before 16, and 16 before 9, 11 and 12.
+    let (mut sum, mut left, mut beyond) = (state, state, state);
+    sum.sums[1] ^= 1;
+    left.kinds[1].left ^= 2;
+    beyond.sums[2] ^= 1;
+    for (state, number) in [(&sum, 16), (&left, 16), (&beyond, 10)] {
+        let releasing = |kind, e| Case::release(state_image(state).to_vec(), kind, e);
+        for case in [
+            showing(state, 2),
+            showing(state, 1),
+            advancing(state),
+            releasing(0, 6),
+            releasing(3, 0),
+        ] {
+            table.refused("(vii), a flipped bit", case, number, 0, 0);
+        }
+    }
+    let mut flipped = end;
+    flipped.sums[0] = 1;
+    table.refused("(vii), 16 before 11", advancing(&flipped), 16, 0, 0);
+    flipped.clock += 1;
+    table.refused("(vii), 10 before 16", advancing(&flipped), 10, 0, 0);
 
     let short = "one byte short";
     table.refused(short, reading(&PLAN_A[..21], PLAN_IMAGE), 1, 0, 0);

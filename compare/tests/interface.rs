@@ -47,10 +47,14 @@ fn a_state_image_by_its_offsets() {
         at: 0x0506_0708,
         left: 0x090A,
     };
-    let mut image = [0; 256];
+    state.sums[0] = 0x0B0C;
+    state.sums[7] = 0x0D0E;
+    let mut image = [0; 272];
     image[..140].copy_from_slice(&plan_image(&Plan::a()));
     image[140..144].copy_from_slice(&[1, 2, 3, 4]);
     image[144 + 7 * 15..256].copy_from_slice(&[1, 5, 6, 7, 8, 9, 10]);
+    image[256..258].copy_from_slice(&[11, 12]);
+    image[270..].copy_from_slice(&[13, 14]);
     assert_eq!(state_image(&state), image);
     assert_eq!(state_of(&image), Some(state));
     image[144 + 7 * 15] = 2;
@@ -71,6 +75,7 @@ fn a_difference_is_found_made_small_and_printed_as_bytes() {
         fixed: false,
         generated: 20_000,
         one_in: 1,
+        flips: 0,
         seed: 7,
     };
     let side = Faulty(Fault::Ties);

@@ -677,7 +677,7 @@ pub fn fixed_open_budgets() -> Vec<(Plan, u64)> {
     open
 }
 
-/// State records in form and out of form in each way at each place, at both ends of the clock.
+/// State records in form and out of form in each way at each place, at both ends of the clock, with the sums of what is left.
 pub fn fixed_state_records() -> Vec<State> {
     let mut states = Vec::new();
     let mut refused = Plan::a();
@@ -725,10 +725,113 @@ pub fn fixed_state_records() -> Vec<State> {
                 ] {
                     let mut state = base;
                     state.kinds[place] = KindState { released, at, left };
-                    states.push(state);
+                    states.push(state.summed());
                 }
             }
         }
+    }
+    states
+}
+
+/// State records whose sums differ in each place, by one, by a bit and by all of it, beside nothing else wrong and beside each number
+/// that comes before or after; what is left without its sum; sums of two projects changed over, and that of all projects in one.
+pub fn fixed_sums() -> Vec<State> {
+    let mut states = Vec::new();
+    for p in [1, 2, 7, 8] {
+        for clock in [50, LAST_CLOCK, LAST_CLOCK + 1] {
+            let mut state = State {
+                plan: wide_plan(p),
+                clock,
+                ..State::default()
+            };
+            // Fifteen kinds of length 1, and one that is longer: kind 3 has a unit of 4 of its 5 slices left.
+            state.plan.kinds[3].length = 5;
+            for (i, place) in state.kinds.iter_mut().enumerate() {
+                *place = KindState {
+                    released: i % 4 > 0,
+                    at: if i % 4 > 0 { clock - 5 } else { 0 },
+                    left: [0, 1, 1, 0][i % 4],
+                };
+            }
+            state.kinds[3].left = 4;
+            let state = state.summed();
+            states.push(state);
+            for place in 0..8 {
+                let mut differs = |to: u16| {
+                    let mut other = state;
+                    other.sums[place] = to;
+                    states.push(other);
+                };
+                let sum = state.sums[place];
+                for bit in 0..16 {
+                    differs(sum ^ 1 << bit);
+                }
+                for to in [0, sum.wrapping_sub(1), sum + 1, sum + 255, u16::MAX] {
+                    differs(to);
+                }
+                // One more here, one less in another place.
+                for less in 0..8 {
+                    let mut other = state;
+                    other.sums[place] = sum + 1;
+                    other.sums[less] = other.sums[less].wrapping_sub(1);
+                    states.push(other);
+                    let mut other = state;
+                    other.sums.swap(place, less);
+                    states.push(other);
+                }
+                let mut all = state;
+                all.sums = [0; 8];
+                all.sums[place] = state.sums.iter().sum();
+                states.push(all);
+            }
+            for place in 0..16 {
+                for bit in 0..16 {
+                    let mut other = state;
+                    other.kinds[place].left ^= 1 << bit;
+                    states.push(other);
+                }
+                // What is left goes from one kind to another: of the same project or not.
+                for to in 0..16 {
+                    let mut other = state;
+                    let left = std::mem::take(&mut other.kinds[place].left);
+                    other.kinds[to].left += left;
+                    states.push(other);
+                }
+            }
+            // A sum that differs, on a plan that is out of order.
+            let mut other = state;
+            other.sums[0] += 1;
+            other.plan.kinds[15].length = 0;
+            states.push(other);
+        }
+    }
+    // The greatest sum, and those that are it without the bits above it.
+    let plan = Plan::of(8, 64, &[(8, 512)], &[(0, 4095, 4095, 4095); 16]);
+    let mut state = State {
+        plan,
+        clock: 9,
+        ..State::default()
+    };
+    state.kinds = [KindState {
+        released: true,
+        at: 8,
+        left: 4095,
+    }; 16];
+    state.sums[0] = 65520;
+    states.push(state);
+    for sum in [
+        65519,
+        65521,
+        65520 - 32768,
+        65520 - 4096,
+        240,
+        4095,
+        0,
+        65535,
+    ] {
+        let mut other = state;
+        other.sums[0] = sum;
+        states.push(other);
     }
     states
 }

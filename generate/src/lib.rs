@@ -13,7 +13,8 @@ mod records;
 mod streams;
 
 pub use fixed::{
-    fixed_open_budgets, fixed_plan_records, fixed_state_records, fixed_streams, limit_plans,
+    fixed_open_budgets, fixed_plan_records, fixed_state_records, fixed_streams, fixed_sums,
+    limit_plans,
 };
 pub use lists::{fixed_lists, list_bytes};
 pub use streams::{long_stream, spare_bits};

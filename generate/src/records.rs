@@ -2,7 +2,7 @@
 
 use crate::Generator;
 use second::bytes::plan_bytes;
-use second::plan::{Plan, MOST_KINDS};
+use second::plan::{Plan, MOST_KINDS, MOST_PROJECTS};
 use second::rack::{fresh, KindState, State, LAST_CLOCK};
 
 impl Generator {
@@ -27,7 +27,7 @@ impl Generator {
         }
     }
 
-    /// A state "in form" on this plan, most not reachable from a fresh start.
+    /// A state "in form" on this plan, its sums those of what is left; most not reachable from a fresh start.
     pub fn state_in_form(&mut self, plan: &Plan) -> State {
         let last = u64::from(LAST_CLOCK);
         let clock = match self.below(8) {
@@ -69,7 +69,7 @@ impl Generator {
                 left: left as u16,
             };
         }
-        state
+        state.summed()
     }
 
     /// A state reached from a fresh start on this plan, if it is admitted; else one in form.
@@ -82,8 +82,51 @@ impl Generator {
         self.run(state, count).1
     }
 
-    /// One step out of form: the clock, a kind never released, a release clock, what is left, or a place beyond n.
+    /// One step out of form: the clock, a kind never released, a release clock, what is left, a place beyond n, or a sum beyond p; or
+    /// in form with a sum that differs. The sums go with what is left, or do not.
     fn spoil_state(&mut self, state: &mut State) {
+        self.spoil_kinds(state);
+        if self.one_in(2) {
+            *state = state.summed();
+        }
+        if self.one_in(3) {
+            self.spoil_sums(state);
+        }
+    }
+
+    /// One or two sums that differ: by one or a bit, changed over, all in one, or any.
+    fn spoil_sums(&mut self, state: &mut State) {
+        let (one, other) = (self.below(8) as usize, self.below(8) as usize);
+        // Mostly a project that is there.
+        let used = u64::from(state.plan.p).clamp(1, MOST_PROJECTS);
+        let i = match self.below(4) {
+            0 => one,
+            _ => self.below(used) as usize,
+        };
+        let sum = state.sums[i];
+        match self.below(7) {
+            0 => state.sums[i] = sum.wrapping_add(1),
+            1 => state.sums[i] = sum.wrapping_sub(1),
+            2 => state.sums[i] = sum ^ 1 << self.below(16),
+            3 => state.sums.swap(i, other),
+            4 => {
+                let all = state
+                    .sums
+                    .iter()
+                    .fold(0, |sum: u16, &one| sum.wrapping_add(one));
+                state.sums = [0; 8];
+                state.sums[i] = all;
+            }
+            5 => {
+                // One more here and one less there: the sum of all is as it was.
+                state.sums[i] = sum.wrapping_add(1);
+                state.sums[other] = state.sums[other].wrapping_sub(1);
+            }
+            _ => state.sums[i] = self.number() as u16,
+        }
+    }
+
+    fn spoil_kinds(&mut self, state: &mut State) {
         let used = u64::from(state.plan.n).clamp(1, MOST_KINDS);
         let i = self.below(used) as usize;
         let c = u64::from(state.plan.kinds[i].length);
@@ -119,7 +162,7 @@ impl Generator {
         }
     }
 
-    /// A state record: fresh, reached, in form, just out of form, or of any fields; on any plan record.
+    /// A state record: fresh, reached, in form, just out of form, with sums that differ, or of any fields; on any plan record.
     pub fn state_record(&mut self) -> State {
         let plan = match self.below(4) {
             0 => self.plan_record(),
@@ -139,6 +182,10 @@ impl Generator {
                 } else {
                     self.state_in_form(&plan)
                 };
+                if self.one_in(4) {
+                    self.spoil_sums(&mut state);
+                    return state;
+                }
                 for _ in 0..self.between(1, 2) {
                     self.spoil_state(&mut state);
                 }
@@ -157,7 +204,13 @@ impl Generator {
                         left: self.number() as u16,
                     };
                 }
-                state
+                for sum in &mut state.sums {
+                    *sum = self.number() as u16;
+                }
+                match self.below(3) {
+                    0 => state,
+                    _ => state.summed(),
+                }
             }
         }
     }

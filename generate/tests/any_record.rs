@@ -1,6 +1,6 @@
 //! The second program on any record and any bytes: it answers, in the right order, and leaves behind what it should.
 
-use generate::{fixed_plan_records, fixed_state_records, fixed_streams, Generator};
+use generate::{fixed_plan_records, fixed_state_records, fixed_streams, fixed_sums, Generator};
 use second::rack::{in_form, LAST_CLOCK};
 use second::*;
 
@@ -153,11 +153,16 @@ fn row_rules(state: &State, row: &[u8]) {
 fn any_state_record_is_answered() {
     let mut generator = Generator::new(12);
     let random: Vec<State> = (0..RUNS).map(|_| generator.state_record()).collect();
-    for state in fixed_state_records().into_iter().chain(random) {
+    let fixed = fixed_state_records().into_iter().chain(fixed_sums());
+    for state in fixed.chain(random) {
         let plan = state.plan;
         let mut order = check(&plan);
         if order.is_good() && !in_form(&state) {
             order = refused(10, 0);
+        }
+        // "16, directly after 10".
+        if order.is_good() && state.summed() != state {
+            order = refused(16, 0);
         }
 
         let (kind, e) = generator.release_numbers(&state);
@@ -175,7 +180,14 @@ fn any_state_record_is_answered() {
             };
             assert!(in_form(&next));
         }
-        assert_eq!(next, expected);
+        assert_eq!(
+            next,
+            if told.is_good() {
+                expected.summed()
+            } else {
+                state
+            }
+        );
 
         let lent = generator.row_buffer(&state);
         let mut buffer = lent.clone();
@@ -204,7 +216,7 @@ fn any_state_record_is_answered() {
                     expected.kinds[usize::from(*byte) - 1].left -= 1;
                 }
             }
-            assert_eq!(next, expected);
+            assert_eq!(next, expected.summed());
             assert!(in_form(&next));
             row_rules(&state, &buffer[..m]);
         } else {

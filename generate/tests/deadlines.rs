@@ -252,6 +252,7 @@ fn sweep(plan: &Plan) -> usize {
         let mut based = State {
             plan: *plan,
             clock,
+            sums: state.sums,
             ..State::default()
         };
         for (i, kind) in plan.used_kinds().iter().enumerate() {

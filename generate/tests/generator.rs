@@ -2,7 +2,7 @@
 
 use generate::{
     fixed_lists, fixed_open_budgets, fixed_plan_records, fixed_state_records, fixed_streams,
-    limit_plans, Generator,
+    fixed_sums, limit_plans, Generator,
 };
 use second::*;
 use std::collections::{BTreeMap, BTreeSet};
@@ -158,6 +158,34 @@ fn fixed_records_reach_each_number_at_each_place() {
 }
 
 #[test]
+fn fixed_sums_differ_by_each_bit_in_each_place() {
+    let states = fixed_sums();
+    let mut numbers: BTreeMap<u64, u64> = BTreeMap::new();
+    let mut bits = BTreeSet::new();
+    for state in &states {
+        let told = release(state, 16, 0).0.number;
+        assert_eq!(
+            show(state, &mut []).number,
+            if told == 12 { 9 } else { told }
+        );
+        *numbers.entry(told).or_default() += 1;
+        let right = state.summed().sums;
+        for place in (0..8).filter(|_| told == 16) {
+            bits.insert((place, state.sums[place] ^ right[place]));
+        }
+    }
+    println!("fixed sums {}, {numbers:?}", states.len());
+    for number in [6, 10, 12, 16] {
+        assert!(numbers.contains_key(&number), "{number}");
+    }
+    for place in 0..8 {
+        for bit in 0..16 {
+            assert!(bits.contains(&(place, 1 << bit)), "sum {place}, bit {bit}");
+        }
+    }
+}
+
+#[test]
 fn fixed_open_budgets_reach_each_number_at_each_place_and_each_boundary() {
     let open = fixed_open_budgets();
     let mut reached = BTreeSet::new();
@@ -273,10 +301,10 @@ fn random_records_reach_each_number() {
         *slices.entry(slice(&state, &mut row).0.number).or_default() += 1;
     }
     println!("state records {RUNS}, releases {releases:?}, slices {slices:?}");
-    for number in [0, 2, 3, 4, 6, 10, 12, 13, 14, 15] {
+    for number in [0, 2, 3, 4, 6, 10, 12, 13, 14, 15, 16] {
         assert!(releases.contains_key(&number), "{number}");
     }
-    for number in [0, 2, 3, 4, 6, 9, 10, 11] {
+    for number in [0, 2, 3, 4, 6, 9, 10, 11, 16] {
         assert!(slices.contains_key(&number), "{number}");
     }
 }

@@ -3,7 +3,7 @@
 /// "A good answer has number and place 0"; "Excess is 0 except with 8".
 #[derive(Clone, Copy, Debug, Default, PartialEq, Eq, Hash)]
 pub struct Answer {
-    /// The column "no.": 1 to 15, or 0 for a good answer.
+    /// The column "no.", or a number that a request adds; 0 for a good answer.
     pub number: u64,
     /// The column "place".
     pub place: u64,

@@ -1,4 +1,5 @@
-//! "Running": the state, the fresh start, the release, and the slice as document 02's request (iv) splits it.
+//! "Running": the state, the fresh start, the release, and the slice as document 02's request (iv) splits it; with "the row of
+//! sums" that request (vii) keeps.
 
 use crate::answer::Answer;
 use crate::layout::{cards_held, cells};
@@ -28,9 +29,11 @@ pub struct State {
     pub clock: u32,
     /// "and for each kind"; "places beyond n zero".
     pub kinds: [KindState; 16],
+    /// "Keep each sum in the state": the stored row, a place for each project.
+    pub sums: [u16; 8],
 }
 
-/// "In form: the clock within range; [...] places beyond n zero."
+/// "In form: the clock within range; [...] places beyond n zero"; "A sum beyond p that is not zero is 10."
 pub fn in_form(state: &State) -> bool {
     // "the clock within range".
     if state.clock > LAST_CLOCK {
@@ -54,7 +57,61 @@ pub fn in_form(state: &State) -> bool {
             }
         }
     }
+    // "A sum beyond p that is not zero is 10."
+    for (project, sum) in state.sums.iter().enumerate() {
+        if project >= usize::from(state.plan.p) && *sum != 0 {
+            return false;
+        }
+    }
     true
+}
+
+/// "slices left per project", added up anew: "the sum of what is left".
+pub fn sum_of_what_is_left(state: &State, project: usize) -> u64 {
+    let mut sum = 0u64;
+    for (i, kind) in state.plan.used_kinds().iter().enumerate() {
+        if usize::from(kind.project) == project {
+            sum += u64::from(state.kinds[i].left);
+        }
+    }
+    sum
+}
+
+impl State {
+    /// A state made by hand, its stored row as "the sum of what is left"; a sum too wide for its place keeps its low bits.
+    pub fn summed(mut self) -> State {
+        for project in 0..self.sums.len() {
+            self.sums[project] = sum_of_what_is_left(&self, project) as u16;
+        }
+        self
+    }
+}
+
+/// 16: "exactly when a stored sum differs".
+pub fn a_stored_sum_differs(state: &State) -> bool {
+    for (project, sum) in state.sums.iter().enumerate() {
+        if u64::from(*sum) != sum_of_what_is_left(state, project) {
+            return true;
+        }
+    }
+    false
+}
+
+/// The numbers of "every call that takes a state": the record order, 10, and "16, directly after 10".
+fn refused_by_the_state(state: &State) -> Option<Answer> {
+    let answer = check(&state.plan);
+    if !answer.is_good() {
+        return Some(answer);
+    }
+    // 10: "state out of form".
+    if !in_form(state) {
+        return Some(Answer::refused(10));
+    }
+    // "16, directly after 10".
+    if a_stored_sum_differs(state) {
+        return Some(Answer::refused(16));
+    }
+    None
 }
 
 /// "Starting fresh and the verdict add 8"; "a refused fresh start gives an all-zero state".
@@ -69,6 +126,8 @@ pub fn fresh(plan: &Plan) -> (Answer, State) {
             plan: *plan,
             clock: 0,
             kinds: [KindState::default(); 16],
+            // "set by a fresh start": nothing is left yet.
+            sums: [0; 8],
         },
     )
 }
@@ -83,14 +142,9 @@ pub fn release(state: &State, kind: u64, e: u64) -> (Answer, State) {
 }
 
 fn release_or_refuse(state: &State, kind: u64, e: u64) -> Result<State, Answer> {
-    // "Release: the record order, 10, 12, 13, 14, 15."
-    let answer = check(&state.plan);
-    if !answer.is_good() {
+    // "Release: the record order, 10, 12, 13, 14, 15", with 16 after 10.
+    if let Some(answer) = refused_by_the_state(state) {
         return Err(answer);
-    }
-    // 10: "state out of form".
-    if !in_form(state) {
-        return Err(Answer::refused(10));
     }
     // 12: "kind not below n".
     if kind >= u64::from(state.plan.n) {
@@ -116,6 +170,8 @@ fn release_or_refuse(state: &State, kind: u64, e: u64) -> Result<State, Answer> 
         at: state.clock,
         left: e as u16,
     };
+    // "raised by a release".
+    next.sums[usize::from(state.plan.kinds[i].project)] += e as u16;
     Ok(next)
 }
 
@@ -148,14 +204,9 @@ fn chosen(state: &State) -> Vec<(usize, usize)> {
 
 /// "one shows the row and keeps the state".
 pub fn show(state: &State, buffer: &mut [u8]) -> Answer {
-    // "showing keeps the slice order with 9 and 11": "the record order, 10, 9, 11."
-    let answer = check(&state.plan);
-    if !answer.is_good() {
+    // "showing keeps the slice order with 9 and 11": "the record order, 10, 9, 11", with 16 after 10.
+    if let Some(answer) = refused_by_the_state(state) {
         return answer;
-    }
-    // 10: "state out of form".
-    if !in_form(state) {
-        return Answer::refused(10);
     }
     // 9: "buffer shorter than needed".
     let m = usize::from(state.plan.m);
@@ -176,14 +227,9 @@ pub fn show(state: &State, buffer: &mut [u8]) -> Answer {
 
 /// "the other advances with no buffer".
 pub fn advance(state: &State) -> (Answer, State) {
-    // "advancing drops 9": the record order, 10, 11.
-    let answer = check(&state.plan);
-    if !answer.is_good() {
+    // "advancing drops 9": the record order, 10, 16, 11.
+    if let Some(answer) = refused_by_the_state(state) {
         return (answer, *state);
-    }
-    // 10: "state out of form".
-    if !in_form(state) {
-        return (Answer::refused(10), *state);
     }
     // 11: "clock is 1,000,000,000".
     if state.clock == LAST_CLOCK {
@@ -193,6 +239,8 @@ pub fn advance(state: &State) -> (Answer, State) {
     for (_, i) in chosen(state) {
         // "Each chosen kind's left falls by one".
         next.kinds[i].left -= 1;
+        // "lowered by an advance".
+        next.sums[usize::from(state.plan.kinds[i].project)] -= 1;
     }
     // "the clock rises by one".
     next.clock += 1;

@@ -93,7 +93,7 @@ fn only_a_record_can_say_it() {
 }
 
 #[test]
-fn show_order_10_9_11_advance_order_10_11_and_no_8() {
+fn show_order_10_16_9_11_advance_order_10_16_11_and_no_8() {
     let plan = Plan::a();
     let mut state = State {
         plan,
@@ -102,7 +102,14 @@ fn show_order_10_9_11_advance_order_10_11_and_no_8() {
     };
     assert_eq!(show(&state, &mut [0]), refused(10, 0));
     assert_eq!(advance(&state), (refused(10, 0), state));
+    // A sum that differs: 10 is told before it, 9 and 11 after it.
+    state.sums[1] = 1;
+    assert_eq!(show(&state, &mut [0]), refused(10, 0));
+    assert_eq!(advance(&state), (refused(10, 0), state));
     state.clock = LAST_CLOCK;
+    assert_eq!(show(&state, &mut [0]), refused(16, 0));
+    assert_eq!(advance(&state), (refused(16, 0), state));
+    state.sums[1] = 0;
     assert_eq!(show(&state, &mut [0]), refused(9, 0));
     assert_eq!(show(&state, &mut [0, 0]), refused(11, 0));
     assert_eq!(advance(&state), (refused(11, 0), state));
@@ -117,7 +124,7 @@ fn show_order_10_9_11_advance_order_10_11_and_no_8() {
 }
 
 #[test]
-fn release_order_10_12_13_14_15() {
+fn release_order_10_16_12_13_14_15() {
     let plan = Plan::a();
     let mut state = State {
         plan,
@@ -132,6 +139,9 @@ fn release_order_10_12_13_14_15() {
     state.kinds[3].left = 1;
     assert_eq!(release(&state, 3, 0).0, refused(10, 0));
     state.kinds[3].left = 0;
+    assert_eq!(release(&state, 3, 0).0, refused(16, 0));
+    assert_eq!(release(&state, 0, 6).0, refused(16, 0));
+    state.sums[0] = 1;
     assert_eq!(release(&state, 3, 0).0, refused(12, 0));
     assert_eq!(release(&state, 1 << 32, 1).0, refused(12, 0));
     assert_eq!(release(&state, 0, 0).0, refused(13, 0));
@@ -141,6 +151,8 @@ fn release_order_10_12_13_14_15() {
     state.kinds[0].at = 1;
     assert_eq!(release(&state, 0, 6).0, refused(15, 0));
     state.kinds[0].left = 0;
+    assert_eq!(release(&state, 0, 6).0, refused(16, 0));
+    state.sums[0] = 0;
     assert_eq!(release(&state, 0, 6).0, Answer::GOOD);
 }
 
@@ -178,6 +190,12 @@ fn the_form_of_a_state() {
         state.kinds[place] = kind_state;
         assert_eq!(in_form(&state), is_in_form, "{place} {kind_state:?}");
     }
+    // "A sum beyond p that is not zero is 10"; one below p may be any.
+    for place in 0..8 {
+        let mut state = good;
+        state.sums[place] = 1;
+        assert_eq!(in_form(&state), place < 2, "sum {place}");
+    }
 }
 
 #[test]
@@ -200,6 +218,7 @@ fn ranked_by_release_clock_plus_d_then_by_lower_kind_number() {
     };
     // Deadlines at 14, 14, 14 and 13; two cards, the third is free.
     state.kinds[..4].copy_from_slice(&[released(5), released(9), released(7), released(5)]);
+    state.sums[0] = 4;
     let mut row = [0xEE; 4];
     let (answer, next) = slice(&state, &mut row);
     assert_eq!(answer, Answer::GOOD);

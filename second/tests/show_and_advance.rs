@@ -1,7 +1,7 @@
 //! "Let the card host see the row before the slice starts", document 02's request (iv).
 
 use second::layout::{cards_held, cells};
-use second::rack::{in_form, ranked, LAST_CLOCK};
+use second::rack::{a_stored_sum_differs, in_form, ranked, LAST_CLOCK};
 use second::*;
 
 /// "the old call": document 01's slice, in one piece.
@@ -13,6 +13,7 @@ fn old_slice(state: &State, buffer: &mut [u8]) -> (Answer, State) {
     let m = usize::from(state.plan.m);
     let refused = match () {
         _ if !in_form(state) => 10,
+        _ if a_stored_sum_differs(state) => 16,
         _ if buffer.len() < m => 9,
         _ if state.clock == LAST_CLOCK => 11,
         _ => 0,
@@ -31,10 +32,11 @@ fn old_slice(state: &State, buffer: &mut [u8]) -> (Answer, State) {
         }
     }
     next.clock += 1;
-    (Answer::GOOD, next)
+    (Answer::GOOD, next.summed())
 }
 
-/// States of plan A that runs come to, and the same at the clock's end, out of form, and on a plan out of order.
+/// States of plan A that runs come to, and the same at the clock's end, out of form, with a sum that differs, and on a plan out
+/// of order.
 fn states() -> Vec<State> {
     let mut states = vec![fresh(&Plan::a()).1];
     for at in 0..40u64 {
@@ -57,6 +59,9 @@ fn states() -> Vec<State> {
         let mut spoilt = state;
         spoilt.kinds[5].left = 1;
         states.push(spoilt);
+        let mut differs = state;
+        differs.sums[0] += 1;
+        states.push(differs);
         spoilt.plan.projects[1].budget = 6;
         states.push(spoilt);
     }

@@ -1,8 +1,9 @@
 -- The three demands: `Outcomes` (1), `Verdicts` (2) and `Deadlines` (3) state them, the last over `Run`, `Since`, `Named` and
 -- `Shown`; `SmallestBudgets`, over `OpenBudget`, states what is promised of the smallest budget, `OneKindProjects`, over `OneKind`, what
 -- is promised of plans of one-kind projects, and `EquationFive`, over `AnyWorkload`, that either paper's workload gives the same;
--- `Showing` has what showing and advancing owe a host, and `RowOfSums`, over `Flipped`, what the stored sums do; `Sufficient` has a refused plan that runs well, and `Uses` puts every statement to
--- work. The other modules tie the theory of one project (`analysis`) to the rack.
+-- `Showing` has what showing and advancing owe a host, and `RowOfSums`, over `Flipped`, what the stored sums do; `Sufficient` has a
+-- refused plan that runs well, and `Uses` puts every statement to work. The other modules tie the theory of one project (`analysis`) to
+-- the rack.
 -- Assumes nothing.
 -- ---- the statements
 pub mod Run

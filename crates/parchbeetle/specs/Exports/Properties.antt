@@ -44,7 +44,6 @@ use Rattle.rack.specs.declared.State.{State}
 use Rattle.rack.specs.declared.Next.{Next}
 use Rattle.rack.specs.State.{freshOf, noState, nextOf, kindAt, unitOf}
 use Rattle.rack.specs.Form.{ready}
-use Rattle.rack.specs.Rank.{gone}
 use Rattle.rack.specs.Start.{startAnswer, startOf}
 use Rattle.unit.specs.Start.{startable}
 use Rattle.rack.specs.Release.{releaseAnswer, released, releaseOf}
@@ -419,7 +418,7 @@ no-next Good w x y s = refl
 no-next (No v) w x y s = refl
 
 too-long : (s : State) (k e : ℕ) → InOrder (s .plan) → k < s .plan .kinds → 4095 < e →
-    startable (kindAt s k) (unitOf s k) (gone s k) e ≡ bare 13
+    startable (kindAt s k) (unitOf s k) e ≡ bare 13
 unfolding startable within
 too-long s k e o l m =
     let r = o .kind-at k l in

@@ -3,6 +3,7 @@
 -- that it reads.
 -- Assumes nothing.
 pub mod Words
+pub mod Rescued
 pub mod Chain
 pub mod Events
 pub mod Promised

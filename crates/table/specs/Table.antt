@@ -1,8 +1,8 @@
 -- Document 01, "Plan A, plan B and the numbers they give": the table P1 to P11 as one claim, with document 02's bad slices beside them;
--- document 02 (i) on the same plans, S1 to S8; and document 02 (vi), K1 to K8.
+-- document 02 (i) on the same plans, S1 to S8; document 02 (vi), K1 to K8; and document 02 (viii), R1 to R5.
 -- Assumes nothing.
 use mathlib.Core.Path.{_≡_}
-use mathlib.Core.List.{List, [], _∷_, map}
+use mathlib.Core.List.{List, [], _∷_, _++_, map}
 use Prim.Native.Nat.{ℕ}
 use lib.ListN.{replicate}
 use Rattle.plan.specs.declared.Project.{Project}
@@ -22,6 +22,8 @@ use Rattle.verdict.specs.Advice.{withLength}
 use Rattle.smallest_budget.specs.declared.Smallest.{Smallest}
 use Rattle.smallest_budget.specs.Smallest.{smallestOf}
 use Rattle.one_kind.specs.declared.Built.{Built}
+use Rattle.rescue.specs.declared.Rescued.{Rescued}
+use Rattle.rescue.specs.Rescue.{rescueOf, listOver}
 use Rattle.one_kind.specs.Built.{builtOf}
 use Rattle.answer.specs.declared.Answer.the-variants.{Good}
 pub mod Properties
@@ -89,9 +91,38 @@ twoOf T C U E = 0 ∷ T ∷ 0 ∷ C ∷ oneOf U E
 abbrev pub threeOf : ℕ → ℕ → ℕ → ℕ → ℕ → ℕ → List ℕ
 threeOf T C U E X G = 0 ∷ T ∷ 0 ∷ C ∷ twoOf U E X G
 
+-- what was rescued: number, place, the count of the list's bytes, n and the eight budgets
+abbrev pub rescued : Rescued → List ℕ
+rescued r = number (r .answer) ∷ place (r .answer) ∷ r .count ∷ r .plan .kinds ∷ map (λ (v : Project). v .budget) (r .plan .project)
+
+-- so many bytes of the list, so many kinds, and two budgets
+abbrev pub given : ℕ → ℕ → ℕ → ℕ → List ℕ
+given count n a b = 0 ∷ 0 ∷ count ∷ n ∷ a ∷ b ∷ replicate 6 0
+
+-- refused: all zero
+abbrev pub unrescued : ℕ → List ℕ
+unrescued n = n ∷ 0 ∷ 0 ∷ 0 ∷ replicate 8 0
+
+-- plan A's bytes with header spare 2, q 0 for project 1, and project 2 for kind 0; and with these bytes for its kinds
+abbrev pub damagedHead : List ℕ
+damagedHead = 0x22 ∷ 0x18 ∷ 0x42 ∷ 0x10 ∷ 0x0c ∷ 0x00 ∷ 0x14 ∷ []
+
+abbrev pub firstDamaged : List ℕ
+firstDamaged = damagedHead ++ 0x40 ∷ 0x10 ∷ 0x01 ∷ 0x00 ∷ 0x0c ∷ 0x20 ∷ 0x08 ∷ 0x00 ∷ 0x80 ∷ 0x04 ∷ 0x20 ∷ 0x10 ∷ 0x01 ∷ 0x00 ∷ 0x04 ∷ []
+
+-- a change of each of the seven fields
+abbrev pub secondDamaged : List ℕ
+secondDamaged =
+    0x22 ∷ 0x18 ∷ 0x41
+    ∷ 0x00 ∷ 0x0c ∷ 0xff ∷ 0xfe
+    ∷ 0x00 ∷ 0x10 ∷ 0x01 ∷ 0x80 ∷ 0x0d
+    ∷ 0xa0 ∷ 0x08 ∷ 0x00 ∷ 0x80 ∷ 0x05
+    ∷ 0x20 ∷ 0x10 ∷ 0x01 ∷ 0x20 ∷ 0x12
+    ∷ []
+
 -- ---- the table
 
--- "The proved table is P1 to P11.", S1 to S8, and K1 to K8
+-- "The proved table is P1 to P11.", S1 to S8, K1 to K8, and R1 to R5
 pub record Table : Type 0 where
   -- "P1 A is .., read and written."
   pub P1-read : readOf bytesA ≡ record { answer = Good; plan = planA; taken = 22 }
@@ -171,3 +202,21 @@ pub record Table : Type 0 where
   pub K7-list : alone (builtOf 1 (0 ∷ oneOf 2 1)) ≡ unbuilt 17 0
   -- K8 Nine kinds: 18.
   pub K8 : alone (builtOf 8 (replicate 36 1)) ≡ unbuilt 18 0
+  -- Document 02 (viii). R1 A damaged in three places: four changes, and kinds 1 and 2 move up. Two bytes of 26 are kept.
+  pub R1 : rescued (rescueOf firstDamaged (replicate 26 0)) ≡ given 24 2 3 4
+  pub R1-list : listOver firstDamaged (replicate 26 0) ≡
+      1 ∷ 0 ∷ 0 ∷ 2 ∷ 0 ∷ 0 ∷ 4 ∷ 1 ∷ 0 ∷ 0 ∷ 0 ∷ 1 ∷ 5 ∷ 1 ∷ 0 ∷ 5 ∷ 0 ∷ 4 ∷ 7 ∷ 0 ∷ 0 ∷ 0 ∷ 0 ∷ 0 ∷ 0 ∷ 0 ∷ []
+  -- R2 All seven fields: B by the new q, C against the new D, no spare bit of a dropped kind.
+  pub R2 : rescued (rescueOf secondDamaged (replicate 54 0)) ≡ given 54 1 3 8
+  pub R2-list : listOver secondDamaged (replicate 54 0) ≡
+      1 ∷ 0 ∷ 0 ∷ 1 ∷ 0 ∷ 0 ∷ 2 ∷ 1 ∷ 0 ∷ 2 ∷ 0 ∷ 0 ∷ 3 ∷ 0 ∷ 0 ∷ 1 ∷ 0 ∷ 0 ∷ 4 ∷ 0 ∷ 0 ∷ 0 ∷ 0 ∷ 1 ∷ 4 ∷ 1 ∷ 0 ∷ 15 ∷ 0 ∷ 2
+      ∷ 5 ∷ 1 ∷ 3 ∷ 255 ∷ 0 ∷ 8 ∷ 6 ∷ 0 ∷ 0 ∷ 12 ∷ 0 ∷ 8 ∷ 7 ∷ 1 ∷ 0 ∷ 0 ∷ 0 ∷ 0 ∷ 7 ∷ 2 ∷ 0 ∷ 0 ∷ 0 ∷ 0 ∷ []
+  pub R2-seven : number (judged (rescueOf secondDamaged (replicate 54 0) .plan) .answer) ≡ 7
+  -- R3 A, and A with budgets 3 and 6: nothing is listed.
+  pub R3 : rescued (rescueOf bytesA []) ≡ given 0 3 3 5
+  pub R3-seven : rescued (rescueOf (encoded (likeA 3 6 (kind 0 8 8 6))) []) ≡ given 0 3 3 6
+  -- R4 A byte too few for R1's list: 9, and none is written.
+  pub R4 : rescued (rescueOf firstDamaged (replicate 23 0)) ≡ unrescued 9
+  pub R4-list : listOver firstDamaged (replicate 23 0) ≡ replicate 23 0
+  -- R5 No kind remains: 20, though nothing was lent.
+  pub R5 : rescued (rescueOf (damagedHead ++ replicate 15 0) []) ≡ unrescued 20

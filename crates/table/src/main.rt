@@ -1,5 +1,5 @@
-// Runs document 01's table P1 to P11 and document 02's rows S1 to S8 and K1 to K8 and prints what
-// comes out; the gate compares. The same table is one proved claim, specs/Table.antt.
+// Runs document 01's table P1 to P11 and document 02's rows S1 to S8, K1 to K8 and R1 to R5 and
+// prints what comes out; the gate compares. The same table is one proved claim, specs/Table.antt.
 ghost use Prim.Native.Nat.{_≤_};
 use answer::Answer;
 use plan::Kind;
@@ -288,6 +288,56 @@ fn one_kind_projects() {
     alone(b"K8", 8, &nine);
 }
 
+// What is rescued: number, place and excess, the bytes of the list, the kinds and the eight budgets;
+// and what is in the buffer that was lent.
+fn rescued(case: &[u8], bytes: &[u8], list: &mut [u8]) {
+    let rescued = rescue::rescue(bytes, list);
+    let answer = rescued.answer;
+    let plan = rescued.plan;
+    io::write_all(1, case);
+    print_answer(answer);
+    io::write_all(1, b" count");
+    space(rescued.count as u64);
+    io::write_all(1, b" n");
+    print_small(plan.kinds);
+    io::write_all(1, b" B");
+    print_budgets(plan);
+    io::write_all(1, case);
+    io::write_all(1, b" list");
+    print_decimals(list);
+}
+
+fn damaged_files() {
+    let first =
+        b"\x22\x18\x42\x10\x0c\x00\x14\x40\x10\x01\x00\x0c\x20\x08\x00\x80\x04\x20\x10\x01\x00\x04";
+    let mut longer = [0u8; 26];
+    rescued(b"R1", first, &mut longer);
+    let mut exact = [0u8; 54];
+    rescued(
+        b"R2",
+        b"\x22\x18\x41\x00\x0c\xff\xfe\x00\x10\x01\x80\x0d\xa0\x08\x00\x80\x05\x20\x10\x01\x20\x12",
+        &mut exact,
+    );
+    let mut none = [0u8; 0];
+    rescued(
+        b"R3",
+        b"\x22\x18\x40\x10\x0c\x20\x14\x00\x10\x01\x00\x0c\x20\x08\x00\x80\x04\x20\x10\x01\x00\x04",
+        &mut none,
+    );
+    rescued(
+        b"R3 seven",
+        b"\x22\x18\x40\x10\x0c\x20\x18\x00\x10\x01\x00\x0c\x20\x08\x00\x80\x04\x20\x10\x01\x00\x04",
+        &mut none,
+    );
+    let mut short = [0u8; 23];
+    rescued(b"R4", first, &mut short);
+    rescued(
+        b"R5",
+        b"\x22\x18\x42\x10\x0c\x00\x14\x00\x00\x00\x00\x00\x00\x00\x00\x00\x00\x00\x00\x00\x00\x00",
+        &mut none,
+    );
+}
+
 fn main() {
     bytes_of_a();
     layout_of_a();
@@ -311,4 +361,5 @@ fn main() {
     verdict(b"P11", like_a(5, 5, kind(0, 8, 8, 6)));
     smallest_budgets();
     one_kind_projects();
+    damaged_files();
 }

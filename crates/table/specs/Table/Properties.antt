@@ -1,4 +1,4 @@
--- The proved table: document 01's P1 to P11 and document 02's S1 to S8 and K1 to K8, computed from the definitions.
+-- The proved table: document 01's P1 to P11 and document 02's S1 to S8, K1 to K8 and R1 to R5, computed from the definitions.
 -- Assumes nothing.
 use mathlib.Core.Path.{refl}
 use Rattle.laws.specs.Sum.{sumTo}
@@ -24,13 +24,17 @@ use Rattle.codec.specs.Places.{partsTo}
 use Rattle.plan_bytes.specs.Parts.{size, headerBytes, projectBytes, kindBytes, encoded, headerFields, projectFields, kindFields}
 use Rattle.plan_bytes.specs.Parts.{projectFrom, kindFrom, projectsFrom, kindsFrom, headed, decoded}
 use Rattle.plan_bytes.specs.Reading.{headerSpare, projectSpare, kindSpare, projectsSpare, kindsSpare, placesSpare, spareZero}
-use Rattle.plan_bytes.specs.Reading.{bodyAnswer, readAnswer, readOf}
+use Rattle.plan_bytes.specs.Reading.{bodyAnswer, readAnswer, readOf, countsAnswer}
 use Rattle.workload.specs.Workload.{besides, partOf, workload}
 use Rattle.verdict.specs.Verdict.{widthOf, excessOf, badSliceOf, fitted, admitted, judged}
 use Rattle.smallest_budget.specs.Smallest.{widthWith, excessWith, sliceWith, serves, leastBudget, servedWith, smallestAnswer, smallestOf}
 use Rattle.one_kind.specs.Divisor.{repeated, divisor, divisorTo}
 use Rattle.one_kind.specs.Wanted.{kindsIn, fieldAt}
 use Rattle.one_kind.specs.Built.{roundedUp, offered, counts, frameFits, timedAlone, kindsTimed, answerFor, builtOf}
+use Rattle.rescue.specs.Entry.{entryBytes, listed, change, entriesTo}
+use Rattle.rescue.specs.Mended.{raised, lowered, projectFor, kindFor, kept, keptTo, planFor}
+use Rattle.rescue.specs.Rescue.{projectSpareAt, kindSpareAt, projectSpareChange, spareEntries, kindSpareChange, projectEntries}
+use Rattle.rescue.specs.Rescue.{projectChanges, kindEntries, kindChanges, changesIn, restAnswer, rescueAnswer, rescueOf, listOver}
 use Rattle.table.specs.Table.{Table}
 
 pub table : Table
@@ -42,7 +46,9 @@ unfolding sumTo leastTo leastPlace firstTo countTo allTo written eachTo within s
     projectFrom kindFrom projectsFrom kindsFrom headed decoded headerSpare projectSpare kindSpare projectsSpare kindsSpare
     placesSpare spareZero bodyAnswer readAnswer readOf projectThere inRangeOpen projectsInRangeOpen rangesOpen checkedOpen widthWith
     excessWith sliceWith serves leastBudget servedWith smallestAnswer smallestOf repeated divisor divisorTo kindsIn fieldAt roundedUp
-    offered counts frameFits timedAlone kindsTimed answerFor builtOf
+    offered counts frameFits timedAlone kindsTimed answerFor builtOf countsAnswer entryBytes listed change entriesTo raised lowered
+    projectFor kindFor kept keptTo planFor projectSpareAt kindSpareAt projectSpareChange spareEntries kindSpareChange projectEntries
+    projectChanges kindEntries kindChanges changesIn restAnswer rescueAnswer rescueOf listOver
 table = record {
   P1-read = refl;
   P1-written = refl;
@@ -93,4 +99,14 @@ table = record {
   K7-nine = refl;
   K7-list = refl;
   K8 = refl;
+  R1 = refl;
+  R1-list = refl;
+  R2 = refl;
+  R2-list = refl;
+  R2-seven = refl;
+  R3 = refl;
+  R3-seven = refl;
+  R4 = refl;
+  R4-list = refl;
+  R5 = refl;
 }

@@ -125,15 +125,16 @@ fn on_plan(plan: &Plan) -> Record {
             record.push(Case::new(op, image.clone(), vec![0xEE; less]));
         }
     }
-    // Each kind, and the first that is not there; one byte short, once.
-    for kind in 0..=plan.used_kinds().len() as u64 {
-        let room = FIGURES_BYTES - usize::from(kind == 0);
+    // Each kind, and the first that is not there; one byte short; and good only if no more than the low bits are looked at.
+    let n = plan.used_kinds().len() as u64;
+    let kinds = (0..=n).map(|kind| (kind, FIGURES_BYTES));
+    let others = [
+        (0, FIGURES_BYTES - 1),
+        (n, FIGURES_BYTES - 1),
+        (256, FIGURES_BYTES),
+    ];
+    for (kind, room) in kinds.chain(others) {
         record.push(Case::figures(image.clone(), kind, vec![0xEE; room]));
-        record.push(Case::figures(
-            image.clone(),
-            kind,
-            vec![0xEE; FIGURES_BYTES],
-        ));
     }
     // Each project, and the first that is not there.
     for project in 0..=plan.used_projects().len() as u64 {

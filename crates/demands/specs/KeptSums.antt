@@ -161,4 +161,5 @@ module _ (p : Plan) (admitted : startOf p .answer ≡ Good) where
       let named = served-named s (safe .ready) given j used in
       let row = ap (λ (q : Plan). bytesIn (namesProject q j) (rowOf s)) (after-plan calls) in
       let fell = sum-after s may (safe .places) j used in
-      rw (advance-moves s good) (omega (arith, fell, lowered s j, named, row, safe .ready .sums j used, advance-left s may (safe .places) j))
+      let most = advance-left s may (safe .places) j in
+      rw (advance-moves s good) (omega (arith, fell, lowered s j, named, row, safe .ready .sums j used, most))

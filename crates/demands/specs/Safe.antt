@@ -12,7 +12,8 @@ use Rattle.analysis.specs.EarliestFirst.{noLater}
 use Rattle.demands.specs.View.{setupOf, momentOf}
 pub mod Properties
 
--- a state that a run can come to: its plan admitted, in form with its sums right, with all its places, and each project at a moment that its steps reach
+-- a state that a run can come to: its plan admitted, in form with its sums right, with all its places, and each project at a moment that
+-- its steps reach
 pub record Safe (s : State) : Type 0 where
   pub admitted : judged (s .plan) .answer ≡ Good
   pub ready : Ready s

@@ -83,7 +83,9 @@ apart listed (m ∷ few) n d e = go (eqb n m) refl (apart listed few n) d e
   where
     go : (b : Bool) → eqb n m ≡ b → (disjoint listed few ≡ true → among few n ≡ true → among listed n ≡ false) →
         (not (among listed m) && disjoint listed few) ≡ true → (b || among few n) ≡ true → among listed n ≡ false
-    go true q r d e = ap (among listed) (eqb-true n m q) ∙ not-true (among listed m) (and-left (not (among listed m)) (disjoint listed few) d)
+    go true q r d e =
+        ap (among listed) (eqb-true n m q)
+        ∙ not-true (among listed m) (and-left (not (among listed m)) (disjoint listed few) d)
     go false q r d e = r (and-right (not (among listed m)) (disjoint listed few) d) e
 
 -- ---- of the state itself

@@ -4,9 +4,7 @@
 // them a branch, and 4n + p for the rest, after a check of 40 + n + 2p.
 ghost use mathlib.Core.Path.{_≡_};
 ghost use Prim.Native.Nat.{_+_, _%_, _<_};
-ghost use Rattle.rack.specs.Form.{Ready};
-ghost use Rattle.rack.specs.Seat.{seatsOf};
-ghost use Rattle.rack.specs.Advance.{advanced, advanceOf};
+ghost use Rattle.rack.specs.Advance.{advanceOf};
 use crate::Next;
 use crate::State;
 use crate::project_place;
@@ -25,13 +23,20 @@ fn slice_after(slice: u8, frame: u8) -> u8
 }
 
 impl State {
-    // One slice more gone for each kind ever released, one less left for each that sits, one less in
-    // its project's sum, and the next slice.
-    fn run_seated(mut self, seat: &[u8; 16]) -> State
-        requires { ⌜ Ready self × (now seat ≡ seatsOf self) ⌝ }
-        ensures { λ r. ⌜ r ≡ advanced self ⌝ }
+    // Runs one slice: one slice more gone for each kind ever released, one less left for each that
+    // sits, one less in its project's sum, and the next slice.
+    pub fn advance(mut self) -> Next
+        ensures { λ r. ⌜ r ≡ advanceOf self ⌝ }
     {
+        let answer = self.check();
+        let Answer::Good = answer else {
+            return Next {
+                answer,
+                state: self,
+            };
+        };
         let plan = self.plan;
+        let seat = self.seats();
         let kinds = self.places();
         for i in 0..kinds {
             let kind = plan.kind[i];
@@ -44,22 +49,6 @@ impl State {
             self.sum[project] -= 1;
         }
         self.slice = slice_after(self.slice, plan.frame);
-        self
-    }
-
-    // Runs one slice.
-    pub fn advance(mut self) -> Next
-        ensures { λ r. ⌜ r ≡ advanceOf self ⌝ }
-    {
-        let answer = self.check();
-        let Answer::Good = answer else {
-            return Next {
-                answer,
-                state: self,
-            };
-        };
-        let seat = self.seats();
-        self = self.run_seated(&seat);
         Next {
             answer,
             state: self,

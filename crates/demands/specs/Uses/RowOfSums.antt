@@ -131,7 +131,9 @@ raised-zero = release-raises planA (running .admitted-A) earlier 1 2 0 (running 
 
 -- of project 1's four slices one is served
 pub three-left : sumAt (advanceOf (after planA releases) .state) 1 ≡ 3
-three-left = omega (arith, advance-lowers planA (running .admitted-A) releases 1 (figures .runs) (omega arith), figures .one-named, one-open)
+three-left =
+    let fell = advance-lowers planA (running .admitted-A) releases 1 (figures .runs) (omega arith) in
+    omega (arith, fell, figures .one-named, one-open)
 
 -- ---- a flip
 

@@ -16,7 +16,7 @@ use Rattle.laws.specs.Sum.Properties.{sum-le, sum-cong, sum-add}
 use Rattle.laws.specs.Count.{countTo}
 use Rattle.laws.specs.Count.Properties.{count-none, count-yes, count-no, count-split, count-cong, count-sum}
 use Rattle.laws.specs.Written.{written}
-use Rattle.laws.specs.Written.Properties.{written-again, written-at, written-kept, written-length, written-stop, written-same, written-cong}
+use Rattle.laws.specs.Written.Properties.{written-none, written-again, written-at, written-kept, written-length, written-stop, written-same, written-cong}
 use Rattle.answer.specs.declared.Answer.{Answer}
 use Rattle.answer.specs.declared.Answer.the-variants.{Good, No}
 use Rattle.answer.specs.declared.Refusal.{Refusal}
@@ -27,6 +27,8 @@ use Rattle.unit.specs.Step as Step
 use Rattle.unit.specs.Step.{goneAfter}
 use Rattle.unit.specs.Step.Properties.{gone-never}
 use Rattle.plan.specs.declared.Kind.{Kind}
+use Rattle.plan.specs.declared.Plan.{Plan}
+use Rattle.plan.specs.Order.{kindOf}
 use Rattle.rack.specs.declared.State.{State}
 use Rattle.rack.specs.State.{unitOf, kindAt, kindPlaces, InUse, projectPlaces, ProjectInUse, sumAt, Places}
 use Rattle.rack.specs.State.Properties.{refused-keeps, good-moves}
@@ -80,13 +82,6 @@ slice-turns slice frame l e = rw e (sym (mod-self frame))
 
 pub slice-next : (slice frame : ℕ) → slice < frame → (slice + 1 ≡ frame → ⊥) → slice + 1 ≡ (slice + 1) % frame
 slice-next slice frame l h = let m : slice + 1 < frame = omega (arith, h) in sym (mod-eq-of-lt m)
-
--- it is one of a plan's frame, which is short
-pub slice-small : (s : State) (slice : ℕ) → Ready s → slice ≡ s .slice → slice < s .plan .frame
-slice-small s slice r e = omega (arith, r .form .slice-below)
-
-pub slice-fits : (s : State) (slice : ℕ) → Ready s → slice ≡ s .slice → slice + 1 < 256
-slice-fits s slice r e = omega (arith, r .form .slice-below, r .order .counts .frame-most)
 
 -- ---- the steps of a loop that lowers what is left, by the seats
 
@@ -241,17 +236,79 @@ module _ (s : State) (r : Ready s) (seat : List ℕ) (es : seat ≡ seatsOf s) (
         (λ j m q. ap (λ (x : ℕ). sumAt s j - x)
         (sym (count-no (countTo i (servedFor s j)) i (servedFor s j) refl (served-other s j i (λ w. q (sym (ec ∙ w)))))))
 
--- and the slice: n of m places are done, and x is the slice after
-pub advanced-is : (s t : State) (n m x f : ℕ) → m ≡ kindPlaces s → t .plan ≡ s .plan → t .slice ≡ s .slice → f ≡ s .plan .frame →
-    x ≡ (t .slice + 1) % f → t .unit ≡ written n (unitAfter s) (s .unit) → t .sum ≡ sumsBelow s n → n ≤ m → m ≤ n →
-    record { plan = t .plan; slice = x; unit = t .unit; sum = t .sum } ≡ advanced s
-unfolding advanced sumAfter
-advanced-is s t n m x f e p q ef ex u v a b =
-    let done : n ≡ kindPlaces s = omega arith in
-    let all = written-stop n (kindPlaces s) (unitAfter s) (s .unit) (t .unit) u (omega arith) (omega arith) in
-    let sums = v ∙ ap (λ (x : ℕ). sumsBelow s x) done in
-    let turned : x ≡ (s .slice + 1) % s .plan .frame = ex ∙ rw (q, ef) in
-    λ k. record { plan = p k; slice = turned k; unit = all k; sum = sums k }
+-- ---- the loop: s is the state as it was, plan, seat and n what was laid down before it, and t the state so far
+
+pub record Laid (s : State) (plan : Plan) (seat : List ℕ) (n : ℕ) : Type 0 where
+  pub ready : Ready s
+  pub plan-is : plan ≡ s .plan
+  pub seats : seat ≡ seatsOf s
+  pub places : n ≡ kindPlaces s
+
+-- the kinds below i are done
+pub record Ran (s : State) (i : ℕ) (t : State) : Type 0 where
+  pub plan : t .plan ≡ s .plan
+  pub slice : t .slice ≡ s .slice
+  pub unit : t .unit ≡ written i (unitAfter s) (s .unit)
+  pub sum : t .sum ≡ sumsBelow s i
+
+pub ran-none : (s : State) → Ran s 0 s
+ran-none s = record { plan = refl; slice = refl; unit = written-none (unitAfter s) (s .unit); sum = sums-start s }
+
+module _ (s : State) (plan : Plan) (seat : List ℕ) (n : ℕ) (laid : Laid s plan seat n) (i : ℕ) (l : i < n) (t : State) (ran : Ran s i t) where
+  kind-is : kindOf plan i ≡ kindAt s i
+  kind-is = ap (λ (p : Plan). kindOf p i) (laid .plan-is)
+
+  pub ran-project : kindOf plan i .project < 8
+  ran-project =
+      let most = lowered-project s (laid .ready) seat (laid .seats) (t .sum) i (ran .sum) n (laid .places) l in
+      omega (arith, most, ap (λ (k : Kind). k .project) kind-is)
+
+  -- the unit that is stored: b is whether the kind sits
+  unit-stored : (b : Bool) (k : Kind) (v : Unit) → b ≡ not (eqb (at seat i) 0) → k ≡ kindOf plan i →
+      v ≡ Step.unitAfter b (k .separation) (unitOf t i) → set (t .unit) i v ≡ written (i + 1) (unitAfter s) (s .unit)
+  unit-stored b k v eb ek ev = unit-more s (laid .ready) seat (laid .seats) (t .unit) i (ran .unit) n (laid .places) l b k v eb (ek ∙ kind-is) ev
+
+  pub ran-same : (b : Bool) (k : Kind) (v : Unit) → b ≡ not (eqb (at seat i) 0) → k ≡ kindOf plan i →
+      v ≡ Step.unitAfter b (k .separation) (unitOf t i) → at seat i ≡ 0 →
+      Ran s (i + 1) (record { plan = t .plan; slice = t .slice; unit = set (t .unit) i v; sum = t .sum })
+  ran-same b k v eb ek ev z = record {
+    plan = ran .plan;
+    slice = ran .slice;
+    unit = unit-stored b k v eb ek ev;
+    sum = sums-same s (laid .ready) seat (laid .seats) (t .sum) i (ran .sum) n (laid .places) l z;
+  }
+
+  module _ (z : at seat i ≡ 0 → ⊥) (c : ℕ) (k : Kind) (ek : k ≡ kindOf plan i) (ec : c ≡ k .project) where
+    its : c ≡ kindAt s i .project
+    its = ec ∙ ap (λ (x : Kind). x .project) (ek ∙ kind-is)
+
+    pub ran-sum : 0 < getD (t .sum) c 0
+    ran-sum = sums-some s (laid .ready) seat (laid .seats) (t .sum) i (ran .sum) n (laid .places) l z c its
+
+    pub ran-one : (b : Bool) (v : Unit) → b ≡ not (eqb (at seat i) 0) → v ≡ Step.unitAfter b (k .separation) (unitOf t i) →
+        Ran s (i + 1) (record { plan = t .plan; slice = t .slice; unit = set (t .unit) i v; sum = set (t .sum) c (getD (t .sum) c 0 - 1) })
+    ran-one b v eb ev = record {
+      plan = ran .plan;
+      slice = ran .slice;
+      unit = unit-stored b k v eb ek ev;
+      sum = sums-one s (laid .ready) seat (laid .seats) (t .sum) i (ran .sum) n (laid .places) l z c its;
+    }
+
+-- all are done
+module _ (s : State) (plan : Plan) (seat : List ℕ) (n : ℕ) (laid : Laid s plan seat n) (i : ℕ) (t : State) (ran : Ran s i t) where
+  pub ran-slice : t .slice < plan .frame
+  ran-slice = omega (arith, ran .slice, laid .ready .form .slice-below, ap (λ (p : Plan). p .frame) (laid .plan-is))
+
+  pub ran-all : (x : ℕ) → i ≤ n → n ≤ i → x ≡ (t .slice + 1) % plan .frame →
+      record { plan = t .plan; slice = x; unit = t .unit; sum = t .sum } ≡ advanced s
+  unfolding advanced sumAfter
+  ran-all x a b ex =
+      let done : i ≡ kindPlaces s = omega (arith, laid .places) in
+      let all = written-stop i (kindPlaces s) (unitAfter s) (s .unit) (t .unit) (ran .unit) (omega arith) (omega arith) in
+      let sums = ran .sum ∙ ap (λ (y : ℕ). sumsBelow s y) done in
+      let turned : x ≡ (s .slice + 1) % s .plan .frame = ex ∙ ap₂ (λ (y : ℕ) (p : Plan). (y + 1) % p .frame) (ran .slice) (laid .plan-is) in
+      let same = ran .plan in
+      λ k. record { plan = same k; slice = turned k; unit = all k; sum = sums k }
 
 -- ---- it is in form
 

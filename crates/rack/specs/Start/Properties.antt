@@ -61,7 +61,8 @@ fresh-form p o = record {
   };
   sums = λ j l.
       getD-replicate 8 j 0 0 (omega (arith, o .counts .projects-most))
-      ∙ sym (none-left (freshOf p) (λ i m. ap (λ (v : Unit). v .left) (getD-replicate 16 i noUnit noUnit (omega (arith, o .counts .kinds-most)))) j);
+      ∙ sym (none-left (freshOf p) (λ i m.
+      ap (λ (v : Unit). v .left) (getD-replicate 16 i noUnit noUnit (omega (arith, o .counts .kinds-most)))) j);
 }
   where
     never : (k : Kind) → UnitInForm k noUnit

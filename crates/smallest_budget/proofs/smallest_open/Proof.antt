@@ -43,7 +43,8 @@ returns c = search (eight, served-open)
 
 least-budget-requires : tie.Need-least-budget-requires
 least-budget-requires c κs =
-    let asked = c .before .before .before .before .before .before .before .before .before .before .before .before .before .before .before .asked-of .ensures in (
+    let later = c .before .before .before .before .before .before .before .before in
+    let asked = later .before .before .before .before .before .before .before .asked-of .ensures in (
       (
         search needs,
         ap (λ (k : Asked). k .owner) asked,

@@ -29,7 +29,8 @@ use Rattle.workload.specs.Workload.{workload}
 use Rattle.workload.specs.Workload.Properties.{workload-most}
 use Rattle.smallest_budget.specs.declared.Asked.{Asked}
 use Rattle.smallest_budget.specs.Rotation.{width-anywhere, excess-anywhere}
-use Rattle.smallest_budget.specs.Smallest.{widthWith, excessWith, sliceWith, mostBudget, leastBudget, fittedWith, servedWith, servedAtMost}
+use Rattle.smallest_budget.specs.Smallest.{widthWith, excessWith, sliceWith, mostBudget, leastBudget}
+use Rattle.smallest_budget.specs.Smallest.{fittedWith, servedWith, servedAtMost}
 use Rattle.smallest_budget.specs.Smallest.Properties.{least-most, least-some}
 use Rattle.smallest_budget.specs.Steps.{cardsWith, askedOf, fitBy, fittedBy, servedBy, fitWith}
 
@@ -87,7 +88,8 @@ project-fits p j a e q = let o = open-opened p j a e q in omega (arith, o .its-p
 -- ---- a judgement by what is asked of each kind
 
 pub asked-stop : (p : Plan) (i : ℕ) (owner length deadline works : List ℕ) →
-    owner ≡ written i (λ (k : ℕ). kindOf p k .project) (replicate 16 0) → length ≡ written i (λ (k : ℕ). kindOf p k .length) (replicate 16 0) →
+    owner ≡ written i (λ (k : ℕ). kindOf p k .project) (replicate 16 0) →
+    length ≡ written i (λ (k : ℕ). kindOf p k .length) (replicate 16 0) →
     deadline ≡ written i (λ (k : ℕ). kindOf p k .deadline) (replicate 16 0) → works ≡ written i (workload p) (replicate 16 0) →
     i ≤ p .kinds → p .kinds ≤ i → record { owner = owner; length = length; deadline = deadline; workload = works } ≡ askedOf p
 unfolding askedOf

@@ -39,11 +39,11 @@ places-requires c κs = search needs
 
 loop-holds : tie.Need-loop-holds Inv-loop μ-loop
 loop-holds c = (
-      omega arith,
-      search (places-most, advance-opened),
-      record { ready = search advance-opened; plan-is = refl; seats = search; places = search },
-      ran-none _,
-    )
+  omega arith,
+  search (places-most, advance-opened),
+  record { ready = search advance-opened; plan-is = refl; seats = search; places = search },
+  ran-none _,
+)
 
 mul-kind : tie.Need-mul-kind Inv-loop μ-loop
 mul-kind c = search needs

@@ -6,7 +6,8 @@ use native.Mathlib.Omega.{arith}
 use Rattle.rack.specs.State.Properties.{next-kept, next-moved}
 use Rattle.rack.specs.Form.Properties.{places-most}
 use Rattle.rack.specs.Advance.{advanceOf}
-use Rattle.rack.specs.Advance.Properties.{advance-opened, Laid, Ran, ran-none, ran-project, ran-same, ran-sum, ran-one, ran-slice, ran-all}
+use Rattle.rack.specs.Advance.Properties.{advance-opened, Laid, Ran, ran-none, ran-project, ran-same, ran-sum, ran-one, ran-slice}
+use Rattle.rack.specs.Advance.Properties.{ran-all}
 use borrow.Author.Needs.{needs}
 use Rattle.rack.proofs.State.advance.Statement.{statement}
 use Rattle.rack.proofs.State.advance.Tie as tie
@@ -39,11 +40,11 @@ places-requires c κs = search needs
 
 loop-holds : tie.Need-loop-holds Inv-loop μ-loop
 loop-holds c = (
-      omega arith,
-      search (places-most, advance-opened),
-      record { ready = search advance-opened; plan-is = refl; seats = search; places = search },
-      ran-none _,
-    )
+  omega arith,
+  search (places-most, advance-opened),
+  record { ready = search advance-opened; plan-is = refl; seats = search; places = search },
+  ran-none _,
+)
 
 mul-kind : tie.Need-mul-kind Inv-loop μ-loop
 mul-kind c = search needs

@@ -41,8 +41,10 @@ module _ (p : Plan) (admitted : startOf p .answer ≡ Good) where
       told-same (OldRun.after p calls) (after p calls)
       (together-run calls (Old.startOf p .state) (startOf p .state) (start-together p admitted) on) call
 
-  -- the states then stand beside each other: the slice is the clock modulo F, and slices gone are the lesser of T and clock less release clock
-  pub beside-before : (calls : List Call) → OldRun.ended (Old.startOf p .state) calls ≡ false → Beside (OldRun.after p calls) (after p calls)
+  -- the states then stand beside each other: the slice is the clock modulo F, and slices gone are the lesser of T and clock less
+  -- release clock
+  pub beside-before : (calls : List Call) → OldRun.ended (Old.startOf p .state) calls ≡ false →
+      Beside (OldRun.after p calls) (after p calls)
   beside-before calls on = together-run calls (Old.startOf p .state) (startOf p .state) (start-together p admitted) on .beside
 
   -- and for so many advances the old clock did not end

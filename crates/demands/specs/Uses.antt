@@ -458,7 +458,8 @@ twice again last second =
     shown-twice (after planA releases) (7 ∷ 7 ∷ 7 ∷ []) (1 ∷ 2 ∷ 7 ∷ []) Good (running .shows) again last second .1
 
 -- and so it is in any other lent row
-pub whatever-stood : (bytes left : List ℕ) (a : Answer) → Shows (after planA releases) bytes a left → number a ≡ 0 → 1 ∷ 2 ∷ [] ≡ take 2 left
+pub whatever-stood : (bytes left : List ℕ) (a : Answer) → Shows (after planA releases) bytes a left → number a ≡ 0 →
+    1 ∷ 2 ∷ [] ≡ take 2 left
 whatever-stood bytes left a c good =
     rw (running .first-cards) at
     (shown-alike (after planA releases) (7 ∷ 7 ∷ 7 ∷ []) bytes (1 ∷ 2 ∷ 7 ∷ []) left Good a (running .shows) c refl good)
@@ -470,7 +471,8 @@ one-call =
     pair-is-slice s (7 ∷ 7 ∷ 7 ∷ []) (1 ∷ 2 ∷ 7 ∷ []) Good (advanceOf s) (running .shows) refl (omega arith) .0
 
 -- a row that is too short keeps nobody from advancing
-pub short-row : (a : Answer) (left : List ℕ) → Shows (after planA releases) (7 ∷ []) a left → advanceOf (after planA releases) .answer ≡ Good
+pub short-row : (a : Answer) (left : List ℕ) → Shows (after planA releases) (7 ∷ []) a left →
+    advanceOf (after planA releases) .answer ≡ Good
 short-row a left c =
     let nine : number a ≡ 9 = ap number (c .result) ∙ running .show-told in
     short-advances (after planA releases) (7 ∷ []) left a c nine

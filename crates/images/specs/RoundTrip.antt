@@ -25,7 +25,8 @@ use Rattle.unit.specs.Unit.{noUnit}
 use Rattle.rack.specs.State.{unitOf}
 use Rattle.images.specs.Image.{countWidths, projectWidths, kindWidths, sliceWidths, unitWidths, planRows, stateRows, projectPlace}
 use Rattle.images.specs.Image.{kindPlace, slicePlace, unitPlace, sumPlace, field, projectFrom, kindFrom, sliceFrom, unitFrom, sumFrom}
-use Rattle.images.specs.Image.{projectsFrom, kindsFrom, unitsFrom, sumsFrom, planFrom, stateFrom, releasedAt, releasedTold, countFields, projectFields}
+use Rattle.images.specs.Image.{projectsFrom, kindsFrom, unitsFrom, sumsFrom, planFrom, stateFrom, releasedAt, releasedTold}
+use Rattle.images.specs.Image.{countFields, projectFields}
 use Rattle.images.specs.Image.{kindFields, unitFields, planValues, stateValues, planImage, stateImage}
 use Rattle.images.specs.Typed.{PlanTyped, StateTyped}
 

@@ -67,8 +67,9 @@ unfolding sumTo leastTo firstTo countTo allTo written rankIn firstIn sooner each
     size partsTo headerFields projectFields kindFields projectFrom kindFrom projectsFrom kindsFrom headed decoded headerSpare
     projectSpare kindSpare projectsSpare kindsSpare placesSpare spareZero bodyAnswer readAnswer readOf cellAt heldFrom firstCell
     owns slotOf held window supply workloadPart fitsAt leastWidth greatestTo allowedLength leastExcess besides partOf workload
-    widthOf excessOf fitted admitted untouched inTime underway unitInForm emptyUnit early startable leftFor projectLeft sumsRight sumFits sumsInForm inForm sumsTold ready untilDue goneAfter leftAfter working active
-    outranks hasCard cardsHeld rankOf chosen takesCard byteOn viewOf rank served byteBy rowByte startAnswer startOf releaseAnswer
-    released releaseOf unitAfter servedFor sumAfter advanced roomFor showAnswer advanceOf commandFields fieldsSay commandOf
-    decimalIn decimal planLine outcome releaseLine rowText sliceLine endLine lineOf after turns opening played
+    widthOf excessOf fitted admitted untouched inTime underway unitInForm emptyUnit early startable leftFor projectLeft sumsRight
+    sumFits sumsInForm inForm sumsTold ready untilDue goneAfter leftAfter working active outranks hasCard cardsHeld rankOf chosen
+    takesCard byteOn viewOf rank served byteBy rowByte startAnswer startOf releaseAnswer released releaseOf unitAfter servedFor
+    sumAfter advanced roomFor showAnswer advanceOf commandFields fieldsSay commandOf decimalIn decimal planLine outcome releaseLine
+    rowText sliceLine endLine lineOf after turns opening played
 example = refl

@@ -151,7 +151,8 @@ module _ (old : Old.State) (new : State) (b : Beside old new) (c : Clocked old) 
     places = kinds-same;
     active = λ i l. active-same i l j;
     above = λ k i l m p q.
-        shifted (Rank.until new) (OldRank.due old) (old .clock) k i (due-until k l (active-left k l j p)) (due-until i m (active-left i m j q));
+        shifted (Rank.until new) (OldRank.due old) (old .clock) k i (due-until k l (active-left k l j p))
+        (due-until i m (active-left i m j q));
     first = ap (λ (p : Plan). firstCell p j) (b .plan);
     budget = ap (λ (p : Plan). budgetOf p j) (b .plan);
     frame = ap (λ (p : Plan). p .frame) (b .plan);
@@ -161,7 +162,8 @@ module _ (old : Old.State) (new : State) (b : Beside old new) (c : Clocked old) 
   served-same : (i : ℕ) → InUse new i → Rank.served new i ≡ OldRank.served old i
   unfolding Rank.served OldRank.served Rank.viewOf
   served-same i l =
-      same-chosen (Rank.viewOf new (kindAt new i .project)) (OldRank.viewOf old (kindAt new i .project)) (view-same (kindAt new i .project)) i l
+      same-chosen (Rank.viewOf new (kindAt new i .project)) (OldRank.viewOf old (kindAt new i .project))
+      (view-same (kindAt new i .project)) i l
       ∙ ap (λ (k : Kind). chosen (OldRank.viewOf old (k .project)) i) (kind-same i)
 
   -- ---- the row
@@ -259,7 +261,8 @@ module _ (old : Old.State) (new : State) (b : Beside old new) (c : Clocked old) 
   old-form =
       and-both (leb (old .clock) Old.lastClock) (allTo 16 (OldForm.placeInForm old) && OldForm.sumsInForm old)
       (le-leb (old .clock) Old.lastClock (c .clock-most))
-      (and-both (allTo 16 (OldForm.placeInForm old)) (OldForm.sumsInForm old) (all-of 16 (OldForm.placeInForm old) place-in-form) sums-in-form)
+      (and-both (allTo 16 (OldForm.placeInForm old)) (OldForm.sumsInForm old)
+      (all-of 16 (OldForm.placeInForm old) place-in-form) sums-in-form)
 
   pub old-ready : OldForm.ready old ≡ Good
   unfolding OldForm.ready
@@ -282,7 +285,8 @@ module _ (old : Old.State) (new : State) (b : Beside old new) (c : Clocked old) 
       ago : ℕ
       ago = old .clock - Old.unitOf old i .at
 
-      go : (t : Bool) → Old.unitOf old i .released ≡ t → (unitOf new i .released && ltb (unitOf new i .gone) T) ≡ (Old.unitOf old i .released && ltb ago T)
+      go : (t : Bool) → Old.unitOf old i .released ≡ t →
+          (unitOf new i .released && ltb (unitOf new i .gone) T) ≡ (Old.unitOf old i .released && ltb ago T)
       go true e = rw (b .unit i l .released, e, b .unit i l .gone e) (held-test T ago)
       go false e = rw (b .unit i l .released, e)
 
@@ -302,7 +306,8 @@ module _ (old : Old.State) (new : State) (b : Beside old new) (c : Clocked old) 
           elim (ℕ-discrete (unitOf new i .left) 0) [
             | yes z ↦ rw (eq-eqb (unitOf new i .left) 0 z)
             | no z ↦
-                absurd (true≢false (sym (left-early (kindAt new i) (unitOf new i) (form i l) (ready .order .kind-at i l .deadline-most) (omega arith)) ∙ s))
+                let most = ready .order .kind-at i l .deadline-most in
+                absurd (true≢false (sym (left-early (kindAt new i) (unitOf new i) (form i l) most (omega arith)) ∙ s))
           ]
 
       go : (misfit soon : Bool) → Start.early (kindAt new i .separation) (unitOf new i) ≡ soon →
@@ -330,7 +335,8 @@ module _ (old : Old.State) (new : State) (b : Beside old new) (c : Clocked old) 
       ap₂ (λ (a : Answer) (l : List ℕ). ifGood a l bytes) (show-same (length bytes) h) (over-same bytes)
 
   -- an advance's, but for 11
-  pub advance-same : number (OldAdvance.advanceAnswer old) ≢ 11 → (Advance.advanceAnswer new ≡ OldAdvance.advanceAnswer old) × (old .clock < Old.lastClock)
+  pub advance-same : number (OldAdvance.advanceAnswer old) ≢ 11 →
+      (Advance.advanceAnswer new ≡ OldAdvance.advanceAnswer old) × (old .clock < Old.lastClock)
   unfolding OldAdvance.advanceAnswer OldAdvance.timeLeft
   advance-same = rw (old-ready, new-ready) (go (eqb (old .clock) Old.lastClock) refl)
     where
@@ -347,7 +353,8 @@ module _ (old : Old.State) (new : State) (b : Beside old new) (c : Clocked old) 
       Alike : Type 0
       Alike =
           (refuse (not (ltb i (new .plan .kinds))) (bare 12) andThen Start.startable (kindAt new i) (unitOf new i) e)
-          ≡ (refuse (not (ltb i (old .plan .kinds))) (bare 12) andThen OldRelease.startable (Old.kindAt old i) (Old.unitOf old i) (old .clock) e)
+          ≡ (refuse (not (ltb i (old .plan .kinds))) (bare 12)
+          andThen OldRelease.startable (Old.kindAt old i) (Old.unitOf old i) (old .clock) e)
 
       unused : old .plan .kinds ≤ i → Alike
       unused l = rw (le-ltb i (old .plan .kinds) l, le-ltb i (new .plan .kinds) (omega (arith, kinds-same)))
@@ -497,8 +504,12 @@ module _ (old : Old.State) (new : State) (b : Beside old new) (c : Clocked old) 
           ];
       never = λ k l r.
           elim (ℕ-discrete k i) [
-            | yes z ↦ absurd (true≢false (sym (ap (λ (x : ℕ). Old.unitOf (OldRelease.released old i e) x .released) z ∙ ap (λ (x : Old.Unit). x .released) old-started) ∙ r))
-            | no z ↦ ap (λ (x : Old.Unit). x .at) (old-others k z) ∙ c .never k l (sym (ap (λ (x : Old.Unit). x .released) (old-others k z)) ∙ r)
+            | yes z ↦
+                let here = ap (λ (x : ℕ). Old.unitOf (OldRelease.released old i e) x .released) z in
+                absurd (true≢false (sym (here ∙ ap (λ (x : Old.Unit). x .released) old-started) ∙ r))
+            | no z ↦
+                let same = ap (λ (x : Old.Unit). x .released) (old-others k z) in
+                ap (λ (x : Old.Unit). x .at) (old-others k z) ∙ c .never k l (sym same ∙ r)
           ];
       unused = λ k m l. old-others k (λ z. omega (arith, kinds-same, may .its-kind)) ∙ c .unused k m l;
       sixteen = length-set (old .unit) i (OldRelease.startedUnit old e) ∙ c .sixteen;

@@ -128,7 +128,8 @@ module _ (s : State) (r : Ready s) (places : Places s) (i v : ℕ) (l : i < 16) 
   in-order = in-order-good (s .plan) (r .order)
 
   -- what could be left is in form
-  form-still : InUse s i → unitOf s i .released ≡ true → v ≤ kindAt s i .length → (0 < v → unitOf s i .gone < kindAt s i .deadline) → InForm u
+  form-still : InUse s i → unitOf s i .released ≡ true → v ≤ kindAt s i .length → (0 < v → unitOf s i .gone < kindAt s i .deadline) →
+      InForm u
   form-still m e q w = record {
     slice-below = r .form .slice-below;
     unit-at = λ k a b. unit-form k (r .form .unit-at k a b) (ℕ-discrete k i);

@@ -64,7 +64,8 @@ run-slice = along Counts (λ s l. sym (rw (add-zero (s .slice)) (mod-eq-of-lt l)
         let some : 0 < s .plan .frame = omega arith in
         h (mod-lt (s .slice + 1) some)
         ∙ mod-add-mod (s .slice + 1) (s .plan .frame) (length slices)
-        ∙ ap (λ (n : ℕ). n % s .plan .frame) (add-assoc (s .slice) 1 (length slices) ∙ ap (λ (n : ℕ). s .slice + n) (one-add (length slices)))
+        ∙ ap (λ (n : ℕ). n % s .plan .frame) (add-assoc (s .slice) 1 (length slices)
+        ∙ ap (λ (n : ℕ). s .slice + n) (one-add (length slices)))
 
 pub run-plan : (calls : List Call) (s : State) → runFrom s calls .plan ≡ s .plan
 unfolding advanced released

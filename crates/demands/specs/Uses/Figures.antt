@@ -167,11 +167,11 @@ pub running : Running
 unfolding sumTo leastTo firstTo countTo allTo written rankIn firstIn sooner eachTo within sized emptyProject emptyKind tidyProjects
     tidyKinds inRange timed budgets sizes unused projectsInRange kindInRange kindsInRange budgetsFit ranges checked cellAt heldFrom
     firstCell owns slotOf held window supply workloadPart fitsAt leastWidth greatestTo allowedLength leastExcess besides partOf
-    workload widthOf excessOf fitted admitted untouched inTime underway unitInForm emptyUnit early startable leftFor projectLeft sumsRight sumFits sumsInForm inForm sumsTold ready untilDue goneAfter leftAfter working
-    active activeKinds outranks hasCard cardsHeld rankOf chosen takesCard byteOn viewOf rank served holds byteBy rowByte rowOf
-    rowOver startAnswer startOf releaseAnswer released releaseOf unitAfter servedFor sumAfter advanced advanceOf roomFor
-    showAnswer bufferShown runFrom acceptedIn slicesOf unshown handedBack sinceCall sinceFrom namesKind bytesIn shownBy shown upTo
-    lastFrom restarted kindsLeft
+    workload widthOf excessOf fitted admitted untouched inTime underway unitInForm emptyUnit early startable leftFor projectLeft
+    sumsRight sumFits sumsInForm inForm sumsTold ready untilDue goneAfter leftAfter working active activeKinds outranks hasCard
+    cardsHeld rankOf chosen takesCard byteOn viewOf rank served holds byteBy rowByte rowOf rowOver startAnswer startOf releaseAnswer
+    released releaseOf unitAfter servedFor sumAfter advanced advanceOf roomFor showAnswer bufferShown runFrom acceptedIn slicesOf
+    unshown handedBack sinceCall sinceFrom namesKind bytesIn shownBy shown upTo lastFrom restarted kindsLeft
 running = record {
   admitted-A = refl;
   kind-one = refl;
@@ -305,10 +305,11 @@ verdicts = record {
     room (suc (suc (suc i))) l = absurd (omega arith)
 
 pub ranks : Ranked
-unfolding sumTo firstTo countTo allTo rankIn firstIn sooner eachTo within sized emptyProject emptyKind tidyProjects tidyKinds inRange
-    timed budgets sizes unused projectsInRange kindInRange kindsInRange budgetsFit ranges checked cellAt heldFrom firstCell owns slotOf
-    held untouched inTime underway unitInForm emptyUnit leftFor projectLeft sumsRight sumFits sumsInForm inForm sumsTold ready untilDue working active activeKinds outranks hasCard cardsHeld rankOf chosen
-    takesCard byteOn viewOf rank holds byteBy rowByte
+unfolding sumTo firstTo countTo allTo rankIn firstIn sooner eachTo within sized emptyProject emptyKind tidyProjects tidyKinds
+    inRange timed budgets sizes unused projectsInRange kindInRange kindsInRange budgetsFit ranges checked cellAt heldFrom firstCell
+    owns slotOf held untouched inTime underway unitInForm emptyUnit leftFor projectLeft sumsRight sumFits sumsInForm inForm sumsTold
+    ready untilDue working active activeKinds outranks hasCard cardsHeld rankOf chosen takesCard byteOn viewOf rank holds byteBy
+    rowByte
 ranks = record {
   ready-both = refl;
   ready-waiting = refl;

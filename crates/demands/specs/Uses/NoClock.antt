@@ -104,11 +104,13 @@ uncut = a-billion-slices planA (running .admitted-A) fourSlices (omega (arith, f
 
 pub again-as-before : nextAfter (after planA fourSlices) (release 1 2) .answer ≡ Good
 again-as-before =
-    as-before planA (running .admitted-A) fourSlices (release 1 2) uncut (λ z. omega (arith, ap number (figures .again))) .0 ∙ figures .again
+    let good : number (OldRun.nextAfter (OldRun.after planA fourSlices) (release 1 2) .answer) ≡ 0 = ap number (figures .again) in
+    as-before planA (running .admitted-A) fourSlices (release 1 2) uncut (λ z. omega arith) .0 ∙ figures .again
 
 pub early-as-before : number (nextAfter (after planA fourSlices) (release 2 1) .answer) ≡ 14
 early-as-before =
-    ap number (as-before planA (running .admitted-A) fourSlices (release 2 1) uncut (λ z. omega (arith, figures .early)) .0) ∙ figures .early
+    let told = figures .early in
+    ap number (as-before planA (running .admitted-A) fourSlices (release 2 1) uncut (λ z. omega arith) .0) ∙ told
 
 -- the clock was 4, and the slice is the frame's first; four slices are gone since clock 0, as many as T
 pub first-again : after planA fourSlices .slice ≡ 0

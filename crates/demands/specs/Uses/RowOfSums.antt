@@ -84,10 +84,10 @@ figures : Figures
 unfolding sumTo leastTo firstTo countTo allTo written rankIn firstIn sooner eachTo within sized emptyProject emptyKind tidyProjects
     tidyKinds inRange timed budgets sizes unused projectsInRange kindInRange kindsInRange budgetsFit ranges checked cellAt heldFrom
     firstCell owns slotOf held window supply workloadPart fitsAt leastWidth greatestTo allowedLength leastExcess besides partOf
-    workload widthOf excessOf fitted admitted untouched inTime underway unitInForm emptyUnit early startable leftFor projectLeft sumsRight
-    sumFits sumsInForm inForm sumsTold ready untilDue goneAfter leftAfter working active outranks hasCard cardsHeld rankOf chosen takesCard byteOn viewOf
-    rank served byteBy rowByte rowOf rowOver startAnswer startOf releaseAnswer released releaseOf unitAfter servedFor sumAfter advanced
-    advanceOf runFrom acceptedIn slicesOf namesProject bytesIn
+    workload widthOf excessOf fitted admitted untouched inTime underway unitInForm emptyUnit early startable leftFor projectLeft
+    sumsRight sumFits sumsInForm inForm sumsTold ready untilDue goneAfter leftAfter working active outranks hasCard cardsHeld rankOf
+    chosen takesCard byteOn viewOf rank served byteBy rowByte rowOf rowOver startAnswer startOf releaseAnswer released releaseOf
+    unitAfter servedFor sumAfter advanced advanceOf runFrom acceptedIn slicesOf namesProject bytesIn
 figures = record {
   left-open = refl;
   left-one = refl;

@@ -79,7 +79,8 @@ module _ (s : List ℕ) (x v : ℕ) where
   unfolding planFrom projectFrom kindFrom
   plan-kept l =
       let counts : fieldsOf countWidths t ≡ fieldsOf countWidths s = fields-before countWidths 0 (omega arith) in
-      let projects = written-cong 8 (λ j. projectFrom (drop (projectPlace j) t)) (λ j. projectFrom (drop (projectPlace j) s)) (replicate 8 noProject)
+      let projects = written-cong 8 (λ j. projectFrom (drop (projectPlace j) t)) (λ j. projectFrom (drop (projectPlace j) s))
+      (replicate 8 noProject)
       (λ j m. project-kept j (fields-before projectWidths (projectPlace j) (omega arith))) in
       let kinds = written-cong 16 (λ i. kindFrom (drop (kindPlace i) t)) (λ i. kindFrom (drop (kindPlace i) s)) (replicate 16 noKind)
       (λ i m. kind-kept i (fields-before kindWidths (kindPlace i) (omega arith))) in
@@ -228,7 +229,8 @@ module _ (s : List ℕ) (bytes : AreBytes s) (whole : stateSize ≤ length s) (v
         let slice = slice-kept s (sumByte j b) v (omega arith) in
         let units = written-cong 16 (λ i. unitFrom (drop (unitPlace i) y)) (λ i. unitFrom (drop (unitPlace i) s)) (replicate 16 noUnit)
         (λ i k. unit-kept s (sumByte j b) v i (fields-before s (sumByte j b) v unitWidths (unitPlace i) (omega arith))) in
-        let sums = sym (written-changed 8 (λ k. sumFrom (drop (sumPlace k) s)) (λ k. sumFrom (drop (sumPlace k) y)) (replicate 8 0) j l others) in
+        let sums = sym (written-changed 8 (λ k. sumFrom (drop (sumPlace k) s)) (λ k. sumFrom (drop (sumPlace k) y))
+        (replicate 8 0) j l others) in
         λ k. record { plan = plan k; slice = slice k; unit = units k; sum = sums k }
       where
         others : (k : ℕ) → k < 8 → k ≢ j → sumFrom (drop (sumPlace k) y) ≡ sumFrom (drop (sumPlace k) s)
@@ -318,7 +320,8 @@ module _ (s : List ℕ) (bytes : AreBytes s) (whole : stateSize ≤ length s) (v
         let slice = slice-kept s (leftByte i b) v (omega arith) in
         let units =
         sym (ap (λ (x : Unit). set (unitsFrom 16 s) i x) (sym unit-changed)
-        ∙ written-changed 16 (λ k. unitFrom (drop (unitPlace k) s)) (λ k. unitFrom (drop (unitPlace k) w)) (replicate 16 noUnit) i l others) in
+        ∙ written-changed 16 (λ k. unitFrom (drop (unitPlace k) s)) (λ k. unitFrom (drop (unitPlace k) w))
+        (replicate 16 noUnit) i l others) in
         let sums = written-cong 8 (λ j. sumFrom (drop (sumPlace j) w)) (λ j. sumFrom (drop (sumPlace j) s)) (replicate 8 0)
         (λ j k. sum-kept s (leftByte i b) v j (fields-behind s (leftByte i b) v sumWidths (sumPlace j) (omega arith))) in
         λ k. record { plan = plan k; slice = slice k; unit = units k; sum = sums k }
@@ -395,7 +398,8 @@ answer-parts s (show row) = refl
 answer-parts s advance = refl
 answer-parts s (release i e) = refl
 
-seen-answer : (s : List ℕ) (call : Call) (seen : Seen) (after : List ℕ) → Called s call seen after → numberIn (seen .word) ≡ number (answerAt s call)
+seen-answer : (s : List ℕ) (call : Call) (seen : Seen) (after : List ℕ) → Called s call seen after →
+    numberIn (seen .word) ≡ number (answerAt s call)
 unfolding answerAt
 seen-answer s (show row) seen after c = show-decodes s row (seen .word) (seen .row) (c .0) .its-number
 seen-answer s advance seen after c = advance-decodes s (seen .word) after (c .0) .its-number
@@ -418,7 +422,8 @@ module _ (s : List ℕ) (whole : stateSize ≤ length s) (call : Call) (seen : S
   unfolding among disjoint
   image-good = go (stateAnswer s) refl own-answer
     where
-      go : (a : Answer) → stateAnswer s ≡ a → among ownNumbers (number (stateAnswer s andThen nextAfter (stateFrom s) call .answer)) ≡ true →
+      go : (a : Answer) → stateAnswer s ≡ a →
+          among ownNumbers (number (stateAnswer s andThen nextAfter (stateFrom s) call .answer)) ≡ true →
           stateAnswer s ≡ Good
       go Good e o = e
       go (No w) e o =
@@ -427,7 +432,8 @@ module _ (s : List ℕ) (whole : stateSize ≤ length s) (call : Call) (seen : S
           absurd (true≢false (sym o ∙ ap (among ownNumbers) same ∙ out))
 
   pub state-taken : among ownNumbers (number (nextAfter (stateFrom s) call .answer)) ≡ true
-  state-taken = ap (λ (a : Answer). among ownNumbers (number (a andThen nextAfter (stateFrom s) call .answer))) (sym image-good) ∙ own-answer
+  state-taken =
+      ap (λ (a : Answer). among ownNumbers (number (a andThen nextAfter (stateFrom s) call .answer))) (sym image-good) ∙ own-answer
 
 -- ---- a flipped bit is another byte
 

@@ -25,9 +25,12 @@ use Rattle.unit.specs.declared.Unit.{Unit}
 use Rattle.rack.specs.declared.State.{State}
 use Rattle.rack.specs.State.{unitOf, sumAt}
 use Rattle.images.specs.Image.{countWidths, projectWidths, kindWidths, sliceWidths, unitWidths, sumWidths, planRows, stateRows}
-use Rattle.images.specs.Image.{planSize, stateSize, projectPlace, kindPlace, slicePlace, unitPlace, sumPlace, releasedAt, releasedTold, field}
-use Rattle.images.specs.Image.{projectFrom, kindFrom, sliceFrom, unitFrom, sumFrom, projectsFrom, kindsFrom, unitsFrom, sumsFrom, planFrom}
-use Rattle.images.specs.Image.{stateFrom, countFields, projectFields, kindFields, unitFields, projectBytesAt, kindBytesAt, unitBytesAt, sumBytesAt}
+use Rattle.images.specs.Image.{planSize, stateSize, projectPlace, kindPlace, slicePlace, unitPlace, sumPlace, releasedAt}
+use Rattle.images.specs.Image.{releasedTold, field}
+use Rattle.images.specs.Image.{projectFrom, kindFrom, sliceFrom, unitFrom, sumFrom, projectsFrom, kindsFrom, unitsFrom, sumsFrom}
+use Rattle.images.specs.Image.{planFrom}
+use Rattle.images.specs.Image.{stateFrom, countFields, projectFields, kindFields, unitFields, projectBytesAt, kindBytesAt}
+use Rattle.images.specs.Image.{unitBytesAt, sumBytesAt}
 use Rattle.images.specs.Image.{planValues, stateValues, planImage, stateImage}
 
 -- ---- the fields of a place off its number n
@@ -161,4 +164,5 @@ pub store-state : (s : State) (out a b d after : List ℕ) → stateSize ≤ len
     → after ≡ stateImage s ++ drop stateSize out
 unfolding planImage stateImage putRows putTo
 store-state s out a b d after l e f g h =
-    rw (h, g, f, e, ← (rows-stored planRows (planValues (s .plan)) out refl (omega arith))) (rows-stored stateRows (stateValues s) out refl l)
+    rw (h, g, f, e, ← (rows-stored planRows (planValues (s .plan)) out refl (omega arith)))
+    (rows-stored stateRows (stateValues s) out refl l)

@@ -16,7 +16,8 @@ use Rattle.laws.specs.Sum.Properties.{sum-le, sum-cong, sum-add}
 use Rattle.laws.specs.Count.{countTo}
 use Rattle.laws.specs.Count.Properties.{count-none, count-yes, count-no, count-split, count-cong, count-sum}
 use Rattle.laws.specs.Written.{written}
-use Rattle.laws.specs.Written.Properties.{written-none, written-again, written-at, written-kept, written-length, written-stop, written-same, written-cong}
+use Rattle.laws.specs.Written.Properties.{written-none, written-again, written-at, written-kept, written-length, written-stop}
+use Rattle.laws.specs.Written.Properties.{written-same, written-cong}
 use Rattle.answer.specs.declared.Answer.{Answer}
 use Rattle.answer.specs.declared.Answer.the-variants.{Good, No}
 use Rattle.answer.specs.declared.Refusal.{Refusal}
@@ -171,7 +172,8 @@ sumsBelow s i = written (projectPlaces s) (λ j. sumAt s j - countTo i (servedFo
 
 pub sums-start : (s : State) → s .sum ≡ sumsBelow s 0
 sums-start s =
-    sym (written-there (projectPlaces s) (λ j. sumAt s j - countTo 0 (servedFor s j)) (s .sum) 0 (λ j l. omega (arith, count-none (servedFor s j))))
+    sym (written-there (projectPlaces s) (λ j. sumAt s j - countTo 0 (servedFor s j)) (s .sum) 0
+    (λ j l. omega (arith, count-none (servedFor s j))))
 
 module _ (s : State) (r : Ready s) (seat : List ℕ) (es : seat ≡ seatsOf s) (sums : List ℕ) (i : ℕ)
     (so-far : sums ≡ sumsBelow s i) (n : ℕ) (en : n ≡ kindPlaces s) (l : i < n) where
@@ -181,7 +183,8 @@ module _ (s : State) (r : Ready s) (seat : List ℕ) (es : seat ≡ seatsOf s) (
   pub sums-same : at seat i ≡ 0 → sums ≡ sumsBelow s (i + 1)
   sums-same z =
       so-far
-      ∙ written-cong (projectPlaces s) (λ j. sumAt s j - countTo i (servedFor s j)) (λ j. sumAt s j - countTo (i + 1) (servedFor s j)) (s .sum)
+      ∙ written-cong (projectPlaces s) (λ j. sumAt s j - countTo i (servedFor s j))
+      (λ j. sumAt s j - countTo (i + 1) (servedFor s j)) (s .sum)
       (λ j m. ap (λ (x : ℕ). sumAt s j - x)
       (count-no (countTo i (servedFor s j)) i (servedFor s j) refl (served-none s j i (not-seated s r seat es i n en l z))))
 
@@ -254,7 +257,8 @@ pub record Ran (s : State) (i : ℕ) (t : State) : Type 0 where
 pub ran-none : (s : State) → Ran s 0 s
 ran-none s = record { plan = refl; slice = refl; unit = written-none (unitAfter s) (s .unit); sum = sums-start s }
 
-module _ (s : State) (plan : Plan) (seat : List ℕ) (n : ℕ) (laid : Laid s plan seat n) (i : ℕ) (l : i < n) (t : State) (ran : Ran s i t) where
+module _ (s : State) (plan : Plan) (seat : List ℕ) (n : ℕ) (laid : Laid s plan seat n) (i : ℕ) (l : i < n) (t : State)
+    (ran : Ran s i t) where
   kind-is : kindOf plan i ≡ kindAt s i
   kind-is = ap (λ (p : Plan). kindOf p i) (laid .plan-is)
 
@@ -266,7 +270,8 @@ module _ (s : State) (plan : Plan) (seat : List ℕ) (n : ℕ) (laid : Laid s pl
   -- the unit that is stored: b is whether the kind sits
   unit-stored : (b : Bool) (k : Kind) (v : Unit) → b ≡ not (eqb (at seat i) 0) → k ≡ kindOf plan i →
       v ≡ Step.unitAfter b (k .separation) (unitOf t i) → set (t .unit) i v ≡ written (i + 1) (unitAfter s) (s .unit)
-  unit-stored b k v eb ek ev = unit-more s (laid .ready) seat (laid .seats) (t .unit) i (ran .unit) n (laid .places) l b k v eb (ek ∙ kind-is) ev
+  unit-stored b k v eb ek ev =
+      unit-more s (laid .ready) seat (laid .seats) (t .unit) i (ran .unit) n (laid .places) l b k v eb (ek ∙ kind-is) ev
 
   pub ran-same : (b : Bool) (k : Kind) (v : Unit) → b ≡ not (eqb (at seat i) 0) → k ≡ kindOf plan i →
       v ≡ Step.unitAfter b (k .separation) (unitOf t i) → at seat i ≡ 0 →
@@ -315,7 +320,8 @@ module _ (s : State) (plan : Plan) (seat : List ℕ) (n : ℕ) (laid : Laid s pl
 module _ (s : State) (r : Ready s) (places : Places s) where
   pub unit-after : (i : ℕ) → InUse s i → unitOf (advanced s) i ≡ unitAfter s i
   unfolding advanced
-  unit-after i l = written-at (kindPlaces s) (unitAfter s) (s .unit) noUnit i l (omega (arith, places .sixteen, r .order .counts .kinds-most))
+  unit-after i l =
+      written-at (kindPlaces s) (unitAfter s) (s .unit) noUnit i l (omega (arith, places .sixteen, r .order .counts .kinds-most))
 
   unit-unused : (i : ℕ) → (InUse s i → ⊥) → unitOf (advanced s) i ≡ unitOf s i
   unfolding advanced

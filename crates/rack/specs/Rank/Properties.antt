@@ -140,4 +140,5 @@ module _ (s : State) (r : Ready s) (j : ℕ) where
   pub end-most : ProjectInUse s j → endCard (viewOf s j) ≤ s .plan .cards
   unfolding endCard viewOf
   end-most l =
-      rw (mod-eq-of-lt (r .form .slice-below), first-next (s .plan) j) at (below-cards (s .plan) (r .order) (s .slice) (j + 1) (omega arith))
+      rw (mod-eq-of-lt (r .form .slice-below), first-next (s .plan) j) at
+      (below-cards (s .plan) (r .order) (s .slice) (j + 1) (omega arith))

@@ -103,7 +103,8 @@ module _ (s : State) (i e : ℕ) (r : Releasable s i e) where
       let own : with-new i ≡ e = rw (eq-eqb i i refl) in
       let changed = sum-changed n (leftFor s c) with-new i (r .its-kind) (λ k l z. rw (ne-eqb k i z)) in
       let none = left-none s c i release-none-left in
-      omega (arith, r .ready .sums c its-project, changed, none, own, sum-bound n 4095 with-new new-most, r .ready .order .counts .kinds-most)
+      let most = r .ready .order .counts .kinds-most in
+      omega (arith, r .ready .sums c its-project, changed, none, own, sum-bound n 4095 with-new new-most, most)
 
 pub release-project : (s : State) (i e : ℕ) (r : Answer) → r ≡ Good → r ≡ releaseAnswer s i e → kindAt s i .project < 8
 release-project s i e r g q =

@@ -12,7 +12,9 @@ use Rattle.seats.proofs.rank.Statement.{statement}
 use Rattle.seats.proofs.rank.Tie as tie
 
 abbrev Inv-loop : tie.InvT-loop
-Inv-loop standings least far turn rank₀ k₀ rank k = (k ≤ 16) × (least ≤ 268435456) × (turn ≡ 268435456 - least) × (rank ≤ k) × (rank ≡ countTo k (smaller standings least far))
+Inv-loop standings least far turn rank₀ k₀ rank k =
+    (k ≤ 16) × (least ≤ 268435456) × (turn ≡ 268435456 - least) × (rank ≤ k)
+    × (rank ≡ countTo k (smaller standings least far))
 
 abbrev μ-loop : tie.MeasureT-loop
 μ-loop standings least far turn rank₀ k₀ rank k = 16 - k

@@ -16,7 +16,8 @@ use Rattle.seats.proofs.seats.Tie as tie
 
 abbrev Inv-loop : tie.InvT-loop
 Inv-loop works until low end kinds seats₀ standings i₀ seats i =
-    (kinds ≤ 16) × (i ≤ kinds) × Standings works until kinds standings × (seats ≡ written i (seatBy works until low end kinds) (replicate 16 0))
+    (kinds ≤ 16) × (i ≤ kinds) × Standings works until kinds standings
+    × (seats ≡ written i (seatBy works until low end kinds) (replicate 16 0))
 
 abbrev μ-loop : tie.MeasureT-loop
 μ-loop works until low end kinds seats₀ standings i₀ seats i = kinds - i

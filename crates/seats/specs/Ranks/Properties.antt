@@ -199,6 +199,7 @@ counted-more r least far k rank e = go (ltb ((at r k + (268435456 - least)) % 26
     go true p = count-yes rank k (smaller r least far) e p
     go false p = omega (arith, count-no rank k (smaller r least far) e p)
 
-pub counted-all : (r : List ℕ) (least far k rank : ℕ) → rank ≡ countTo k (smaller r least far) → k ≤ 16 → 16 ≤ k → rank ≡ rankAmong r least far
+pub counted-all : (r : List ℕ) (least far k rank : ℕ) → rank ≡ countTo k (smaller r least far) → k ≤ 16 → 16 ≤ k →
+    rank ≡ rankAmong r least far
 unfolding rankAmong
 counted-all r least far k rank e a b = count-stop rank k 16 (smaller r least far) e a b

@@ -70,6 +70,7 @@ module _ (works until low end : List ℕ) (n : ℕ) where
   unfolding seatsBy
   seats-all x l e = rw (le-ltb 16 n l) e
 
-  pub seats-found : (x : List ℕ) → n ≤ 16 → x ≡ seatsBy works until low end n → x ≡ written n (seatBy works until low end n) (replicate 16 0)
+  pub seats-found : (x : List ℕ) → n ≤ 16 → x ≡ seatsBy works until low end n →
+      x ≡ written n (seatBy works until low end n) (replicate 16 0)
   unfolding seatsBy
   seats-found x l e = rw (le-ltb 16 n l) at e

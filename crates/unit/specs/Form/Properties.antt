@@ -44,7 +44,8 @@ pub too-long : (k : Kind) (v : Unit) → v .gone ≤ k .separation → k .length
 unfolding underway
 too-long k v g l = rw (le-leb (v .gone) (k .separation) g, lt-leb (v .left) (k .length) l)
 
-pub all-three : (k : Kind) (v : Unit) (r : Bool) → v .gone ≤ k .separation → v .left ≤ k .length → r ≡ inTime (k .deadline) v → r ≡ underway k v
+pub all-three : (k : Kind) (v : Unit) (r : Bool) → v .gone ≤ k .separation → v .left ≤ k .length →
+    r ≡ inTime (k .deadline) v → r ≡ underway k v
 unfolding underway
 all-three k v r g l e = rw (le-leb (v .gone) (k .separation) g, le-leb (v .left) (k .length) l) e
 

@@ -67,5 +67,7 @@ pub start-none-left : (k : Kind) (v : Unit) (e : ℕ) → UnitInForm k v → k .
 start-none-left k v e u d s = go (v .released) refl
   where
     go : (b : Bool) → v .released ≡ b → v .left ≡ 0
-    go true p = let apart = s .separated p in elim (ℕ-discrete (v .left) 0) [ yes z ↦ z | no z ↦ absurd (omega (arith, u .in-time (omega arith))) ]
+    go true p =
+        let apart = s .separated p in
+        elim (ℕ-discrete (v .left) 0) [ yes z ↦ z | no z ↦ absurd (omega (arith, u .in-time (omega arith))) ]
     go false p = u .never p .1

@@ -6,7 +6,8 @@ use native.Mathlib.Omega.{arith}
 use Rattle.rack.specs.State.Properties.{next-kept, next-moved}
 use Rattle.rack.specs.Form.Properties.{places-most}
 use Rattle.rack.specs.Advance.{advanceOf}
-use Rattle.rack.specs.Advance.Properties.{advance-opened, Laid, Ran, ran-none, ran-project, ran-same, ran-sum, ran-one, ran-slice, ran-all}
+use Rattle.rack.specs.Advance.Properties.{advance-opened, Laid, Ran, ran-none, ran-project, ran-same, ran-sum, ran-one, ran-slice}
+use Rattle.rack.specs.Advance.Properties.{ran-all}
 use borrow.Author.Needs.{needs}
 use Rattle.rack.proofs.State.advance.Statement.{statement}
 use Rattle.rack.proofs.State.advance.Tie as tie

@@ -395,6 +395,10 @@ again : (a b c : Answer) → (a andThen ((a andThen b) andThen c)) ≡ ((a andTh
 again Good b c = refl
 again (No w) b c = refl
 
+again-first : (a b : Answer) → (a andThen (a andThen b)) ≡ (a andThen b)
+again-first Good b = refl
+again-first (No w) b = refl
+
 -- the same behind 9, and before the 10 of a released byte
 once-of : (short order x : Answer) (told : Bool) → (order andThen x) ≡ x →
     ((short andThen (order andThen refuse (not told) (bare 10))) andThen x) ≡
@@ -539,8 +543,8 @@ show-told state row after f a r h g t u =
 -- ---- `parchbeetle_advance`: v is what the advance handed back
 
 advance-once : (s : List ℕ) → advancesAnswer s ≡ (foundAnswer s andThen advanceAnswer (stateFrom s))
-unfolding advancesAnswer advanceAnswer ready stateFrom
-advance-once s = once s (advanceAnswer (stateFrom s)) (again (checked (planFrom s)) _ _)
+unfolding advancesAnswer ready stateFrom
+advance-once s = once s (advanceAnswer (stateFrom s)) (again-first (checked (planFrom s)) _)
 
 advance-answer : (s : State) (v : Next) → v ≡ advanceOf s → v .answer ≡ advanceAnswer s
 unfolding advanceOf

@@ -339,7 +339,7 @@ module _ (s : List ℕ) (bytes : AreBytes s) (whole : stateSize ≤ length s) (v
     released-kept : field unitWidths (drop (unitPlace i) w) 0 ≡ field unitWidths (drop (unitPlace i) s) 0
     released-kept =
         released-value (drop (unitPlace i) w) bytes-w
-        ∙ ap (λ (x : ℕ). x / 4294967296 % 256) (number-cong 5 (drop (unitPlace i) w) (drop (unitPlace i) s) first-kept)
+        ∙ ap (λ (x : ℕ). x / 65536 % 256) (number-cong 3 (drop (unitPlace i) w) (drop (unitPlace i) s) first-kept)
         ∙ sym (released-value (drop (unitPlace i) s) bytes-u)
 
     pub left-told-kept : releasedTold s ≡ true → releasedTold w ≡ true

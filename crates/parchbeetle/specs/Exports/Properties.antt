@@ -399,6 +399,11 @@ again-first : (a b : Answer) → (a andThen (a andThen b)) ≡ (a andThen b)
 again-first Good b = refl
 again-first (No w) b = refl
 
+-- also where nothing else is asked
+again-alone : (a b : Answer) → (a andThen (a andThen b)) ≡ (a andThen b)
+again-alone Good b = refl
+again-alone (No w) b = refl
+
 -- the same behind 9, and before the 10 of a released byte
 once-of : (short order x : Answer) (told : Bool) → (order andThen x) ≡ x →
     ((short andThen (order andThen refuse (not told) (bare 10))) andThen x) ≡

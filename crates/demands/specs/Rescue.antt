@@ -1,5 +1,5 @@
--- Document 02 (viii), "Rescue a damaged plan file": when it is refused, what the plan that is given is, what the list says, and that the list
--- and the result belong together. `bytes` are the damaged ones and `list` is the lent buffer.
+-- Document 02 (viii), "Rescue a damaged plan file": when it is refused, what the plan that is given is, what the list says, and that the
+-- list and the result belong together. `bytes` are the damaged ones and `list` is the lent buffer.
 -- Assumes nothing.
 use mathlib.Core.Path.{_≡_, refl, sym, ap, ap₂, _∙_}
 use mathlib.Core.Logic.{_↔_}

@@ -178,8 +178,10 @@ module _ (p : Plan) (shaped : Shaped p) (order : Passes p) where
               (λ i l. rw (all-kept i l) (change-none 3 i (kindSpareAt s (p .projects) i) 0 (kind-zero i l))),
           none-listed (p .projects) (projectChanges p)
               (λ j l. ap₂ _++_
-              (change-none 4 j (projectOf p j .ceiling) (projectForAt p j .ceiling) (sym (ap (λ (v : Project). v .ceiling) (project-same j l))))
-              (change-none 5 j (projectOf p j .budget) (projectForAt p j .budget) (sym (ap (λ (v : Project). v .budget) (project-same j l))))),
+              (change-none 4 j (projectOf p j .ceiling) (projectForAt p j .ceiling)
+              (sym (ap (λ (v : Project). v .ceiling) (project-same j l))))
+              (change-none 5 j (projectOf p j .budget) (projectForAt p j .budget)
+              (sym (ap (λ (v : Project). v .budget) (project-same j l))))),
           none-listed (p .kinds) (kindChanges p)
               (λ i l. rw (all-kept i l)
               (change-none 6 i (kindOf p i .deadline) (kindForAt p i .deadline) (sym (ap (λ (v : Kind). v .deadline) (kind-same i l))))),

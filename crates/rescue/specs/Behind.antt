@@ -65,7 +65,8 @@ module _ (s t : List ℕ) (long : size (headed s) ≤ length s) (other : size (h
       let c = entries-cong (headed s .kinds) (kindSpareChange s p) (kindSpareChange t p)
       (λ i l. ap (spareEntries (keptAt p i) i)
       (kind-spare-same i l ∙ ap (λ (v : Plan). kindSpareAt t (v .projects) i) (sym heads))) in
-      λ i. change 1 0 (a i) 0 ++ b i ++ c i ++ entriesTo (headed s .projects) (projectChanges p) ++ entriesTo (headed s .kinds) (kindChanges p)
+      λ i. change 1 0 (a i) 0 ++ b i ++ c i ++ entriesTo (headed s .projects) (projectChanges p)
+      ++ entriesTo (headed s .kinds) (kindChanges p)
 
   pub changes-same : changes s ≡ changes t
   changes-same = changes-of-one ∙ ap (changesIn t) plans

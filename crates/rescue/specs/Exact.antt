@@ -88,7 +88,8 @@ module _ (f j : ℕ) where
     three-silent : eqb 3 f ≡ false → about f j three ≡ []
     unfolding three kindSpareChange
     three-silent e =
-        about-none f j (p .kinds) (kindSpareChange s p) (λ k. spare-silent (keptAt p k) k (kindSpareAt s (p .projects) k) (fields 3 k f j e))
+        about-none f j (p .kinds) (kindSpareChange s p)
+        (λ k. spare-silent (keptAt p k) k (kindSpareAt s (p .projects) k) (fields 3 k f j e))
 
     four-silent : eqb 4 f ≡ false → eqb 5 f ≡ false → about f j four ≡ []
     unfolding four projectChanges

@@ -1,4 +1,5 @@
--- The kept kinds in their new places: each is one of the original's, zeros follow, and as bytes they are the original's without the dropped.
+-- The kept kinds in their new places: each is one of the original's, zeros follow, and as bytes they are the original's without the
+-- dropped.
 -- Assumes nothing.
 use mathlib.Core.Path.{_≡_, refl, sym, ap, ap₂, _∙_}
 use mathlib.Core.Bool.{Bool, true, false, cond}

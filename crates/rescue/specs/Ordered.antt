@@ -46,7 +46,8 @@ module _ (s : List ℕ) (p : Plan) (few : p .projects ≤ 8) (kinds : p .kinds �
   project-rises : (k : ℕ) (v w : Project) → Rising (25 + 2 * k) (25 + 2 * k + 2) (projectEntries k v w)
   unfolding turnOf projectEntries
   project-rises k v w =
-      rising-append (25 + 2 * k) (25 + 2 * k + 1) (25 + 2 * k + 2) (change 4 k (v .ceiling) (w .ceiling)) (change 5 k (v .budget) (w .budget))
+      rising-append (25 + 2 * k) (25 + 2 * k + 1) (25 + 2 * k + 2) (change 4 k (v .ceiling) (w .ceiling))
+      (change 5 k (v .budget) (w .budget))
       (rising-change (25 + 2 * k) 4 k (v .ceiling) (w .ceiling) refl)
       (rising-wider (25 + 2 * k + 1) (25 + 2 * k + 1 + 1) (25 + 2 * k + 2) (change 5 k (v .budget) (w .budget))
       (rising-change (25 + 2 * k + 1) 5 k (v .budget) (w .budget) (omega arith)) (omega arith))

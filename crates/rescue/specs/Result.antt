@@ -14,8 +14,8 @@ use Rattle.plan.specs.declared.Project.{Project}
 use Rattle.plan.specs.declared.Kind.{Kind}
 use Rattle.plan.specs.declared.Plan.{Plan}
 use Rattle.plan.specs.Order.{projectOf, kindOf}
-use Rattle.plan_bytes.specs.Parts.{headerWidths, projectWidths, kindWidths, headerBytes, projectBytes, kindBytes, projectBytesAt, kindBytesAt}
-use Rattle.plan_bytes.specs.Parts.{encoded}
+use Rattle.plan_bytes.specs.Parts.{headerWidths, projectWidths, kindWidths, headerBytes, projectBytes, kindBytes, projectBytesAt}
+use Rattle.plan_bytes.specs.Parts.{kindBytesAt, encoded}
 use Rattle.plan_bytes.specs.Reading.{headerSpare}
 use Rattle.rescue.specs.Entry.{Entry, entry, listed, change}
 use Rattle.rescue.specs.Mended.{kindFor, projectForAt, kindForAt, keptAt, kindsKept, keptTo, planFor}
@@ -97,7 +97,9 @@ module _ (s : List ℕ) (p : Plan) (d : Damaged p) where
   pub parts-after : partsAfter (changesIn s p) s p ≡ encoded (planFor p)
   unfolding encoded planFor es
   parts-after =
-      let a = parts-cong (p .projects) (λ j. bytesOf 2 (pack projectWidths (projectAfter es s p j))) (projectBytesAt (planFor p)) project-part in
-      let b = parts-cong (p .kinds) (λ i. cond (drops es s p i) [] (bytesOf 5 (pack kindWidths (kindAfter es s p i)))) (keptBytes p) kind-part
+      let a = parts-cong (p .projects) (λ j. bytesOf 2 (pack projectWidths (projectAfter es s p j)))
+      (projectBytesAt (planFor p)) project-part in
+      let b = parts-cong (p .kinds) (λ i. cond (drops es s p i) [] (bytesOf 5 (pack kindWidths (kindAfter es s p i))))
+      (keptBytes p) kind-part
       ∙ sym (kept-parts p (p .kinds) (d .counts .kinds-most)) in
       λ i. header-part i ++ a i ++ b i

@@ -58,7 +58,8 @@ module _ (s roomy list : List ℕ) (long : 342 ≤ length roomy) where
   pub roomy-refused : (w : Refusal) → rescueAnswer s roomy ≡ No w → rescueAnswer s list ≡ No w
   unfolding rescueAnswer restAnswer
   roomy-refused w e =
-      still-refused (countsAnswer s) (eqb (rescuedPlan s .kinds) 0) (ltb (length roomy) (listSize s)) (ltb (length list) (listSize s)) w fits e
+      still-refused (countsAnswer s) (eqb (rescuedPlan s .kinds) 0) (ltb (length roomy) (listSize s)) (ltb (length list) (listSize s)) w
+      fits e
 
   pub roomy-good : rescueAnswer s roomy ≡ Good → (rescueAnswer s list andThen bare 9) ≡ bare 9
   unfolding rescueAnswer restAnswer

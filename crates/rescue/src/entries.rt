@@ -106,7 +106,8 @@ fn kind_spare(bytes: &[u8], projects: u8, kind: u8) -> u16
 
 fn spare_projects(bytes: &[u8], projects: u8, list: &mut [u8], at: usize) -> usize
     requires { ⌜ (projects ≤ 8) × (3 + 2 * projects ≤ length (now bytes)) × (at + 6 * projects ≤ length (now list)) ⌝ }
-    ensures { λ r. ⌜ (Noted at (now (list .entry)) (entriesTo projects (projectSpareChange (now (bytes .entry)))) r (now (list .exit))) × (r ≤ at + 6 * projects) ⌝ }
+    ensures { λ r. ⌜ (Noted at (now (list .entry)) (entriesTo projects (projectSpareChange (now (bytes .entry)))) r (now (list .exit)))
+        × (r ≤ at + 6 * projects) ⌝ }
 {
     let mut end = at;
     for j in 0..projects {
@@ -117,8 +118,11 @@ fn spare_projects(bytes: &[u8], projects: u8, list: &mut [u8], at: usize) -> usi
 }
 
 fn spare_kinds(bytes: &[u8], plan: Plan, list: &mut [u8], at: usize) -> usize
-    requires { ⌜ (plan .projects ≤ 8) × (plan .kinds ≤ 16) × (size plan ≤ length (now bytes)) × (at + 6 * plan .kinds ≤ length (now list)) ⌝ }
-    ensures { λ r. ⌜ (Noted at (now (list .entry)) (entriesTo (plan .kinds) (kindSpareChange (now (bytes .entry)) plan)) r (now (list .exit))) × (r ≤ at + 6 * plan .kinds) ⌝ }
+    requires { ⌜ (plan .projects ≤ 8) × (plan .kinds ≤ 16) × (size plan ≤ length (now bytes))
+        × (at + 6 * plan .kinds ≤ length (now list)) ⌝ }
+    ensures { λ r. ⌜ (Noted at (now (list .entry))
+        (entriesTo (plan .kinds) (kindSpareChange (now (bytes .entry)) plan)) r (now (list .exit)))
+        × (r ≤ at + 6 * plan .kinds) ⌝ }
 {
     let mut end = at;
     for i in 0..plan.kinds {
@@ -132,7 +136,8 @@ fn spare_kinds(bytes: &[u8], plan: Plan, list: &mut [u8], at: usize) -> usize
 
 fn projects(plan: Plan, list: &mut [u8], at: usize) -> usize
     requires { ⌜ (plan .projects ≤ 8) × (at + 12 * plan .projects ≤ length (now list)) ⌝ }
-    ensures { λ r. ⌜ (Noted at (now (list .entry)) (entriesTo (plan .projects) (projectChanges plan)) r (now (list .exit))) × (r ≤ at + 12 * plan .projects) ⌝ }
+    ensures { λ r. ⌜ (Noted at (now (list .entry)) (entriesTo (plan .projects) (projectChanges plan)) r (now (list .exit)))
+        × (r ≤ at + 12 * plan .projects) ⌝ }
 {
     let mut end = at;
     for j in 0..plan.projects {
@@ -145,7 +150,8 @@ fn projects(plan: Plan, list: &mut [u8], at: usize) -> usize
 
 fn kinds(plan: Plan, list: &mut [u8], at: usize) -> usize
     requires { ⌜ (plan .kinds ≤ 16) × (at + 6 * plan .kinds ≤ length (now list)) ⌝ }
-    ensures { λ r. ⌜ (Noted at (now (list .entry)) (entriesTo (plan .kinds) (kindChanges plan)) r (now (list .exit))) × (r ≤ at + 6 * plan .kinds) ⌝ }
+    ensures { λ r. ⌜ (Noted at (now (list .entry)) (entriesTo (plan .kinds) (kindChanges plan)) r (now (list .exit)))
+        × (r ≤ at + 6 * plan .kinds) ⌝ }
 {
     let mut end = at;
     for i in 0..plan.kinds {

@@ -103,7 +103,8 @@ pub noted-gone : (at : ℕ) (l m : List ℕ) (b : Bool) (xs : List Entry) (e : E
     → Noted at l (cond b xs (e ∷ [])) (at + 6) m
 noted-gone at l m b xs e z q = rw (not-true b z) (noted-one at l m e q)
 
-pub noted-kept : (at r : ℕ) (l m : List ℕ) (b : Bool) (xs ys : List Entry) → not b ≡ false → Noted at l xs r m → Noted at l (cond b xs ys) r m
+pub noted-kept : (at r : ℕ) (l m : List ℕ) (b : Bool) (xs ys : List Entry) → not b ≡ false → Noted at l xs r m
+    → Noted at l (cond b xs ys) r m
 noted-kept at r l m b xs ys z x = rw (not-false b z) x
 
 -- ---- the steps of a loop over places

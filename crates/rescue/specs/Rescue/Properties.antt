@@ -177,7 +177,8 @@ module _ (s list : List ℕ) where
             let n : rescuedPlan s .kinds ≡ 0 = sym (ap (λ (p : Plan). p .kinds) made-is) ∙ z in
             refused-rescue r x _ e f g b (rest-on x (rw (eq-eqb (rescuedPlan s .kinds) 0 n) b))
 
-        module _ (some : q .kinds ≡ 0 → ⊥) (count : ℕ) (zeros noted : List ℕ) (all : Noted 0 zeros (changesIn s (v .plan)) count noted) where
+        module _ (some : q .kinds ≡ 0 → ⊥) (count : ℕ) (zeros noted : List ℕ)
+            (all : Noted 0 zeros (changesIn s (v .plan)) count noted) where
           twenty-passed : eqb (rescuedPlan s .kinds) 0 ≡ false
           twenty-passed = ne-eqb (rescuedPlan s .kinds) 0 (λ e. some (ap (λ (p : Plan). p .kinds) made-is ∙ e))
 

@@ -109,4 +109,10 @@ change-says p f j a b s m l n =
 
 pub drop-says : (p : Plan) (j : ℕ) → j < placesOf p 7 → Says p (entry 7 j 0 0)
 drop-says p j l =
-    record { some-field = omega arith; field-most = omega arith; place-most = l; differs = λ x. absurd (x refl); no-values = λ e. (refl, refl) }
+    record {
+      some-field = omega arith;
+      field-most = omega arith;
+      place-most = l;
+      differs = λ x. absurd (x refl);
+      no-values = λ e. (refl, refl);
+    }

@@ -14,7 +14,8 @@ use Rattle.rescue.proofs.entries.kinds.Tie as tie
 
 abbrev Inv-loop : tie.InvT-loop
 Inv-loop list₀ at plan end₀ i₀ i-end list end i =
-    (i ≤ i-end) × (i-end ≡ plan .kinds) × Noted at list₀ (entriesTo i (kindChanges plan)) end list × (end ≤ at + 6 * i) × (length list ≡ length list₀)
+    (i ≤ i-end) × (i-end ≡ plan .kinds) ×
+    Noted at list₀ (entriesTo i (kindChanges plan)) end list × (end ≤ at + 6 * i) × (length list ≡ length list₀)
 
 abbrev μ-loop : tie.MeasureT-loop
 μ-loop list₀ at plan end₀ i₀ i-end list end i = i-end - i
@@ -50,7 +51,8 @@ loop-again : tie.Need-loop-again Inv-loop μ-loop
 loop-again c = (
   omega arith,
   search,
-  kind-again _ _ _ _ _ _ _ _ _ _ (c .before .before .before .before .before .before .before .before .loop .inv .2) (c .before .before .note-kind .ensures .0) (search) (search),
+  kind-again _ _ _ _ _ _ _ _ _ _ (c .before .before .before .before .before .before .before .before .loop .inv .2)
+      (c .before .before .note-kind .ensures .0) (search) (search),
   omega arith,
   omega (arith, c .before .before .note-kind .kept .0),
 )

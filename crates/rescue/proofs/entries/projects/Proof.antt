@@ -14,7 +14,8 @@ use Rattle.rescue.proofs.entries.projects.Tie as tie
 
 abbrev Inv-loop : tie.InvT-loop
 Inv-loop list₀ at plan end₀ j₀ j-end list end j =
-    (j ≤ j-end) × (j-end ≡ plan .projects) × Noted at list₀ (entriesTo j (projectChanges plan)) end list × (end ≤ at + 12 * j) × (length list ≡ length list₀)
+    (j ≤ j-end) × (j-end ≡ plan .projects) ×
+    Noted at list₀ (entriesTo j (projectChanges plan)) end list × (end ≤ at + 12 * j) × (length list ≡ length list₀)
 
 abbrev μ-loop : tie.MeasureT-loop
 μ-loop list₀ at plan end₀ j₀ j-end list end j = j-end - j
@@ -47,7 +48,8 @@ loop-again : tie.Need-loop-again Inv-loop μ-loop
 loop-again c = (
   omega arith,
   search,
-  project-again _ _ _ _ _ _ _ _ _ (c .before .before .before .before .before .before .before .loop .inv .2) (c .before .before .note-project .ensures .0) (search),
+  project-again _ _ _ _ _ _ _ _ _ (c .before .before .before .before .before .before .before .loop .inv .2)
+      (c .before .before .note-project .ensures .0) (search),
   omega arith,
   omega (arith, c .before .before .note-project .kept .0),
 )

@@ -37,7 +37,8 @@ loop-less c = search needs
 loop-again : tie.Need-loop-again Inv-loop μ-loop
 loop-again c = (
   omega arith,
-  project-spare-again _ _ _ _ _ _ _ _ _ (c .before .before .before .before .before .before .loop .inv .1) (c .before .before .note .ensures .0) (search),
+  project-spare-again _ _ _ _ _ _ _ _ _ (c .before .before .before .before .before .before .loop .inv .1)
+      (c .before .before .note .ensures .0) (search),
   omega arith,
   omega (arith, c .before .before .note .kept .0),
 )

@@ -395,10 +395,6 @@ again : (a b c : Answer) → (a andThen ((a andThen b) andThen c)) ≡ ((a andTh
 again Good b c = refl
 again (No w) b c = refl
 
-again-first : (a b : Answer) → (a andThen (a andThen b)) ≡ (a andThen b)
-again-first Good b = refl
-again-first (No w) b = refl
-
 -- also where nothing else is asked
 again-alone : (a b : Answer) → (a andThen (a andThen b)) ≡ (a andThen b)
 again-alone Good b = refl
@@ -549,7 +545,7 @@ show-told state row after f a r h g t u =
 
 advance-once : (s : List ℕ) → advancesAnswer s ≡ (foundAnswer s andThen advanceAnswer (stateFrom s))
 unfolding advancesAnswer ready stateFrom
-advance-once s = once s (advanceAnswer (stateFrom s)) (again-first (checked (planFrom s)) _)
+advance-once s = once s (advanceAnswer (stateFrom s)) (again-alone (checked (planFrom s)) _)
 
 advance-answer : (s : State) (v : Next) → v ≡ advanceOf s → v .answer ≡ advanceAnswer s
 unfolding advanceOf

@@ -30,9 +30,9 @@ extern "C" {
  * change them; an image belongs to the version that made it. Plan bytes are read by
  * every later version.
  */
-#define PARCHBEETLE_VERSION "0.8.0"
+#define PARCHBEETLE_VERSION "0.9.0"
 #define PARCHBEETLE_VERSION_MAJOR 0
-#define PARCHBEETLE_VERSION_MINOR 8
+#define PARCHBEETLE_VERSION_MINOR 9
 #define PARCHBEETLE_VERSION_PATCH 0
 
 /* ---- Images */
@@ -64,18 +64,18 @@ extern "C" {
     field(length, 2)      /* C, 1..D: the slices of a unit, at most */
 
 #define PARCHBEETLE_STATE_FIELDS(field)                                                 \
-    field(clock, 4)       /* slices run, 0..1000000000 */
+    field(slice, 1)       /* the slice within the frame that is next, 0..F-1 */
 
 #define PARCHBEETLE_UNIT_FIELDS(field)                                                  \
     field(released, 1)    /* 1 if the kind was ever released, else 0; any other is 10 */ \
-    field(at, 4)          /* the clock at its last accepted release */                  \
-    field(left, 2)        /* slices left */
+    field(gone, 2)        /* slices since its last release, held at T; 0 if never */    \
+    field(left, 2)        /* slices left; none where D or more are gone */
 
 #define PARCHBEETLE_SUM_FIELDS(field)                                                   \
     field(left, 2)        /* slices left of all the project's kinds; beyond p: 0 */
 
 #define PARCHBEETLE_PLAN_IMAGE 140u
-#define PARCHBEETLE_STATE_IMAGE 272u
+#define PARCHBEETLE_STATE_IMAGE 237u
 
 /*
  * What a verdict writes: bytes 0-15 are the least k of each kind, bytes 16-31 the bad
@@ -123,7 +123,7 @@ extern "C" {
  *   uint32_t parchbeetle_project_budget(const uint8_t *plan, size_t project);
  *   void     parchbeetle_set_project_budget(uint8_t *plan, size_t project, uint64_t value);
  *   uint32_t parchbeetle_kind_deadline(const uint8_t *plan, size_t kind);
- *   uint32_t parchbeetle_state_clock(const uint8_t *state);
+ *   uint32_t parchbeetle_state_slice(const uint8_t *state);
  *   uint32_t parchbeetle_unit_left(const uint8_t *state, size_t kind);
  *   uint32_t parchbeetle_sum_left(const uint8_t *state, size_t project);
  *
@@ -177,11 +177,9 @@ extern "C" {
     number(8, "not admitted: a kind's unit is too long")                        \
     number(9, "a buffer is shorter than needed")                                \
     number(10, "the state is out of form")                                      \
-    number(11, "the clock is at its end")                                       \
     number(12, "there is no such kind")                                         \
     number(13, "the unit's length is 0 or above its kind's")                    \
     number(14, "the kind's last release was less than its separation ago")      \
-    number(15, "slices of the kind's earlier unit are left")                    \
     number(16, "a stored sum differs from what is left")                        \
     number(17, "cards out of range, or no list of kinds")                       \
     number(18, "more than eight kinds are listed")                              \
@@ -271,6 +269,10 @@ uint64_t parchbeetle_rescue(const uint8_t *bytes, size_t bytes_len, uint8_t *pla
 /* ---- Running */
 
 /*
+ * A state has no clock that could run out: it keeps the slice within the frame that is
+ * next, and for each kind the slices gone since its last release, of which no more are
+ * counted than its separation. A rack may run for ever.
+ *
  * A state keeps beside each kind's slices left the sum of them for each project: a
  * release raises it, an advance lowers it. Every call below that is given a state
  * looks at both. A bit that flips in a sum or in any slices left is told by the next
@@ -279,16 +281,17 @@ uint64_t parchbeetle_rescue(const uint8_t *bytes, size_t bytes_len, uint8_t *pla
  */
 
 /*
- * A fresh start: the first 272 bytes at `state` are the plan at clock 0, with no
- * kind ever released and every sum 0.
- * Refusals: as parchbeetle_check, then 8, then 9 (state_len below 272).
+ * A fresh start: the first 237 bytes at `state` are the plan in the first slice of a
+ * frame, with no kind ever released and every sum 0.
+ * Refusals: as parchbeetle_check, then 8, then 9 (state_len below 237).
  */
 uint64_t parchbeetle_fresh(const uint8_t *plan, size_t plan_len, uint8_t *state, size_t state_len);
 
 /*
- * Releases a unit of `kind` with length `e`, at the state's clock. The state is
- * changed in place.
- * Refusals: 9 (state_len below 272), the plan's 2 to 7, 10, 16, 12, 13, 14, 15.
+ * Releases a unit of `kind` with length `e`, before the next slice. The state is
+ * changed in place. A kind with slices left is refused by 14: slices are left only
+ * within the deadline, which is at most the separation.
+ * Refusals: 9 (state_len below 237), the plan's 2 to 7, 10, 16, 12, 13, 14.
  */
 uint64_t parchbeetle_release(uint8_t *state, size_t state_len, uint64_t kind, uint64_t e);
 
@@ -296,14 +299,16 @@ uint64_t parchbeetle_release(uint8_t *state, size_t state_len, uint64_t kind, ui
  * Shows the next slice and keeps the state: the first m bytes at `row` say which kind
  * each card is to serve: kind number plus 1, or 0. It may be shown as often as wanted;
  * a release changes the state, so that what was shown before it may no longer hold.
- * Refusals: 9 (state_len below 272), the plan's 2 to 7, 10, 16, 9 (row_len below m), 11.
+ * Refusals: 9 (state_len below 237), the plan's 2 to 7, 10, 16, 9 (row_len below m).
  */
 uint64_t parchbeetle_show(const uint8_t *state, size_t state_len, uint8_t *row, size_t row_len);
 
 /*
  * Runs the slice that parchbeetle_show shows on this very state, shown or not. The
- * state is changed in place.
- * Refusals: 9 (state_len below 272), the plan's 2 to 7, 10, 16, 11.
+ * state is changed in place. In a run that begins with parchbeetle_fresh it is never
+ * refused; in a state made by hand on a plan that is not admitted a unit may come to
+ * be late, and the next call then says 10.
+ * Refusals: 9 (state_len below 237), the plan's 2 to 7, 10, 16.
  */
 uint64_t parchbeetle_advance(uint8_t *state, size_t state_len);
 

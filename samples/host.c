@@ -23,7 +23,7 @@ static int good(const char *what, uint64_t answer) {
 /* What the cards are about to serve: time to load it. */
 static void show(const uint8_t *state) {
     uint8_t row[CARDS];
-    printf("slice %u:", parchbeetle_state_clock(state));
+    printf("slice %u:", parchbeetle_state_slice(state));
     parchbeetle_show(state, PARCHBEETLE_STATE_IMAGE, row, sizeof row);
     for (unsigned card = 0; card < CARDS; card++) {
         row[card] == 0 ? printf(" idle") : printf(" kind %u", row[card] - 1u);

@@ -66,13 +66,13 @@ pub fn all_active(n: u16, frame: u8, d: u16) -> State {
     let plan = Plan::of(8, frame, &[(8, 8 * u16::from(frame))], &kinds);
     let mut state = State {
         plan,
-        clock: 1000,
+        slice: (1000 % u16::from(frame)) as u8,
         ..State::default()
     };
     for (i, place) in state.kinds.iter_mut().take(usize::from(n)).enumerate() {
         *place = KindState {
             released: true,
-            at: 1000 - 7 * i as u32 % 16,
+            gone: 7 * i as u16 % 16,
             left: 100,
         };
     }

@@ -5,8 +5,6 @@
 
 use second::{KindState, Plan, State};
 
-const LAST_CLOCK: u32 = 1_000_000_000;
-
 /// The word of a refusal.
 fn refused(number: u64, place: usize) -> u64 {
     number | (place as u64) << 8
@@ -315,15 +313,18 @@ fn state_check(state: &State) -> u64 {
     if word != 0 {
         return word;
     }
-    if state.clock > LAST_CLOCK {
+    if state.slice >= state.plan.frame {
         return 10;
     }
     let (p, n) = (usize::from(state.plan.p), usize::from(state.plan.n));
     let mut sums = [0; 8];
     for (unit, kind) in state.kinds.iter().zip(&state.plan.kinds).take(n) {
         let in_form = match unit.released {
-            true => unit.at <= state.clock && unit.left <= kind.length,
-            false => unit.at == 0 && unit.left == 0,
+            true => {
+                let late = unit.left > 0 && unit.gone >= kind.deadline;
+                unit.gone <= kind.separation && unit.left <= kind.length && !late
+            }
+            false => unit.gone == 0 && unit.left == 0,
         };
         if !in_form {
             return 10;
@@ -357,15 +358,12 @@ pub fn release(state: &mut State, kind: u64, e: u64) -> u64 {
     if e == 0 || e > u64::from(of_plan.length) {
         return 13;
     }
-    if unit.released && state.clock - unit.at < u32::from(of_plan.separation) {
+    if unit.released && unit.gone < of_plan.separation {
         return 14;
-    }
-    if unit.left > 0 {
-        return 15;
     }
     *unit = KindState {
         released: true,
-        at: state.clock,
+        gone: 0,
         left: e as u16,
     };
     state.sums[usize::from(of_plan.project) & 7] += e as u16;
@@ -381,9 +379,6 @@ pub fn show(state: &State, row: &mut [u8]) -> u64 {
     let Some(row) = row.get_mut(..usize::from(state.plan.m)) else {
         return 9;
     };
-    if state.clock == LAST_CLOCK {
-        return 11;
-    }
     row.fill(0);
     seated(state, |card, i| row[card] = i as u8 + 1);
     0
@@ -395,9 +390,6 @@ pub fn advance(state: &mut State) -> u64 {
     if word != 0 {
         return word;
     }
-    if state.clock == LAST_CLOCK {
-        return 11;
-    }
     let mut kinds = 0u32;
     seated(state, |_, i| kinds |= 1 << i);
     while kinds != 0 {
@@ -406,30 +398,38 @@ pub fn advance(state: &mut State) -> u64 {
         state.sums[usize::from(state.plan.kinds[i].project) & 7] -= 1;
         kinds &= kinds - 1;
     }
-    state.clock += 1;
+    let n = usize::from(state.plan.n);
+    for (unit, kind) in state.kinds.iter_mut().zip(&state.plan.kinds).take(n) {
+        unit.gone = (unit.gone + u16::from(unit.released)).min(kind.separation);
+    }
+    state.slice += 1;
+    if state.slice == state.plan.frame {
+        state.slice = 0;
+    }
     0
 }
 
 /// Gives each card that is taken in the next slice, and the kind that takes it.
 fn seated(state: &State, mut seat: impl FnMut(usize, usize)) {
     let plan = &state.plan;
-    // For each project the kinds with slices left, a bit each; and when each is due.
+    // For each project the kinds with slices left, a bit each; and the slices until each is due.
     let mut working = [0u32; 8];
-    let mut due = [0u32; 16];
+    let mut until = [0u16; 16];
     let n = usize::from(plan.n);
     for (i, (unit, kind)) in state.kinds.iter().zip(&plan.kinds).take(n).enumerate() {
         working[usize::from(kind.project) & 7] |= u32::from(unit.left > 0) << i;
-        due[i] = unit.at + u32::from(kind.deadline);
+        // Below the deadline where it is looked at.
+        until[i] = kind.deadline.wrapping_sub(unit.gone);
     }
     let frame = u32::from(plan.frame);
-    let now = state.clock % frame;
+    let now = u32::from(state.slice);
     let mut first = 0;
     for (project, mut waiting) in plan.projects.iter().zip(working).take(usize::from(plan.p)) {
         let budget = u32::from(project.budget);
         let (lowest, count) = cards(first, budget, frame, now);
         first += budget;
         for card in lowest..lowest + count {
-            let Some(best) = earliest(waiting, &due) else {
+            let Some(best) = earliest(waiting, &until) else {
                 break;
             };
             waiting &= !(1 << best);
@@ -439,12 +439,12 @@ fn seated(state: &State, mut seat: impl FnMut(usize, usize)) {
 }
 
 /// The kind that is due first among those that wait, the lower number on a tie.
-fn earliest(mut waiting: u32, due: &[u32; 16]) -> Option<usize> {
+fn earliest(mut waiting: u32, until: &[u16; 16]) -> Option<usize> {
     let mut best = waiting.checked_ilog2()? as usize & 15;
     while waiting != 0 {
         let i = waiting.trailing_zeros() as usize & 15;
         waiting &= waiting - 1;
-        if (due[i], i) < (due[best], best) {
+        if (until[i], i) < (until[best], best) {
             best = i;
         }
     }

@@ -46,7 +46,7 @@ impl Answer {
 }
 
 /// Each number with a short sentence, as in the header.
-pub const NUMBERS: [(u8, &str); 22] = [
+pub const NUMBERS: [(u8, &str); 20] = [
     (0, "good"),
     (1, "fewer bytes than a plan takes"),
     (2, "cards, projects, kinds or frame out of range"),
@@ -61,14 +61,12 @@ pub const NUMBERS: [(u8, &str); 22] = [
     (8, "not admitted: a kind's unit is too long"),
     (9, "a buffer is shorter than needed"),
     (10, "the state is out of form"),
-    (11, "the clock is at its end"),
     (12, "there is no such kind"),
     (13, "the unit's length is 0 or above its kind's"),
     (
         14,
         "the kind's last release was less than its separation ago",
     ),
-    (15, "slices of the kind's earlier unit are left"),
     (16, "a stored sum differs from what is left"),
     (17, "cards out of range, or no list of kinds"),
     (18, "more than eight kinds are listed"),

@@ -28,7 +28,7 @@ pub const LINKED: bool = cfg!(target_arch = "x86_64");
 /// Bytes of a plan image.
 pub const PLAN_IMAGE: usize = 140;
 /// Bytes of a state image.
-pub const STATE_IMAGE: usize = 272;
+pub const STATE_IMAGE: usize = 237;
 /// Bytes of a verdict: the k of each kind, then the slice of each.
 pub const VERDICT_BYTES: usize = 32;
 /// Bytes of a kind's figures: the workload, the supply at each k, then the slice of each.

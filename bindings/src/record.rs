@@ -137,8 +137,8 @@ records! {
     pub struct Unit {
         /// 1 if the kind was ever released, else 0.
         pub released: u8,
-        /// The clock at its last accepted release.
-        pub at: u32,
+        /// The slices gone since its last accepted release, held at its separation.
+        pub gone: u16,
         /// Slices left.
         pub left: u16,
     }
@@ -177,8 +177,8 @@ records! {
     pub struct State {
         /// The plan.
         pub plan: Plan,
-        /// Slices run since the fresh start.
-        pub clock: u32,
+        /// The slice within the frame that is next.
+        pub slice: u8,
         /// A place for each kind's unit.
         pub unit: [Unit; 16],
         /// What each project has left, summed over its kinds.

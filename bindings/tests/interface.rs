@@ -478,7 +478,7 @@ fn differences(texts: &Texts) -> Vec<String> {
         let mut proved = fields(code, record);
         let own = fields(bindings, record);
         if record == "Unit" {
-            // In memory its fields stand in another order, so that it takes eight bytes.
+            // In memory its fields stand in another order, so that it takes six bytes.
             proved.sort_by_key(|field| own.iter().position(|one| one == field));
         }
         same(
@@ -633,10 +633,10 @@ fn one_thing_changed_on_one_side_is_found() {
         (bindings, "pub budget: u16", "pub budget: u32"),
         (bindings, "pub unit: [Unit; 16]", "pub unit: [Unit; 8]"),
         (code, "pub deadline: u16", "pub due: u16"),
-        (code, "pub clock: u32,\n", ""),
+        (code, "pub slice: u8,\n", ""),
         (code, "pub left: u16", "pub left: u32"),
         (code, "[Unit; ", "[Other; "),
-        (images, "unitWidths = 8 ∷ 32", "unitWidths = 32 ∷ 8"),
+        (images, "unitWidths = 8 ∷ 16", "unitWidths = 16 ∷ 8"),
         (images, "row 8 projectWidths", "row 9 projectWidths"),
         (header, "sum sum[8]", "sum sum[9]"),
         (header, "field(left, 2)        /* slices left of all", "field(left, 4)        /* slices left of all"),
@@ -653,14 +653,18 @@ fn one_thing_changed_on_one_side_is_found() {
         // A number: its words, one that is not given, one that is not listed or not said of any function.
         (header, "there is no such kind", "no such kind"),
         (bindings, "(13, ", "(28, "),
-        (header, "number(15, \"slices", "number(28, \"slices"),
+        (header, "number(16, \"a stored", "number(28, \"a stored"),
+        (header, "number(12, ", "number(11, \"the clock is at its end\")\n    number(12, "),
+        (bindings, "(12, \"there is", "(15, \"slices of an earlier unit are left\"),\n    (12, \"there is"),
+        (code, "struct Plan {", "bare(15) struct Plan {"),
         (code, "struct Plan {", "bare(28) struct Plan {"),
-        (header, "12, 13, 14, 15.", "12, 13, 14."),
+        (header, "16, 12, 13, 14.", "16, 12, 13, 14, 15."),
+        (header, "10, 16, 9 (row_len", "10, 16, 11, 9 (row_len"),
         (header, "2, 3, 27, 4", "2, 3, 4"),
         (header, "17 (cards", "28 (cards"),
         (header, "1 (the total), 20;", "1 (the total);"),
         (version, ".", ".1."),
-        (header, "VERSION_MINOR ", "VERSION_MINOR 9"),
+        (header, "VERSION_MINOR ", "VERSION_MINOR 1"),
     ] {
         let mut edited = texts.clone();
         let text = side(&mut edited);
@@ -790,12 +794,12 @@ fn the_records_are_what_the_library_reads_and_writes() {
     state.advance().unwrap();
     state.release(2, 2).unwrap();
     state.show(&mut row).unwrap();
-    assert_eq!((row, state.clock), ([0, 3, 0, 0, 0, 0, 0, 0], 1));
+    assert_eq!((row, state.slice), ([0, 3, 0, 0, 0, 0, 0, 0], 1));
     state.advance().unwrap();
-    let mut expected = State { clock: 2, ..fresh };
+    let mut expected = State { slice: 2, ..fresh };
     expected.unit[2] = Unit {
         released: 1,
-        at: 1,
+        gone: 1,
         left: 1,
     };
     expected.sum[1] = 1;

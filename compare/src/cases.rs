@@ -6,8 +6,8 @@
 //! bytes whole and damaged, states on it, and a run from its fresh start, step by step.
 
 use crate::interface::{
-    plan_image, plan_of, state_image, state_of, Case, Op, FIGURES_BYTES, PLAN_IMAGE, STATE_IMAGE,
-    SUMS_AT, UNITS_AT, VERDICT_BYTES,
+    plan_image, plan_of, state_image, state_of, Case, Op, FIGURES_BYTES, PLAN_IMAGE, SLICE_AT,
+    STATE_IMAGE, SUMS_AT, UNIT, UNITS_AT, VERDICT_BYTES,
 };
 use generate::{
     fixed_damage, fixed_lists, fixed_open_budgets, fixed_plan_records, fixed_state_records,
@@ -15,7 +15,6 @@ use generate::{
 };
 use second::bytes::{pack, plan_bytes};
 use second::play::{command, Command};
-use second::rack::LAST_CLOCK;
 use second::{Kind, KindState, Plan, Project, State};
 use std::sync::OnceLock;
 
@@ -284,11 +283,11 @@ fn released_bytes() -> impl Iterator<Item = Fixed> {
 fn on_released(plan: &Plan, place: usize, value: u8) -> Record {
     let state = State {
         plan: *plan,
-        clock: 9,
+        slice: 3,
         ..State::default()
     };
     let mut image = state_image(&state).to_vec();
-    image[UNITS_AT + 7 * place] = value;
+    image[UNITS_AT + UNIT * place] = value;
     vec![
         Case::release(image.clone(), 0, 1),
         Case::release(image.clone(), 12, 1),
@@ -324,27 +323,28 @@ fn small_plans() -> Vec<Plan> {
     plans
 }
 
-/// All states of three kinds that share one or two cards: released never, at 0 or at 1, with 0 to 2 left.
+/// All states of three kinds that share one or two cards: released never, or just now, two or three slices ago (D or more of two
+/// of the kinds), with 0 to 2 left.
 fn small_states() -> Vec<State> {
     let plan = Plan::of(2, 2, &[(2, 3)], &[(0, 5, 3, 2), (0, 4, 4, 2), (0, 6, 3, 2)]);
     let mut places = vec![KindState::default()];
-    for at in 0..=1 {
+    for gone in [0, 2, 3] {
         for left in 0..=2 {
             places.push(KindState {
                 released: true,
-                at,
+                gone,
                 left,
             });
         }
     }
     let mut states = Vec::new();
-    for clock in 1..=6 {
+    for slice in 0..=1 {
         for &first in &places {
             for &second in &places {
                 for &third in &places {
                     let mut state = State {
                         plan,
-                        clock,
+                        slice,
                         ..State::default()
                     };
                     state.kinds[..3].copy_from_slice(&[first, second, third]);
@@ -698,11 +698,12 @@ fn damaged_bytes(g: &mut Generator, plan: &Plan) -> Vec<u8> {
 
 /// A state, and the same with one or two bytes changed: a release, a showing and an advance on each.
 fn state_records(g: &mut Generator, state: &mut State, records: &mut Vec<Record>) {
-    // Releases close together make equal deadlines likely.
+    // Few slices until each deadline make equal ones likely.
     if g.one_in(4) {
-        for kind in &mut state.kinds {
-            if kind.released {
-                kind.at = state.clock.saturating_sub(g.below(3) as u32);
+        for (place, kind) in state.kinds.iter_mut().zip(state.plan.used_kinds()) {
+            if place.released {
+                let until = g.between(1, 3) as u16;
+                place.gone = kind.deadline.saturating_sub(until);
             }
         }
     }
@@ -718,7 +719,8 @@ fn state_records(g: &mut Generator, state: &mut State, records: &mut Vec<Record>
 fn state_record(g: &mut Generator, image: &[u8; STATE_IMAGE]) -> Record {
     let mut readable = *image;
     for place in 0..16 {
-        readable[UNITS_AT + 7 * place] = readable[UNITS_AT + 7 * place].min(1);
+        let released = &mut readable[UNITS_AT + UNIT * place];
+        *released = (*released).min(1);
     }
     let state = state_of(&readable).unwrap_or_default();
     let (kind, e) = g.release_numbers(&state);
@@ -738,7 +740,12 @@ fn nudge_state(g: &mut Generator, image: &mut [u8; STATE_IMAGE]) {
         0 => g.below(16),
         _ => g.below(n),
     };
-    let at = UNITS_AT + 7 * place as usize;
+    let at = UNITS_AT + UNIT * place as usize;
+    // A kind's T, D or C, from its place in the plan.
+    let of_kind = |image: &[u8], field: usize| {
+        let at = 28 + 7 * place as usize + 1 + 2 * field;
+        u16::from_be_bytes([image[at], image[at + 1]])
+    };
     let add = |g: &mut Generator, field: &mut [u8]| {
         // One more or one less, as one big-endian number.
         let up = g.one_in(2);
@@ -762,12 +769,16 @@ fn nudge_state(g: &mut Generator, image: &mut [u8; STATE_IMAGE]) {
         0 => image[g.below(STATE_IMAGE as u64) as usize] = g.number() as u8,
         1 => image[at] = g.number() as u8,
         2 => image[at] ^= 1,
-        3 => {
-            let clock = LAST_CLOCK - 1 + g.below(3) as u32;
-            image[PLAN_IMAGE..PLAN_IMAGE + 4].copy_from_slice(&clock.to_be_bytes());
+        3 => image[SLICE_AT] = image[3].saturating_sub(1).saturating_add(g.below(3) as u8),
+        4 | 5 => add(g, &mut image[SLICE_AT..SLICE_AT + 1]),
+        6 => add(g, &mut image[at + 1..at + 3]),
+        7 => {
+            // Around T, or around D.
+            let field = g.below(2) as usize;
+            let near = of_kind(image, field).saturating_sub(1);
+            let gone = near.saturating_add(g.below(3) as u16);
+            image[at + 1..at + 3].copy_from_slice(&gone.to_be_bytes());
         }
-        4 | 5 => add(g, &mut image[PLAN_IMAGE..PLAN_IMAGE + 4]),
-        6 | 7 => add(g, &mut image[at + 1..at + 5]),
         8 => add(g, &mut image[sum..sum + 2]),
         9 => image[sum + g.below(2) as usize] ^= 1 << g.below(8),
         10 => {
@@ -776,7 +787,7 @@ fn nudge_state(g: &mut Generator, image: &mut [u8; STATE_IMAGE]) {
             image.swap(sum, other);
             image.swap(sum + 1, other + 1);
         }
-        _ => add(g, &mut image[at + 5..at + 7]),
+        _ => add(g, &mut image[at + 3..at + 5]),
     }
     // The sums go with what is left, or do not.
     if let (true, Some(state)) = (g.one_in(2), state_of(image)) {

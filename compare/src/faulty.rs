@@ -6,14 +6,14 @@
 
 use crate::interface::{
     number, plan_image, plan_of, refused, state_image, word, Op, Side, FIGURES_BYTES, PLAN_IMAGE,
-    STATE_IMAGE, SUMS_AT, UNITS_AT, VERDICT_BYTES,
+    STATE_IMAGE, SUMS_AT, UNIT, UNITS_AT, VERDICT_BYTES,
 };
 use crate::second_side::{figures_bytes, state_or_refuse, Second};
 use second::layout::{cards_held, cells, h, h_of_cells};
 use second::one_kind::listed;
 use second::plan::budgets_sum_above;
 use second::play::{command, Command};
-use second::rack::{a_stored_sum_differs, in_form, sum_of_what_is_left, LAST_CLOCK};
+use second::rack::{a_stored_sum_differs, sum_of_what_is_left};
 use second::supply::supply_and_slice;
 use second::verdict::{ceiling_of, excess, least_k, workload};
 use second::{Answer, Plan, State};
@@ -43,7 +43,6 @@ pub enum Fault {
     Rotated,
     FirstFrame,
     ServesNone,
-    ElevenFirst,
     Early,
     ExactlyT,
     FifteenFirst,
@@ -110,11 +109,23 @@ pub enum Fault {
     PlayStops,
     PlayReadEnd,
     PlayGoesOn,
-    ShowWithout11,
+    PlayEndClock,
     ShowKeepsIdle,
-    AdvanceGoesOn,
     AdvanceRemembers,
     PlayRowAfter,
+    GoneUnheld,
+    GoneHeldAtD,
+    GoneNever,
+    ReleaseKeepsGone,
+    RankByGone,
+    RankOthersGone,
+    SliceUnwrapped,
+    FormLate,
+    FormAtT,
+    FormBeyondT,
+    FormNever,
+    FormSliceF,
+    Eleven,
     SumNotRaised,
     SumRaisedByLength,
     SumNotLowered,
@@ -158,7 +169,7 @@ pub enum Fault {
 use Fault::*;
 
 /// Each fault that records must show: its name and what it is.
-pub const RECORD_FAULTS: [(Fault, &str, &str); 117] = [
+pub const RECORD_FAULTS: [(Fault, &str, &str); 125] = [
     (SumFirst, "sum-first", "7 is told before 4"),
     (FiveFirst, "five-first", "all kinds for 5 before any 6"),
     (
@@ -182,28 +193,58 @@ pub const RECORD_FAULTS: [(Fault, &str, &str); 117] = [
     (
         RankByD,
         "rank-by-d",
-        "ranked by D, not release clock plus D",
+        "ranked by D, not by slices left until the deadline",
     ),
     (
         TwoCards,
         "two-cards",
         "a unit is given two cards in a slice",
     ),
-    (Rotated, "rotated", "the layout rotates between frames"),
-    (
-        FirstFrame,
-        "first-frame",
-        "after the first frame what is left does not fall",
-    ),
     (
         ServesNone,
         "serves-none",
-        "the clock moves, no one is served",
+        "the slice moves, no one is served",
     ),
-    (ElevenFirst, "eleven-first", "11 is told before 9"),
     (Early, "early", "a release at T-1 passes"),
     (ExactlyT, "exactly-t", "a release at exactly T gives 14"),
-    (FifteenFirst, "fifteen-first", "15 is told before 14"),
+    (
+        FifteenFirst,
+        "fifteen-first",
+        "15 is told of a kind with work left",
+    ),
+    (Eleven, "eleven", "11 is told in the frame's last slice"),
+    (GoneUnheld, "gone-unheld", "what is gone is not held at T"),
+    (GoneHeldAtD, "gone-held-at-d", "what is gone is held at D"),
+    (
+        GoneNever,
+        "gone-never",
+        "what is gone is raised for a kind never released",
+    ),
+    (
+        ReleaseKeepsGone,
+        "release-gone",
+        "a release leaves what is gone as it was",
+    ),
+    (RankByGone, "rank-by-gone", "ranked by slices gone"),
+    (
+        RankOthersGone,
+        "rank-others-gone",
+        "ranked by D less what is gone of the next kind",
+    ),
+    (
+        SliceUnwrapped,
+        "slice-unwrapped",
+        "behind the last slice of a frame comes slice F",
+    ),
+    (FormLate, "form-late", "work left with D gone passes"),
+    (FormAtT, "form-at-t", "just T gone is out of form"),
+    (FormBeyondT, "form-beyond-t", "one more than T gone passes"),
+    (
+        FormNever,
+        "form-never",
+        "what is gone of a kind never released is not looked at",
+    ),
+    (FormSliceF, "form-slice-f", "slice F passes for slice 0"),
     (
         LowByte,
         "low-byte",
@@ -358,19 +399,9 @@ pub const RECORD_FAULTS: [(Fault, &str, &str); 117] = [
         "an excess of C - 1 where there is no C'",
     ),
     (
-        ShowWithout11,
-        "show-without-11",
-        "a row is shown at the clock's end",
-    ),
-    (
         ShowKeepsIdle,
         "show-keeps-idle",
         "an idle card's byte stays as it was",
-    ),
-    (
-        AdvanceGoesOn,
-        "advance-goes-on",
-        "the clock goes on beyond its end",
     ),
     (
         AdvanceRemembers,
@@ -635,14 +666,29 @@ pub const RECORD_FAULTS: [(Fault, &str, &str); 117] = [
 ];
 
 /// Each fault that streams must show.
-pub const STREAM_FAULTS: [(Fault, &str, &str); 13] = [
+pub const STREAM_FAULTS: [(Fault, &str, &str); 17] = [
     (PlayEnd, "play-end", "no end line after a bad command"),
     (
         PlayLeftOver,
         "play-left-over",
         "one or two bytes left over are passed by",
     ),
-    (PlayClock, "play-clock", "a slice prints the clock after it"),
+    (
+        PlayClock,
+        "play-clock",
+        "the slice after the advance is printed",
+    ),
+    (
+        PlayEndClock,
+        "play-end-clock",
+        "the last line tells all slices run",
+    ),
+    (Rotated, "rotated", "the layout rotates between frames"),
+    (
+        FirstFrame,
+        "first-frame",
+        "after the first frame what is left does not fall",
+    ),
     (
         PlaySliceBits,
         "play-slice-bits",
@@ -677,6 +723,7 @@ pub const STREAM_FAULTS: [(Fault, &str, &str); 13] = [
     (Ties, "ties", "a tie goes to the higher kind number"),
     (CutOff, "cut-off", "W without the cut-off unit"),
     (Early, "early", "a release at T-1 passes"),
+    (GoneHeldAtD, "gone-held-at-d", "what is gone is held at D"),
 ];
 
 /// The fault of this name, `none` included.
@@ -698,6 +745,9 @@ pub struct Faulty(pub Fault);
 thread_local! {
     /// What was shown last and not advanced since, for a copy that remembers it.
     static SHOWN: Cell<Option<Vec<(usize, usize)>>> = const { Cell::new(None) };
+
+    /// The slices that a player has run, for a copy that counts them; no state tells.
+    static RUN: Cell<u64> = const { Cell::new(0) };
 }
 
 impl Faulty {
@@ -723,7 +773,7 @@ impl Faulty {
         }
         if self.is(ReleasedByte) && size == STATE_IMAGE {
             for place in 0..16 {
-                let released = &mut seen[UNITS_AT + 7 * place];
+                let released = &mut seen[UNITS_AT + UNIT * place];
                 *released = (*released).min(1);
             }
         }
@@ -762,14 +812,38 @@ impl Faulty {
         }
     }
 
-    /// A function on a state, by this copy's rules about the sums.
+    /// A state as this copy sees it, where its form passes what is out of form.
+    fn formed(&self, state: &State) -> State {
+        let mut seen = *state;
+        for (place, kind) in seen.kinds.iter_mut().zip(state.plan.used_kinds()) {
+            let (t, d) = (kind.separation, kind.deadline);
+            match self.0 {
+                FormLate if place.left > 0 && place.gone == d => place.gone = d.max(1) - 1,
+                FormBeyondT if place.gone > t && place.gone - t == 1 => place.gone = t,
+                FormNever if !place.released => place.gone = 0,
+                _ => {}
+            }
+        }
+        if self.is(FormSliceF) && state.slice == state.plan.frame {
+            seen.slice = 0;
+        }
+        seen
+    }
+
+    /// Whether this copy's form refuses what is in form.
+    fn refuses_form(&self, state: &State) -> bool {
+        let mut kinds = state.kinds.iter().zip(state.plan.used_kinds());
+        self.is(FormAtT) && kinds.any(|(place, kind)| place.gone == kind.separation)
+    }
+
+    /// A function on a state, by this copy's rules about the form and the sums.
     fn summed(
         &self,
         op: Op,
         state: &State,
         call: impl FnOnce(&State) -> (Answer, State),
     ) -> (Answer, State) {
-        let mut seen = *state;
+        let mut seen = self.formed(state);
         let p = usize::from(state.plan.p).min(8);
         if self.is(SumBeyond) {
             seen.sums[p..].fill(0);
@@ -780,6 +854,9 @@ impl Faulty {
             seen.sums[p..].copy_from_slice(&state.sums[p..]);
         }
         let (mut answer, mut next) = call(&seen);
+        if matches!(answer.number, 0 | 9..) && self.refuses_form(state) {
+            return (Answer::refused(10), *state);
+        }
         match (self.0, answer.number) {
             (SixteenFirst, 10) if a_stored_sum_differs(state) => answer.number = 16,
             (SixteenPlace, 16) => {
@@ -1307,8 +1384,10 @@ impl Faulty {
                 _ => {}
             }
         }
-        let gone = u64::from(state.clock.saturating_sub(place.at));
-        let t = u64::from(of_plan.separation);
+        let (gone, t) = (u64::from(place.gone), u64::from(of_plan.separation));
+        if self.is(ReleaseKeepsGone) {
+            next.kinds[kind as usize].gone = place.gone;
+        }
         match (self.0, answer.number) {
             (Early, 14) if gone + 1 == t && place.left == 0 => {
                 let mut seen = *state;
@@ -1324,10 +1403,9 @@ impl Faulty {
     /// Each card that is taken and its kind, by this copy's rules; of a state on a plan in order.
     fn chosen(&self, state: &State) -> Vec<(usize, usize)> {
         let frame = u64::from(state.plan.frame);
-        let clock = u64::from(state.clock);
         let now = match self.0 {
-            Rotated => (clock + clock / frame) % frame,
-            _ => clock % frame,
+            Rotated => (u64::from(state.slice) + RUN.get() / frame) % frame,
+            _ => u64::from(state.slice),
         };
         let mut chosen = Vec::new();
         let cells = cells(&state.plan);
@@ -1346,18 +1424,15 @@ impl Faulty {
     }
 
     fn shown(&self, state: &State, row: &mut [u8]) -> Answer {
-        let in_order =
-            second::check(&state.plan).is_good() && in_form(state) && !a_stored_sum_differs(state);
-        if self.is(ElevenFirst) && in_order && state.clock == LAST_CLOCK {
-            return Answer::refused(11);
-        }
         let mut answer = second::show(state, &mut row.to_vec());
         let short = row.len() < usize::from(state.plan.m);
         if self.is(SixteenAfterNine) && answer.number == 16 && short {
             answer.number = 9;
         }
-        let at_the_end = self.is(ShowWithout11) && answer.number == 11;
-        if !answer.is_good() && !at_the_end {
+        if self.is(Eleven) && answer.is_good() && state.slice + 1 == state.plan.frame {
+            answer.number = 11;
+        }
+        if !answer.is_good() {
             return answer;
         }
         // The row, by this copy's rules.
@@ -1374,19 +1449,35 @@ impl Faulty {
 
     fn advanced(&self, state: &State) -> (Answer, State) {
         let (answer, mut next) = second::advance(state);
-        if self.is(AdvanceGoesOn) && answer.number == 11 {
-            next.clock += 1;
-        } else if !answer.is_good() {
+        if !answer.is_good() {
             return (answer, next);
+        }
+        if self.is(Eleven) && next.slice == 0 {
+            return (Answer::refused(11), *state);
+        }
+        for (i, kind) in state.plan.used_kinds().iter().enumerate() {
+            let place = state.kinds[i];
+            let raised = place.gone + u16::from(place.released);
+            next.kinds[i].gone = match self.0 {
+                GoneUnheld => raised,
+                GoneHeldAtD => raised.min(kind.deadline),
+                GoneNever => (place.gone + 1).min(kind.separation),
+                _ => raised.min(kind.separation),
+            };
+        }
+        if self.is(SliceUnwrapped) {
+            next.slice = state.slice + 1;
         }
         let chosen = match SHOWN.take() {
             Some(shown) if self.is(AdvanceRemembers) => shown,
             _ => self.chosen(state),
         };
-        next.kinds = state.kinds;
+        for (place, before) in next.kinds.iter_mut().zip(&state.kinds) {
+            place.left = before.left;
+        }
         next.sums = state.sums;
         for (_, i) in chosen {
-            let stands = self.is(FirstFrame) && state.clock >= u32::from(state.plan.frame);
+            let stands = self.is(FirstFrame) && RUN.get() >= u64::from(state.plan.frame);
             let left = &mut next.kinds[i].left;
             if *left > 0 && !stands {
                 *left -= 1;
@@ -1398,7 +1489,7 @@ impl Faulty {
             SumNotLowered => next.sums = state.sums,
             SumLoweredByHeld => {
                 let cells = cells(&state.plan);
-                let now = u64::from(state.clock) % u64::from(state.plan.frame);
+                let now = u64::from(state.slice);
                 for project in 0..usize::from(state.plan.p) {
                     let held = cards_held(&cells, project, now).len() as u16;
                     next.sums[project] = state.sums[project].saturating_sub(held);
@@ -1415,11 +1506,14 @@ impl Faulty {
             .filter(|&i| usize::from(kinds[i].project) == project && state.kinds[i].left > 0)
             .collect();
         ranked.sort_by_key(|&i| {
-            let (d, at) = (u64::from(kinds[i].deadline), u64::from(state.kinds[i].at));
+            let (d, gone) = (i32::from(kinds[i].deadline), i32::from(state.kinds[i].gone));
+            let other = state.kinds[(i + 1) % kinds.len()].gone;
             match self.0 {
-                Ties => (at + d, kinds.len() - i),
+                Ties => (d - gone, kinds.len() - i),
                 RankByD => (d, i),
-                _ => (at + d, i),
+                RankByGone => (-gone, i),
+                RankOthersGone => (d - i32::from(other), i),
+                _ => (d - gone, i),
             }
         });
         ranked
@@ -1648,6 +1742,7 @@ pub fn play(fault: Fault, mut input: impl Read, mut output: impl Write) {
         copy: Faulty(fault),
         state: None,
         turns: 0,
+        slices: 0,
     };
     let mut held = Vec::new();
     let mut chunk = vec![0; 1 << 16];
@@ -1675,6 +1770,8 @@ struct Player {
     /// None before the plan.
     state: Option<State>,
     turns: u64,
+    /// Run so far.
+    slices: u64,
 }
 
 impl Player {
@@ -1729,7 +1826,10 @@ impl Player {
         if !over {
             return Continue(());
         }
-        let clock = self.state.map_or(0, |state| state.clock);
+        let clock = match self.copy.is(PlayEndClock) {
+            true => self.slices,
+            false => self.state.map_or(0, |state| u64::from(state.slice)),
+        };
         *lines += &format!("end {clock}\n");
         Break(())
     }
@@ -1745,6 +1845,7 @@ impl Player {
             _ => {}
         }
         let mut line = String::new();
+        RUN.set(self.slices);
         let next = match command(&seen) {
             Command::Release { kind, e } => {
                 let (answer, next) = self.copy.released(&state, kind, e);
@@ -1761,12 +1862,13 @@ impl Player {
                     true => self.copy.advanced(&state).1,
                     false => state,
                 };
+                self.slices += u64::from(answer.is_good());
                 if self.copy.is(PlayRowAfter) {
                     self.copy.shown(&next, &mut row);
                 }
                 let clock = match self.copy.is(PlayClock) {
-                    true => next.clock,
-                    false => state.clock,
+                    true => next.slice,
+                    false => state.slice,
                 };
                 line += &match answer.number {
                     0 => format!("t {clock}:"),

@@ -4,7 +4,9 @@
 //! call must say so. A flip counts as told where a release, a showing and an advance all answer 10, or all 16, and keep every byte.
 
 use crate::cases::{numbered, Record};
-use crate::interface::{number, state_image, Case, Op, Outcome, STATE_IMAGE, SUMS_AT, UNITS_AT};
+use crate::interface::{
+    number, state_image, Case, Op, Outcome, STATE_IMAGE, SUMS_AT, UNIT, UNITS_AT,
+};
 use generate::Generator;
 use second::play::{command, Command};
 use second::State;
@@ -12,7 +14,7 @@ use second::State;
 /// The bits that are flipped in each state, as the byte and the bit in it: those of 8 sums and of 16 slices left.
 fn bits() -> impl Iterator<Item = (usize, u8)> {
     let sums = (0..8).map(|place| SUMS_AT + 2 * place);
-    let left = (0..16).map(|place| UNITS_AT + 7 * place + 5);
+    let left = (0..16).map(|place| UNITS_AT + UNIT * place + 3);
     let bytes = sums.chain(left).flat_map(|at| [at, at + 1]);
     bytes.flat_map(|at| (0..8).map(move |bit| (at, bit)))
 }

@@ -6,11 +6,15 @@ use std::fmt;
 /// Bytes of a plan image.
 pub const PLAN_IMAGE: usize = 140;
 /// Bytes of a state image.
-pub const STATE_IMAGE: usize = 272;
-/// Where the units begin in a state image: behind the plan and the clock.
-pub const UNITS_AT: usize = PLAN_IMAGE + 4;
-/// Where the sums begin: behind sixteen units of seven bytes.
-pub const SUMS_AT: usize = UNITS_AT + 16 * 7;
+pub const STATE_IMAGE: usize = 237;
+/// Where the slice stands in a state image: behind the plan.
+pub const SLICE_AT: usize = PLAN_IMAGE;
+/// Where the units begin: behind the plan and the slice.
+pub const UNITS_AT: usize = SLICE_AT + 1;
+/// The bytes of a unit: released, gone, left.
+pub const UNIT: usize = 5;
+/// Where the sums begin: behind sixteen units.
+pub const SUMS_AT: usize = UNITS_AT + 16 * UNIT;
 /// Bytes of a verdict: the k of each kind, then the slice of each.
 pub const VERDICT_BYTES: usize = 32;
 /// Bytes of a kind's figures: the workload, the supply at each k, then the slice of each.
@@ -84,10 +88,6 @@ impl Fields<'_> {
         u16::from_be_bytes(self.take())
     }
 
-    fn u32(&mut self) -> u32 {
-        u32::from_be_bytes(self.take())
-    }
-
     fn plan(&mut self) -> Plan {
         let mut plan = Plan {
             m: self.u8(),
@@ -157,12 +157,12 @@ pub fn plan_image(plan: &Plan) -> [u8; PLAN_IMAGE] {
     bytes
 }
 
-/// The state that an image of at least 272 bytes holds; none when a released byte is neither 0 nor 1.
+/// The state that an image of at least 237 bytes holds; none when a released byte is neither 0 nor 1.
 pub fn state_of(image: &[u8]) -> Option<State> {
     let mut fields = Fields { bytes: image };
     let mut state = State {
         plan: fields.plan(),
-        clock: fields.u32(),
+        slice: fields.u8(),
         ..State::default()
     };
     for place in &mut state.kinds {
@@ -172,7 +172,7 @@ pub fn state_of(image: &[u8]) -> Option<State> {
                 1 => true,
                 _ => return None,
             },
-            at: fields.u32(),
+            gone: fields.u16(),
             left: fields.u16(),
         };
     }
@@ -190,10 +190,10 @@ pub fn state_image(state: &State) -> [u8; STATE_IMAGE] {
         next: 0,
     };
     image.put_plan(&state.plan);
-    image.put(&state.clock.to_be_bytes());
+    image.put(&[state.slice]);
     for place in &state.kinds {
         image.put(&[u8::from(place.released)]);
-        image.put(&place.at.to_be_bytes());
+        image.put(&place.gone.to_be_bytes());
         image.put(&place.left.to_be_bytes());
     }
     for sum in &state.sums {
@@ -468,9 +468,9 @@ pub fn image_in_words(case: &Case) -> Option<String> {
         let mut fields = Fields {
             bytes: &image[PLAN_IMAGE..],
         };
-        line += &format!(", clock {}, released, at, left", fields.u32());
+        line += &format!(", slice {}, released, gone, left", fields.u8());
         for _ in plan.used_kinds() {
-            line += &format!(" ({},{},{})", fields.u8(), fields.u32(), fields.u16());
+            line += &format!(" ({},{},{})", fields.u8(), fields.u16(), fields.u16());
         }
         let mut fields = Fields {
             bytes: &image[SUMS_AT..],

@@ -14,7 +14,7 @@ use std::process::ExitCode;
 use std::time::Instant;
 
 const USAGE: &str = "\
-usage: compare --play PLAYER [--seed N] [--count N] [--flips N] [--streams N] [--one-in N] [--numbers]
+usage: compare --play PLAYER [--seed N] [--count N] [--flips N] [--runs N] [--streams N] [--one-in N] [--numbers]
        compare --self-test [--seed N]
        compare --again 'CALL' | --again 'stream HEX' --play PLAYER
 
@@ -22,6 +22,7 @@ usage: compare --play PLAYER [--seed N] [--count N] [--flips N] [--streams N] [-
   --seed N      the seed of the generated cases (1)
   --count N     about so many generated records, beside the fixed ones (1000000)
   --flips N     about so many reached states in which each bit of a sum or of slices left is flipped (3000)
+  --runs N      runs from a fresh start that are held to the old rules, one in four over thousands of slices (400)
   --streams N   generated streams, beside the fixed ones (20000); 0: no streams at all
   --one-in N    of the fixed streams one in N, beside those that document 01 gives or that fail (1)
   --numbers     also shows how often each number was given back
@@ -36,6 +37,7 @@ struct Arguments {
     seed: u64,
     count: u64,
     flips: u64,
+    runs: u64,
     streams: u64,
     one_in: usize,
     numbers: bool,
@@ -50,6 +52,7 @@ fn arguments() -> Result<Arguments, String> {
         seed: 1,
         count: 1_000_000,
         flips: 3_000,
+        runs: 400,
         streams: 20_000,
         one_in: 1,
         numbers: false,
@@ -70,6 +73,7 @@ fn arguments() -> Result<Arguments, String> {
             "--seed" => found.seed = number(value()?)?,
             "--count" => found.count = number(value()?)?,
             "--flips" => found.flips = number(value()?)?,
+            "--runs" => found.runs = number(value()?)?,
             "--streams" => found.streams = number(value()?)?,
             "--one-in" => found.one_in = number(value()?)?.max(1) as usize,
             "--numbers" => found.numbers = true,
@@ -123,6 +127,7 @@ fn run(arguments: &Arguments) -> io::Result<Result<u8, String>> {
         generated,
         one_in: arguments.one_in,
         flips: arguments.flips,
+        runs: arguments.runs,
         seed: arguments.seed,
     };
     let found = records(&Proved, part(arguments.count), &mut tally);
@@ -142,6 +147,11 @@ fn run(arguments: &Arguments) -> io::Result<Result<u8, String>> {
         print!("{difference}");
     }
     println!("{}", tally.flips.in_words());
+    println!("{}", tally.beside.in_words());
+    let retired = tally.retired();
+    if retired > 0 {
+        println!("11 or 15, which are retired, were told {retired} times");
+    }
     println!(
         "compared {} records ({} calls) and {} streams ({} lines), seed {}, {} s: {}",
         tally.records,
@@ -155,7 +165,7 @@ fn run(arguments: &Arguments) -> io::Result<Result<u8, String>> {
             Some(_) => "A DIFFERENCE",
         }
     );
-    Ok(Ok(u8::from(difference.is_some())))
+    Ok(Ok(u8::from(difference.is_some() || retired > 0)))
 }
 
 fn player(arguments: &Arguments) -> Option<Program> {
@@ -201,17 +211,19 @@ fn self_test(seed: u64) -> io::Result<bool> {
     const RECORDS: u64 = 100_000;
     const STREAMS: u64 = 2_000;
     const FLIPS: u64 = 25;
+    const RUNS: u64 = 8;
     let start = Instant::now();
     let mut good = true;
     let parts = |generated| {
-        let part = |fixed, generated, flips| Part {
+        let part = |fixed, generated, flips, runs| Part {
             fixed,
             generated,
             one_in: 1,
             flips,
+            runs,
             seed,
         };
-        [part(true, 0, 0), part(false, generated, FLIPS)]
+        [part(true, 0, 0, 0), part(false, generated, FLIPS, RUNS)]
     };
     let mut tell = |name: &str, what: &str, unit: &str, after: [Option<u64>; 2]| {
         // The fixed and the generated cases together are one comparison.
@@ -253,6 +265,7 @@ fn self_test(seed: u64) -> io::Result<bool> {
         generated,
         one_in: 1,
         flips: FLIPS,
+        runs: RUNS,
         seed,
     };
     let mut tally = Tally::default();

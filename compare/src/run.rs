@@ -1,5 +1,6 @@
 //! The comparison itself: the first difference, and how much was compared before it.
 
+use crate::beside::{self, Beside};
 use crate::cases::{self, Fixed, Rounds};
 use crate::flips::{self, Told, STATES_A_RUN};
 use crate::interface::{
@@ -7,7 +8,7 @@ use crate::interface::{
 };
 use crate::second_side::Second;
 use crate::shrink::{smaller_case, smaller_stream};
-use crate::streams::{self, second_plays, End, Program, Stream};
+use crate::streams::{self, old_plays, second_plays, End, Program, Stream};
 use crate::table::table;
 use std::io;
 use std::panic::resume_unwind;
@@ -16,6 +17,9 @@ use std::thread::{available_parallelism, scope};
 
 /// Every number given back is below this.
 const NUMBERS: usize = 28;
+
+/// "11 and 15 are retired."
+const RETIRED: [usize; 2] = [11, 15];
 
 /// How much was compared.
 #[derive(Clone, Debug, Default)]
@@ -32,6 +36,8 @@ pub struct Tally {
     pub lines: u64,
     /// Flipped bits in states, and what the compared side said to them.
     pub flips: Told,
+    /// Runs beside the old rules.
+    pub beside: Beside,
 }
 
 /// The most bytes of a stream that are printed, and that are tried to be made fewer.
@@ -62,6 +68,8 @@ pub struct Part {
     pub one_in: usize,
     /// About so many reached states in which each bit of a sum or of slices left is flipped.
     pub flips: u64,
+    /// So many runs beside the old rules.
+    pub runs: u64,
     /// The seed of the generated cases.
     pub seed: u64,
 }
@@ -157,7 +165,36 @@ pub fn records(
         let mut states = states.iter();
         states.find_map(|state| flip_differs(side, flips::calls(&mut g, state), tally))
     };
-    in_order(part.flips.div_ceil(STATES_A_RUN), work, tally)
+    let found = in_order(part.flips.div_ceil(STATES_A_RUN), work, tally);
+    if found.is_some() {
+        return found;
+    }
+    let work = |at: u64, tally: &mut Tally| run_differs(side, part.seed, at, tally);
+    in_order(part.runs, work, tally)
+}
+
+/// A run beside the old rules: both sides must give what they give.
+fn run_differs(
+    side: &impl Side,
+    seed: u64,
+    at: u64,
+    tally: &mut Tally,
+) -> Option<RecordDifference> {
+    let mut told = Beside::default();
+    let found = beside::run(seed, at, &mut told, |case, expected| {
+        tally.calls += 1;
+        tally.numbers[case.op as usize][number(expected.word) as usize % NUMBERS] += 1;
+        match case.run(side) != expected || case.run(&Second) != expected {
+            true => Some(RecordDifference {
+                case,
+                expected: Some(("(ix): as by the old rules", expected)),
+            }),
+            false => None,
+        }
+    });
+    tally.records += 1;
+    tally.beside.add(&told);
+    found
 }
 
 /// The calls on a state as it is, and on the state with each bit flipped; a flip that is not told differs from what document 02 says.
@@ -261,7 +298,7 @@ fn stream_differs(program: &Program, stream: &Stream, tally: &mut Tally) -> io::
     let as_01_says = stream
         .expected
         .is_none_or(|lines| lines.as_bytes() == other);
-    Ok(one != other || !as_01_says)
+    Ok(one != other || !as_01_says || old_plays(stream) != other)
 }
 
 impl RecordDifference {
@@ -309,7 +346,7 @@ impl StreamDifference {
         let mut differs = |input: &Vec<u8>| {
             let stream = with(input);
             let other = second_plays(&stream);
-            program.play(&stream).is_ok_and(|one| one != other)
+            old_plays(&stream) != other || program.play(&stream).is_ok_and(|one| one != other)
         };
         let mut text = format!("a stream differs ({}):\n", given.name);
         let mut stream = with(&given.input);
@@ -326,17 +363,19 @@ impl StreamDifference {
             );
         }
         let (one, other) = (program.play(&stream)?, second_plays(&stream));
+        let old = old_plays(&stream);
         let (shown, more) = stream.input.split_at(stream.input.len().min(MOST_SHOWN));
         text += &format!("  stream {}", hex(shown));
         text += &match more.len() {
             0 => "\n".to_string(),
             more => format!(" and {more} bytes more\n"),
         };
-        let (one, other) = (
-            String::from_utf8_lossy(&one).into_owned(),
-            String::from_utf8_lossy(&other).into_owned(),
-        );
-        let mut sides = vec![(name, one), ("second", other)];
+        let in_text = |lines: Vec<u8>| String::from_utf8_lossy(&lines).into_owned();
+        let mut sides = vec![
+            (name, in_text(one)),
+            ("second", in_text(other)),
+            ("old", in_text(old)),
+        ];
         if let Some(lines) = stream.expected {
             sides.push(("01", lines.to_string()));
         }
@@ -366,11 +405,19 @@ impl Tally {
         self.streams += other.streams;
         self.lines += other.lines;
         self.flips.add(&other.flips);
+        self.beside.add(&other.beside);
         for (own, other) in self.numbers.iter_mut().zip(&other.numbers) {
             for (own, other) in own.iter_mut().zip(other) {
                 *own += other;
             }
         }
+    }
+
+    /// How often a retired number was given back.
+    pub fn retired(&self) -> u64 {
+        let each = self.numbers.iter();
+        each.map(|counts| RETIRED.map(|number| counts[number]).iter().sum::<u64>())
+            .sum()
     }
 
     /// A table of the numbers given back, a line for each function.

@@ -1,6 +1,6 @@
 //! A first difference made small: bytes are taken away and lowered as long as the difference stays.
 
-use crate::interface::{Case, Op, PLAN_IMAGE, STATE_IMAGE, SUMS_AT, UNITS_AT};
+use crate::interface::{Case, Op, PLAN_IMAGE, STATE_IMAGE, SUMS_AT, UNIT, UNITS_AT};
 
 /// At most so many tries.
 const TRIES: u32 = 20_000;
@@ -50,17 +50,17 @@ fn with_sums_moved(before: &Case, tried: &Case) -> Case {
 
 /// What each project has left in a state image; nothing in any other.
 fn left_by_project(case: &Case) -> [u16; 8] {
-    let mut left = [0u16; 8];
+    let mut sums = [0u16; 8];
     let image = &case.given;
     if matches!(case.op, Op::Release | Op::Show | Op::Advance) && image.len() >= STATE_IMAGE {
         for kind in 0..usize::from(image[2]).min(16) {
-            let unit = UNITS_AT + 7 * kind;
+            let left = UNITS_AT + UNIT * kind + 3;
             let project = usize::from(image[28 + 7 * kind]) % 8;
-            let own = u16::from_be_bytes([image[unit + 5], image[unit + 6]]);
-            left[project] = left[project].wrapping_add(own);
+            let own = u16::from_be_bytes([image[left], image[left + 1]]);
+            sums[project] = sums[project].wrapping_add(own);
         }
     }
-    left
+    sums
 }
 
 /// A smaller call on which the two sides still differ.
@@ -164,13 +164,13 @@ fn without_kind(case: &Case, kind: usize) -> Case {
         return tried;
     }
     image[2] -= 1;
-    let mut move_up = |from: usize| {
-        image[from + 7 * kind..from + 7 * 16].rotate_left(7);
-        image[from + 7 * 15..from + 7 * 16].fill(0);
+    let mut move_up = |from: usize, bytes: usize| {
+        image[from + bytes * kind..from + bytes * 16].rotate_left(bytes);
+        image[from + bytes * 15..from + bytes * 16].fill(0);
     };
-    move_up(28);
+    move_up(28, 7);
     if matches!(case.op, Op::Release | Op::Show | Op::Advance) && case.given.len() >= STATE_IMAGE {
-        move_up(UNITS_AT);
+        move_up(UNITS_AT, UNIT);
     }
     if matches!(case.op, Op::Release | Op::Figures) && tried.numbers[0] > kind as u64 {
         tried.numbers[0] -= 1;

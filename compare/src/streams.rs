@@ -3,7 +3,7 @@
 use crate::table::{example, run_and_compared};
 use generate::{fixed_streams, long_stream, Generator, SLICE};
 use second::bytes::pack;
-use second::Plan;
+use second::{play, play_by_absolute_clock, Plan};
 use std::cell::Cell;
 use std::fs::File;
 use std::io::{self, Read, Write};
@@ -65,7 +65,18 @@ impl Stream {
 /// The slices of the longest stream.
 const LONG: u64 = 200_000;
 
-/// The example and "Run and compared"; a long stream, reads and outputs that fail; then each refusal, each cut, each
+/// Separations at the end of their range, with deadlines at theirs and below: the plan, and slices enough for each kind to be released
+/// three times.
+fn far_apart() -> Vec<(Plan, u64)> {
+    let kinds = [(0, 4095, 4095, 60), (0, 4095, 40, 2), (0, 4094, 300, 9)];
+    vec![
+        (Plan::of(1, 1, &[(1, 1)], &[(0, 4095, 1, 1)]), 8_300),
+        (Plan::of(2, 7, &[(2, 9)], &kinds), 8_300),
+        (Plan::of(8, 64, &[(8, 512)], &kinds), 8_300),
+    ]
+}
+
+/// The example and "Run and compared"; long streams, reads and outputs that fail; then each refusal, each cut, each
 /// spare bit and each bad command.
 pub fn fixed() -> Vec<Stream> {
     let (input, lines) = example();
@@ -84,7 +95,12 @@ pub fn fixed() -> Vec<Stream> {
         pauses: (0..streams[0].input.len()).collect(),
         ..Stream::new("the example, byte by byte", streams[0].input.clone())
     });
-    streams.push(Stream::new("200000 slices", long_stream(LONG)));
+    let long = long_stream(&Plan::a(), LONG);
+    streams.push(Stream::new("200000 slices", long));
+    for (plan, slices) in far_apart() {
+        let stream = long_stream(&plan, slices);
+        streams.push(Stream::new("units 4095 slices apart", stream));
+    }
     streams.extend(failing());
     let more = fixed_streams();
     streams.extend(
@@ -225,14 +241,51 @@ fn send(stream: &Stream, mut pipe: impl Write) -> bool {
 
 /// What the second program prints for this input.
 pub fn second_plays(stream: &Stream) -> Vec<u8> {
+    printed(stream, |input, output| play(input, output))
+}
+
+/// What its other mode prints, by the old rules, where each clock is told within the frame.
+pub fn old_plays(stream: &Stream) -> Vec<u8> {
+    let lines = printed(stream, |input, output| {
+        play_by_absolute_clock(input, output)
+    });
+    let frame = u64::from(second::read(&stream.input).1.frame);
+    within_the_frame(&lines, frame)
+}
+
+/// The lines with the clock of each slice, and that of the last line, within the frame.
+fn within_the_frame(lines: &[u8], frame: u64) -> Vec<u8> {
+    let mut within = Vec::with_capacity(lines.len());
+    for line in lines.split_inclusive(|&byte| byte == b'\n') {
+        let text = String::from_utf8_lossy(line);
+        let clock = text.strip_prefix("t ").or(text.strip_prefix("end "));
+        let digits = clock.map_or(0, |rest| {
+            let other = |byte: u8| !byte.is_ascii_digit();
+            rest.bytes().position(other).unwrap_or(0)
+        });
+        let (Some(rest), 1..) = (clock, digits) else {
+            within.extend(line);
+            continue;
+        };
+        let clock: u64 = rest[..digits].parse().unwrap_or(0);
+        let before = &text[..text.len() - rest.len()];
+        within.extend(before.bytes());
+        within.extend((clock % frame.max(1)).to_string().bytes());
+        within.extend(rest[digits..].bytes());
+    }
+    within
+}
+
+/// What a player prints for this input.
+fn printed(stream: &Stream, play: fn(&mut dyn Read, &mut dyn Write)) -> Vec<u8> {
     let mut output = Vec::new();
     let mut input = &stream.input[..];
     match stream.end {
-        End::Ended => second::play(input, &mut output),
-        End::ReadFails => second::play(input.chain(Failing), &mut output),
+        End::Ended => play(&mut input, &mut output),
+        End::ReadFails => play(&mut input.chain(Failing), &mut output),
         End::OutputFull | End::OutputClosed => {
             let taken = Cell::new(0);
-            second::play(Counted(&mut input, &taken), Failing);
+            play(&mut Counted(&mut input, &taken), &mut Failing);
             if taken.get() == stream.input.len() {
                 output.extend(WENT_ON);
             }

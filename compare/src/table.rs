@@ -11,7 +11,6 @@ use crate::interface::{
 };
 use generate::{list_bytes, release_bytes, SLICE};
 use second::bytes::pack;
-use second::rack::LAST_CLOCK;
 use second::{Answer, Kind, KindState, Plan, Project, State};
 
 /// A case of document 01 and what it must give.
@@ -327,20 +326,26 @@ pub fn table() -> Vec<Named> {
     let exactly = "a budget sum of exactly mF passes";
     table.good(exactly, on(&a, Op::Check, 0), 0, &[]);
 
-    // Kind 1 of plan A has T 4 and was released at clock 0.
+    // Kind 1 of plan A has T 4 and was released in the first slice of the frame.
     let mut state = State {
         plan: a,
-        clock: 3,
+        slice: 3,
         ..State::default()
     };
-    state.kinds[1].released = true;
+    state.kinds[1] = KindState {
+        released: true,
+        gone: 3,
+        left: 0,
+    };
     let case = Case::release(state_image(&state).to_vec(), 1, 2);
     table.refused("release at T-1 gives 14", case, 14, 0, 0);
-    state.clock = 4;
+    state.slice = 0;
+    state.kinds[1].gone = 4;
+    let held = state;
     let case = Case::release(state_image(&state).to_vec(), 1, 2);
     state.kinds[1] = KindState {
         released: true,
-        at: 4,
+        gone: 0,
         left: 2,
     };
     state.sums[1] = 2;
@@ -352,24 +357,58 @@ pub fn table() -> Vec<Named> {
     // (iv): kind 1 is to run on card 1; the showing keeps the state, and advancing wants no row.
     table.good("(iv), shown", showing(&state, 3), 0, &[0, 2]);
     let case = advancing(&state);
-    let mut after = State { clock: 5, ..state };
+    let mut after = State { slice: 1, ..state };
+    after.kinds[1].gone = 1;
     after.kinds[1].left = 1;
     after.sums[1] = 1;
     table.good("(iv), advanced", case, 0, &[]);
     if let Some(row) = table.rows.last_mut() {
         row.expected.given = state_image(&after).to_vec();
     }
-    // At the clock's end 9 comes before 11, and advancing says 11.
-    let end = State {
+
+    // (ix): what is gone is held at T, and raised for no kind that was never released; behind the last slice comes the first.
+    let end = State { slice: 3, ..held };
+    for (before, slice) in [(&held, 1), (&end, 0)] {
+        table.good("(ix), held at T", advancing(before), 0, &[]);
+        if let Some(row) = table.rows.last_mut() {
+            row.expected.given = state_image(&State { slice, ..*before }).to_vec();
+        }
+    }
+    // Work left D slices after the release, more than T gone, any gone of a kind never released, and a slice of no frame: 10. With work
+    // left and T not gone, 14; no state says 11 or 15.
+    let mut unit = |gone, left, number| {
+        let mut state = held;
+        state.kinds[1].gone = gone;
+        state.kinds[1].left = left;
+        state.sums[1] = left;
+        let case = Case::release(state_image(&state).to_vec(), 1, 2);
+        table.refused("(ix), form", case, number, 0, 0);
+    };
+    unit(3, 1, 14);
+    unit(4, 1, 10);
+    unit(5, 0, 10);
+    let mut never = State { plan: a, ..end };
+    never.kinds[0].gone = 1;
+    let beyond = State { slice: 4, ..held };
+    for state in [&never, &beyond] {
+        table.refused("(ix), form", showing(state, 2), 10, 0, 0);
+        table.refused("(ix), form", advancing(state), 10, 0, 0);
+    }
+    // Ranked by slices left until the deadline: 8 less 7 before 4 less 2.
+    let mut two = State {
         plan: a,
-        clock: LAST_CLOCK,
         ..State::default()
     };
-    table.refused("(iv), 9 before 11", showing(&end, 1), 9, 0, 0);
-    table.refused("(iv), 11", showing(&end, 2), 11, 0, 0);
-    table.refused("(iv), 11", advancing(&end), 11, 0, 0);
+    for (kind, gone) in [(1, 2), (2, 7)] {
+        two.kinds[kind] = KindState {
+            released: true,
+            gone,
+            left: 1,
+        };
+    }
+    table.good("(ix), ranked", showing(&two.summed(), 2), 0, &[0, 3]);
 
-    // (vii): one bit of a sum, of slices left, and of a sum beyond p; 10 before 16, and 16 before 9, 11 and 12.
+    // (vii): one bit of a sum, of slices left, and of a sum beyond p; 10 before 16, and 16 before 9 and 12.
     let (mut sum, mut left, mut beyond) = (state, state, state);
     sum.sums[1] ^= 1;
     left.kinds[1].left ^= 2;
@@ -388,8 +427,8 @@ pub fn table() -> Vec<Named> {
     }
     let mut flipped = end;
     flipped.sums[0] = 1;
-    table.refused("(vii), 16 before 11", advancing(&flipped), 16, 0, 0);
-    flipped.clock += 1;
+    table.refused("(vii), 16", advancing(&flipped), 16, 0, 0);
+    flipped.slice += 1;
     table.refused("(vii), 10 before 16", advancing(&flipped), 10, 0, 0);
 
     let short = "one byte short";
@@ -458,7 +497,7 @@ pub fn run_and_compared() -> Vec<(&'static str, Vec<u8>, &'static str)> {
         (
             "release at exactly T passes, at T-1 gives 14",
             early,
-            "plan ok\nr 1 2 ok\nt 0: 0 2\nt 1: 0 2\nt 2: 0 0\nr 1 2 refused 14\nt 3: 0 0\nr 1 2 ok\nend 4\n",
+            "plan ok\nr 1 2 ok\nt 0: 0 2\nt 1: 0 2\nt 2: 0 0\nr 1 2 refused 14\nt 3: 0 0\nr 1 2 ok\nend 0\n",
         ),
     ]
 }

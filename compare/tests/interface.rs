@@ -39,25 +39,25 @@ fn a_plan_image_by_its_offsets() {
 fn a_state_image_by_its_offsets() {
     let mut state = State {
         plan: Plan::a(),
-        clock: 0x0102_0304,
+        slice: 0x04,
         ..State::default()
     };
     state.kinds[15] = KindState {
         released: true,
-        at: 0x0506_0708,
+        gone: 0x0708,
         left: 0x090A,
     };
     state.sums[0] = 0x0B0C;
     state.sums[7] = 0x0D0E;
-    let mut image = [0; 272];
+    let mut image = [0; 237];
     image[..140].copy_from_slice(&plan_image(&Plan::a()));
-    image[140..144].copy_from_slice(&[1, 2, 3, 4]);
-    image[144 + 7 * 15..256].copy_from_slice(&[1, 5, 6, 7, 8, 9, 10]);
-    image[256..258].copy_from_slice(&[11, 12]);
-    image[270..].copy_from_slice(&[13, 14]);
+    image[140] = 4;
+    image[141 + 5 * 15..221].copy_from_slice(&[1, 7, 8, 9, 10]);
+    image[221..223].copy_from_slice(&[11, 12]);
+    image[235..].copy_from_slice(&[13, 14]);
     assert_eq!(state_image(&state), image);
     assert_eq!(state_of(&image), Some(state));
-    image[144 + 7 * 15] = 2;
+    image[141 + 5 * 15] = 2;
     assert_eq!(state_of(&image), None);
 }
 
@@ -76,6 +76,7 @@ fn a_difference_is_found_made_small_and_printed_as_bytes() {
         generated: 20_000,
         one_in: 1,
         flips: 0,
+        runs: 0,
         seed: 7,
     };
     let side = Faulty(Fault::Ties);
@@ -93,6 +94,41 @@ fn a_difference_is_found_made_small_and_printed_as_bytes() {
     assert_ne!(case.run(&side), case.run(&Second));
     // Two kinds are enough for a tie.
     assert_eq!(case.given[2], 2, "{text}");
+}
+
+#[test]
+fn the_old_rules_alone_find_what_a_run_can_show() {
+    let part = Part {
+        fixed: false,
+        generated: 0,
+        one_in: 1,
+        flips: 0,
+        runs: 40,
+        seed: 7,
+    };
+    let found = |fault| records(&Faulty(fault), part, &mut Tally::default()).is_some();
+    for fault in [
+        Fault::GoneUnheld,
+        Fault::GoneHeldAtD,
+        Fault::GoneNever,
+        Fault::ReleaseKeepsGone,
+        Fault::RankByGone,
+        Fault::RankOthersGone,
+        Fault::SliceUnwrapped,
+        Fault::FormAtT,
+        Fault::ExactlyT,
+        Fault::Early,
+        Fault::Ties,
+        Fault::Eleven,
+        Fault::FifteenFirst,
+        Fault::ServesNone,
+    ] {
+        assert!(found(fault), "{fault:?}");
+    }
+    // What no fresh start reaches no run shows.
+    for fault in [Fault::Faultless, Fault::FormLate, Fault::FormSliceF] {
+        assert!(!found(fault), "{fault:?}");
+    }
 }
 
 #[test]

@@ -4,7 +4,7 @@ use crate::streams::flip;
 use crate::{release_bytes, spare_bits, Stream, SLICE};
 use second::bytes::pack;
 use second::plan::{Kind, Plan, Project};
-use second::rack::{KindState, State, LAST_CLOCK};
+use second::rack::{KindState, State};
 use second::smallest_budget;
 
 /// Plans at both ends of m, p, n, F, q, B, T, D and C; some are admitted, others are refused by 7 or 8.
@@ -677,7 +677,8 @@ pub fn fixed_open_budgets() -> Vec<(Plan, u64)> {
     open
 }
 
-/// State records in form and out of form in each way at each place, at both ends of the clock, with the sums of what is left.
+/// State records in form and out of form in each way at each place, at both ends of the frame and behind it, with the sums of what is
+/// left.
 pub fn fixed_state_records() -> Vec<State> {
     let mut states = Vec::new();
     let mut refused = Plan::a();
@@ -690,41 +691,60 @@ pub fn fixed_state_records() -> Vec<State> {
         refused,
         Plan::default(),
     ] {
-        for clock in [
-            0,
-            1,
-            7,
-            100,
-            5000,
-            LAST_CLOCK - 1,
-            LAST_CLOCK,
-            LAST_CLOCK + 1,
-            u32::MAX,
-        ] {
+        let frame = plan.frame;
+        for slice in [frame, frame + 1, 255] {
+            let beyond = State {
+                plan,
+                slice,
+                ..State::default()
+            };
+            states.push(beyond);
+            for place in 0..16 {
+                let mut state = beyond;
+                state.kinds[place] = KindState {
+                    released: true,
+                    gone: 0,
+                    left: plan.kinds[place].length,
+                };
+                states.push(state.summed());
+            }
+        }
+        for slice in [0, 1, frame.saturating_sub(1)] {
             let base = State {
                 plan,
-                clock,
+                slice,
                 ..State::default()
             };
             states.push(base);
             for place in 0..16 {
-                let c = plan.kinds[place].length;
-                let t = u32::from(plan.kinds[place].separation);
-                for (released, at, left) in [
+                let kind = plan.kinds[place];
+                let (t, d, c) = (kind.separation, kind.deadline, kind.length);
+                for (released, gone, left) in [
                     (false, 1, 0),
+                    (false, t, 0),
                     (false, 0, 1),
                     (true, 0, 0),
-                    (true, clock, c),
-                    (true, clock, c.saturating_add(1)),
-                    (true, clock.saturating_add(1), 0),
-                    (true, u32::MAX, u16::MAX),
-                    (true, clock.saturating_sub(t), 0),
-                    (true, clock.saturating_sub(t), 1),
-                    (true, clock.saturating_sub(t).saturating_add(1), 0),
-                    (true, clock.saturating_sub(t).saturating_add(1), 1),
+                    (true, 0, c),
+                    (true, 0, c + 1),
+                    (true, d.saturating_sub(1), c),
+                    (true, d, 1),
+                    (true, d, 0),
+                    (true, d + 1, 1),
+                    (true, t.saturating_sub(1), 0),
+                    (true, t.saturating_sub(1), 1),
+                    (true, t, 0),
+                    (true, t, 1),
+                    (true, t + 1, 0),
+                    (true, t + 1, 1),
+                    (true, u16::MAX, 0),
+                    (true, u16::MAX, u16::MAX),
                 ] {
                     let mut state = base;
-                    state.kinds[place] = KindState { released, at, left };
+                    state.kinds[place] = KindState {
+                        released,
+                        gone,
+                        left,
+                    };
                     states.push(state.summed());
                 }
             }
@@ -738,10 +758,10 @@ pub fn fixed_state_records() -> Vec<State> {
 pub fn fixed_sums() -> Vec<State> {
     let mut states = Vec::new();
     for p in [1, 2, 7, 8] {
-        for clock in [50, LAST_CLOCK, LAST_CLOCK + 1] {
+        for slice in [0, wide_plan(p).frame - 1, wide_plan(p).frame] {
             let mut state = State {
                 plan: wide_plan(p),
-                clock,
+                slice,
                 ..State::default()
             };
             // Fifteen kinds of length 1, and one that is longer: kind 3 has a unit of 4 of its 5 slices left.
@@ -749,7 +769,7 @@ pub fn fixed_sums() -> Vec<State> {
             for (i, place) in state.kinds.iter_mut().enumerate() {
                 *place = KindState {
                     released: i % 4 > 0,
-                    at: if i % 4 > 0 { clock - 5 } else { 0 },
+                    gone: if i % 4 > 0 { 5 } else { 0 },
                     left: [0, 1, 1, 0][i % 4],
                 };
             }
@@ -809,12 +829,12 @@ pub fn fixed_sums() -> Vec<State> {
     let plan = Plan::of(8, 64, &[(8, 512)], &[(0, 4095, 4095, 4095); 16]);
     let mut state = State {
         plan,
-        clock: 9,
+        slice: 9,
         ..State::default()
     };
     state.kinds = [KindState {
         released: true,
-        at: 8,
+        gone: 1,
         left: 4095,
     }; 16];
     state.sums[0] = 65520;

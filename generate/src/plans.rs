@@ -3,7 +3,7 @@
 use crate::Generator;
 use second::layout::h;
 use second::plan::{
-    Kind, Plan, Project, MOST_CARDS, MOST_FRAME, MOST_KINDS, MOST_PROJECTS, MOST_SEPARATION,
+    check, Kind, Plan, Project, MOST_CARDS, MOST_FRAME, MOST_KINDS, MOST_PROJECTS, MOST_SEPARATION,
 };
 use second::verdict::{ceiling_of, verdict, workload};
 
@@ -94,6 +94,32 @@ impl Generator {
             }
         }
         Plan::of(1, 1, &[(1, 1)], &[(0, 1, 1, 1)])
+    }
+
+    /// A plan that the verdict admits, with separations to the end of their range, long ones beside short ones.
+    pub fn long_plan(&mut self) -> Plan {
+        for _ in 0..50 {
+            let mut plan = self.plan_of_load(8);
+            plan.frame = plan.frame.min(16);
+            for place in &mut plan.projects {
+                place.budget = place
+                    .budget
+                    .min(u16::from(place.ceiling) * u16::from(plan.frame));
+            }
+            let n = usize::from(plan.n);
+            for kind in &mut plan.kinds[..n] {
+                if self.one_in(2) {
+                    kind.separation = self.towards_ends(1000, MOST_SEPARATION) as u16;
+                    if self.one_in(2) {
+                        kind.deadline = self.towards_ends(u64::from(kind.length), 600) as u16;
+                    }
+                }
+            }
+            if check(&plan).is_good() && self.lighten(&mut plan) {
+                return plan;
+            }
+        }
+        Plan::of(1, 1, &[(1, 1)], &[(0, 4095, 1, 1)])
     }
 
     /// Eases the kind that the verdict names, or another of its project, until the plan is admitted.

@@ -3,7 +3,7 @@
 use crate::Generator;
 use second::bytes::plan_bytes;
 use second::plan::{Plan, MOST_KINDS, MOST_PROJECTS};
-use second::rack::{fresh, KindState, State, LAST_CLOCK};
+use second::rack::{fresh, KindState, State};
 
 impl Generator {
     /// A plan record: admitted, good, just refused, with one to three fields spoiled, or of any fields.
@@ -29,43 +29,37 @@ impl Generator {
 
     /// A state "in form" on this plan, its sums those of what is left; most not reachable from a fresh start.
     pub fn state_in_form(&mut self, plan: &Plan) -> State {
-        let last = u64::from(LAST_CLOCK);
-        let clock = match self.below(8) {
-            0 => 0,
-            1 => last,
-            2 => last - 1,
-            3 => self.between(0, last),
-            4 => last - self.below(5000),
-            _ => self.below(10_000),
-        };
+        let last = u64::from(plan.frame).saturating_sub(1);
         let mut state = State {
             plan: *plan,
-            clock: clock as u32,
+            slice: self.towards_ends(0, last) as u8,
             ..State::default()
         };
         for (kind, place) in plan.used_kinds().iter().zip(&mut state.kinds) {
             if self.one_in(4) {
                 continue;
             }
-            let t = u64::from(kind.separation);
-            let ago = match self.below(8) {
+            let (t, d) = (u64::from(kind.separation), u64::from(kind.deadline));
+            let gone = match self.below(8) {
                 0 => 0,
                 1 => t,
                 2 => t.saturating_sub(1),
-                3 => t + 1,
-                4 => u64::from(kind.deadline),
-                5 => self.below(clock + 1),
-                _ => self.below(2 * t + 2),
-            };
+                3 => d.saturating_sub(1),
+                4 => d,
+                5 => self.below(3),
+                _ => self.below(t + 1),
+            }
+            .min(t);
             let c = u64::from(kind.length);
             let left = match self.below(4) {
+                _ if gone >= d => 0,
                 0 => 0,
                 1 => c,
                 _ => self.between(0, c),
             };
             *place = KindState {
                 released: true,
-                at: clock.saturating_sub(ago) as u32,
+                gone: gone as u16,
                 left: left as u16,
             };
         }
@@ -82,7 +76,7 @@ impl Generator {
         self.run(state, count).1
     }
 
-    /// One step out of form: the clock, a kind never released, a release clock, what is left, a place beyond n, or a sum beyond p; or
+    /// One step out of form: the slice, a kind never released, what is gone, what is left, a place beyond n, or a sum beyond p; or
     /// in form with a sum that differs. The sums go with what is left, or do not.
     fn spoil_state(&mut self, state: &mut State) {
         self.spoil_kinds(state);
@@ -129,22 +123,32 @@ impl Generator {
     fn spoil_kinds(&mut self, state: &mut State) {
         let used = u64::from(state.plan.n).clamp(1, MOST_KINDS);
         let i = self.below(used) as usize;
-        let c = u64::from(state.plan.kinds[i].length);
-        match self.below(6) {
+        let kind = state.plan.kinds[i];
+        let (t, c) = (u64::from(kind.separation), u64::from(kind.length));
+        match self.below(7) {
             0 => {
-                state.clock = self.one_of(&[u64::from(LAST_CLOCK) + 1, u64::from(u32::MAX)]) as u32
+                let frame = u64::from(state.plan.frame);
+                state.slice = self.one_of(&[frame, frame + 1, 255]).min(255) as u8
             }
             1 => {
                 state.kinds[i] = KindState {
                     released: false,
-                    at: self.below(3) as u32,
+                    gone: self.one_of(&[0, 1, 2, t]) as u16,
                     left: self.below(3) as u16,
                 }
             }
             2 => {
-                let late = u64::from(state.clock) + self.between(1, 2);
                 state.kinds[i].released = true;
-                state.kinds[i].at = late.min(u64::from(u32::MAX)) as u32;
+                state.kinds[i].gone = self.one_of(&[t + 1, t + 2, 4096, 65535]).min(65535) as u16;
+            }
+            // Work left, with D slices gone, one more or one less.
+            6 => {
+                let gone = self.one_of(&[0, 1, 2]) + u64::from(kind.deadline);
+                state.kinds[i] = KindState {
+                    released: true,
+                    gone: gone.saturating_sub(1).min(65535) as u16,
+                    left: self.between(1, c.max(1)) as u16,
+                }
             }
             3 => {
                 state.kinds[i].released = true;
@@ -155,7 +159,7 @@ impl Generator {
                 let beyond = &mut state.kinds[self.between(used, MOST_KINDS).min(15) as usize];
                 match self.below(3) {
                     0 => beyond.released = !beyond.released,
-                    1 => beyond.at = self.between(0, 2) as u32,
+                    1 => beyond.gone = self.between(0, 2) as u16,
                     _ => beyond.left = self.between(0, 2) as u16,
                 }
             }
@@ -194,13 +198,13 @@ impl Generator {
             _ => {
                 let mut state = State {
                     plan,
-                    clock: self.number() as u32,
+                    slice: self.number() as u8,
                     ..State::default()
                 };
                 for place in &mut state.kinds {
                     *place = KindState {
                         released: self.one_in(2),
-                        at: self.number() as u32,
+                        gone: self.number() as u16,
                         left: self.number() as u16,
                     };
                 }

@@ -5,13 +5,12 @@ use second::bytes::{pack, plan_bytes};
 use second::plan::{check, Plan, MOST_CARDS};
 use second::rack::{fresh, in_form, release, slice, State};
 
-/// The kinds that a release would be accepted for now: never released, or T slices ago and none left.
+/// The kinds that a release would be accepted for now: never released, or T slices ago.
 fn due(state: &State) -> Vec<u64> {
     let mut due = Vec::new();
     for (i, kind) in state.plan.used_kinds().iter().enumerate() {
         let place = state.kinds[i];
-        let ago = state.clock.saturating_sub(place.at);
-        if !place.released || (ago >= u32::from(kind.separation) && place.left == 0) {
+        if !place.released || place.gone >= kind.separation {
             due.push(i as u64);
         }
     }
@@ -83,9 +82,9 @@ impl Generator {
                 14 => {
                     let place = state.kinds[kind as usize];
                     let t = u64::from(state.plan.kinds[kind as usize].separation);
-                    let ago = u64::from(state.clock) - u64::from(place.at);
-                    if place.released && ago < t && t - ago <= 40 {
-                        for _ in 0..t - ago - 1 {
+                    let gone = u64::from(place.gone);
+                    if place.released && gone < t && t - gone <= 40 {
+                        for _ in 0..t - gone - 1 {
                             step_slice(&mut state, &mut bytes);
                         }
                         step_release(&mut state, kind, c, &mut bytes);
@@ -101,6 +100,31 @@ impl Generator {
             }
         }
         (bytes, state)
+    }
+
+    /// So many slices played from this state, of a rack that waits for its units: each kind is released when it may be or some time
+    /// after, and asked for one slice too early or at any other time as well.
+    pub fn patient_run(&mut self, state: State, slices: u64) -> Vec<u8> {
+        let mut bytes = Vec::new();
+        let mut state = state;
+        for _ in 0..slices {
+            for kind in 0..u64::from(state.plan.n) {
+                let place = state.kinds[kind as usize];
+                let of_plan = state.plan.kinds[kind as usize];
+                let waits = match of_plan.separation.saturating_sub(place.gone) {
+                    // Long after T what is gone is still T.
+                    0 => self.one_in(1 + u64::from(of_plan.separation) / 4),
+                    1 => self.one_in(2),
+                    _ => self.one_in(400),
+                };
+                if waits || !place.released && self.one_in(30) {
+                    let e = self.towards_ends(1, u64::from(of_plan.length));
+                    step_release(&mut state, kind, e, &mut bytes);
+                }
+            }
+            step_slice(&mut state, &mut bytes);
+        }
+        bytes
     }
 
     /// What may follow good commands: nothing, one or two bytes, a bad command and more, arbitrary bytes.
@@ -158,8 +182,24 @@ impl Generator {
         }
     }
 
+    /// A stream over thousands of slices on a plan with long separations.
+    fn patient_stream(&mut self) -> Stream {
+        let plan = self.long_plan();
+        let slices = self.between(1_000, 6_000);
+        let mut bytes = pack(&plan);
+        bytes.extend(self.patient_run(fresh(&plan).1, slices));
+        bytes.extend(self.tail());
+        Stream {
+            name: "far apart".to_string(),
+            bytes,
+        }
+    }
+
     /// One input for the player: most on admitted plans with long mixed commands, the rest refused in every way.
     pub fn stream(&mut self) -> Stream {
+        if self.one_in(120) {
+            return self.patient_stream();
+        }
         match self.below(20) {
             0..=9 => {
                 let plan = self.admitted_plan();
@@ -244,10 +284,10 @@ impl Generator {
     }
 }
 
-/// Plan A and so many slices, each kind released at its length as soon as it is due.
-pub fn long_stream(slices: u64) -> Vec<u8> {
-    let mut bytes = pack(&Plan::a());
-    let (_, mut state) = fresh(&Plan::a());
+/// A plan and so many slices, each kind released at its length as soon as it is due.
+pub fn long_stream(plan: &Plan, slices: u64) -> Vec<u8> {
+    let mut bytes = pack(plan);
+    let (_, mut state) = fresh(plan);
     for _ in 0..slices {
         for kind in due(&state) {
             let c = u64::from(state.plan.kinds[kind as usize].length);

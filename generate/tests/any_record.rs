@@ -3,7 +3,7 @@
 use generate::{
     fixed_damage, fixed_plan_records, fixed_state_records, fixed_streams, fixed_sums, Generator,
 };
-use second::rack::{in_form, LAST_CLOCK};
+use second::rack::in_form;
 use second::*;
 
 /// Fewer runs where the program is built without speed.
@@ -110,25 +110,20 @@ fn lent_rules(order: Answer, needed: usize, told: Answer, count: usize, lent: &[
     assert_eq!(lent[count..], after[count..]);
 }
 
-/// "ranked by release clock plus D, then by lower kind number; the first h of them take that project's cards in ascending card order".
+/// "Ranking is by slices left until the deadline, with the same tie rule"; "the first h of them take that project's cards in ascending
+/// card order".
 fn row_rules(state: &State, row: &[u8]) {
     let plan = &state.plan;
     let frame = usize::from(plan.frame);
     let mut table = vec![0; usize::from(plan.m) * frame];
     assert_eq!(slot_table(plan, &mut table).0, Answer::GOOD);
-    let rank = |i: usize| {
-        (
-            u64::from(state.kinds[i].at) + u64::from(plan.kinds[i].deadline),
-            i,
-        )
-    };
+    let now = usize::from(state.slice);
+    let rank = |i: usize| (plan.kinds[i].deadline - state.kinds[i].gone, i);
     let mut idle_or_free = row.iter().filter(|&&byte| byte == 0).count();
     for project in 0..usize::from(plan.p) {
         // The project's cards at this slice, read off the slot table card by card.
         let cards: Vec<usize> = (0..usize::from(plan.m))
-            .filter(|card| {
-                usize::from(table[card * frame + state.clock as usize % frame]) == project + 1
-            })
+            .filter(|card| usize::from(table[card * frame + now]) == project + 1)
             .collect();
         let mut waiting: Vec<usize> = (0..usize::from(plan.n))
             .filter(|&i| usize::from(plan.kinds[i].project) == project && state.kinds[i].left > 0)
@@ -146,7 +141,7 @@ fn row_rules(state: &State, row: &[u8]) {
     }
     // The other zeros are free cells.
     let free = (0..usize::from(plan.m))
-        .filter(|card| table[card * frame + state.clock as usize % frame] == 0)
+        .filter(|card| table[card * frame + now] == 0)
         .count();
     assert_eq!(idle_or_free, free);
 }
@@ -170,6 +165,11 @@ fn any_state_record_is_answered() {
         let (kind, e) = generator.release_numbers(&state);
         let (told, next) = release(&state, kind, e);
         well_made(told, &plan);
+        // "11 and 15 are retired"; a kind with work left is refused by 14 at the latest.
+        assert!(![11, 15].contains(&told.number));
+        if let Some(place) = state.kinds.get(kind as usize) {
+            assert!(place.left == 0 || !told.is_good());
+        }
         if !order.is_good() {
             assert_eq!(told, order);
         }
@@ -177,7 +177,7 @@ fn any_state_record_is_answered() {
         if told.is_good() {
             expected.kinds[kind as usize] = KindState {
                 released: true,
-                at: state.clock,
+                gone: 0,
                 left: e as u16,
             };
             assert!(in_form(&next));
@@ -196,13 +196,12 @@ fn any_state_record_is_answered() {
         let told = show(&state, &mut buffer);
         let (advanced, next) = advance(&state);
         well_made(told, &plan);
+        assert!(![told.number, advanced.number].contains(&11));
         if !order.is_good() {
             assert_eq!(told, order);
         }
-        // "advancing drops 9": 11 at the clock's end, else good.
-        let at_the_end = order.is_good() && state.clock == LAST_CLOCK;
+        // "advancing drops 9".
         match told.number {
-            9 if at_the_end => assert_eq!(advanced, refused(11, 0)),
             9 => assert_eq!(advanced, Answer::GOOD),
             _ => assert_eq!(advanced, told),
         }
@@ -210,16 +209,26 @@ fn any_state_record_is_answered() {
             let m = usize::from(plan.m);
             assert_eq!(buffer[m..], lent[m..]);
             let mut expected = State {
-                clock: state.clock + 1,
+                slice: if state.slice + 1 < plan.frame {
+                    state.slice + 1
+                } else {
+                    0
+                },
                 ..state
             };
+            for (place, kind) in expected.kinds.iter_mut().zip(plan.used_kinds()) {
+                place.gone = (place.gone + u16::from(place.released)).min(kind.separation);
+            }
             for byte in &buffer[..m] {
                 if *byte > 0 {
                     expected.kinds[usize::from(*byte) - 1].left -= 1;
                 }
             }
             assert_eq!(next, expected.summed());
-            assert!(in_form(&next));
+            // Out of form only where a unit is late, and so on no plan that is admitted and from its fresh start.
+            let late = (0..usize::from(plan.n))
+                .any(|i| next.kinds[i].left > 0 && next.kinds[i].gone >= plan.kinds[i].deadline);
+            assert_eq!(in_form(&next), !late);
             row_rules(&state, &buffer[..m]);
         } else {
             assert_eq!(buffer, lent);

@@ -15,7 +15,7 @@ const RUNS: u64 = if cfg!(debug_assertions) { 60 } else { 1000 };
 enum Manner {
     /// Every kind at full length as soon as it may be, all together.
     Together,
-    /// The same, each kind beginning at a clock of its own.
+    /// The same, each kind beginning in a slice of its own.
     Shifted,
     /// Any length, and some slices later than it may be.
     Lagging,
@@ -29,7 +29,7 @@ struct Seen {
     full_windows: u64,
 }
 
-/// One unit accepted: kind, clock of the release, length.
+/// One unit accepted: kind, slices run before the release, length.
 type Unit = (usize, u32, u64);
 
 /// Plays from the given state and checks every row, every window and, if told so, every deadline.
@@ -55,7 +55,7 @@ fn run(
             _ => generator.below(u64::from(kind.separation) + 1).min(40) as u32,
         })
         .collect();
-    let offset = start.clock + generator.below(frame as u64) as u32;
+    let offset = generator.below(frame as u64) as u32;
 
     let mut state = start;
     let mut units: Vec<Unit> = Vec::new();
@@ -63,11 +63,20 @@ fn run(
     let mut served: Vec<Vec<u64>> = vec![Vec::new(); projects.len()];
     let mut enough: Vec<Vec<bool>> = vec![Vec::new(); projects.len()];
 
-    for _ in 0..slices {
+    for clock in 0..slices {
+        if !in_time {
+            // A unit that is late is out of form; it is given up.
+            for (place, kind) in state.kinds.iter_mut().zip(plan.used_kinds()) {
+                if place.gone >= kind.deadline {
+                    place.left = 0;
+                }
+            }
+            state = state.summed();
+        }
         for (i, kind) in plan.used_kinds().iter().enumerate() {
             let place = state.kinds[i];
-            let due = !place.released || state.clock - place.at >= u32::from(kind.separation);
-            if !due || state.clock < offset + begin[i] || (!in_time && place.left > 0) {
+            let due = !place.released || place.gone >= kind.separation;
+            if !due || clock < offset + begin[i] {
                 continue;
             }
             let c = u64::from(kind.length);
@@ -79,13 +88,16 @@ fn run(
             let (answer, next) = release(&state, i as u64, e);
             assert_eq!(answer, Answer::GOOD, "a due release");
             state = next;
-            units.push((i, state.clock, e));
+            units.push((i, clock, e));
         }
 
         let mut row = vec![0; usize::from(plan.m)];
         let (answer, next) = slice(&state, &mut row);
         assert_eq!(answer, Answer::GOOD);
-        assert_eq!(next.clock, state.clock + 1);
+        assert_eq!(
+            usize::from(next.slice),
+            (usize::from(state.slice) + 1) % frame
+        );
 
         let chosen: Vec<usize> = row
             .iter()
@@ -100,7 +112,7 @@ fn run(
                 .filter(|&i| of_project(i) && state.kinds[i].left > 0)
                 .count() as u64;
             let count = chosen.iter().filter(|&&i| of_project(i)).count() as u64;
-            let here = held[project][state.clock as usize % frame];
+            let here = held[project][usize::from(state.slice)];
             assert_eq!(
                 count,
                 busy.min(here),
@@ -112,10 +124,7 @@ fn run(
         rows.push(row);
         state = next;
         for (i, kind) in plan.used_kinds().iter().enumerate() {
-            if in_time
-                && state.kinds[i].released
-                && state.clock - state.kinds[i].at >= u32::from(kind.deadline)
-            {
+            if in_time && state.kinds[i].released && state.kinds[i].gone >= kind.deadline {
                 assert_eq!(
                     state.kinds[i].left, 0,
                     "kind {i} late in {plan:?}, {manner:?}"
@@ -125,7 +134,7 @@ fn run(
     }
 
     for &(i, at, e) in units.iter().filter(|_| in_time) {
-        let from = (at - start.clock) as usize;
+        let from = at as usize;
         let to = from + usize::from(plan.kinds[i].deadline);
         if to <= rows.len() {
             let count = rows[from..to]
@@ -220,11 +229,7 @@ fn a_busy_project_gets_its_budget_on_any_plan() {
     let mut seen = Seen::default();
     for _ in 0..RUNS / 2 {
         let plan = generator.good_plan();
-        let mut state = generator.state_in_form(&plan);
-        state.clock = state.clock.min(rack::LAST_CLOCK - 1000);
-        for place in &mut state.kinds {
-            place.at = place.at.min(state.clock);
-        }
+        let state = generator.state_in_form(&plan);
         run(
             state,
             Manner::Together,
@@ -240,47 +245,28 @@ fn a_busy_project_gets_its_budget_on_any_plan() {
 
 /// Every state that any legal releases can reach, on a small admitted plan: none is late.
 ///
-/// A kind never released, or released long ago, is as one released exactly T slices ago with none
-/// left; so the states are finite when clocks are counted back from now.
+/// A kind never released is as one released T slices ago or more with none left; so the states are few.
 fn sweep(plan: &Plan) -> usize {
     let (answer, start) = fresh(plan);
     assert_eq!(answer, Answer::GOOD);
-    // Any clock far enough from 0, the same in the frame.
-    let rebased = |state: &State| -> State {
-        let frame = u32::from(plan.frame);
-        let clock = 16 * frame + state.clock % frame;
-        let mut based = State {
-            plan: *plan,
-            clock,
-            sums: state.sums,
-            ..State::default()
+    let mut start = start;
+    for (i, kind) in plan.used_kinds().iter().enumerate() {
+        start.kinds[i] = KindState {
+            released: true,
+            gone: kind.separation,
+            left: 0,
         };
-        for (i, kind) in plan.used_kinds().iter().enumerate() {
-            let place = state.kinds[i];
-            let t = u32::from(kind.separation);
-            let ago = if place.released {
-                (state.clock - place.at).min(t)
-            } else {
-                t
-            };
-            based.kinds[i] = KindState {
-                released: true,
-                at: clock - ago,
-                left: place.left,
-            };
-        }
-        based
-    };
+    }
     let mut known: HashSet<State> = HashSet::new();
-    let mut open = vec![rebased(&start)];
+    let mut open = vec![start];
     while let Some(state) = open.pop() {
         if !known.insert(state) {
             continue;
         }
         for (i, kind) in plan.used_kinds().iter().enumerate() {
-            let ago = state.clock - state.kinds[i].at;
+            let gone = state.kinds[i].gone;
             assert!(
-                ago < u32::from(kind.deadline) || state.kinds[i].left == 0,
+                gone < kind.deadline || state.kinds[i].left == 0,
                 "kind {i} late in {plan:?}"
             );
         }
@@ -298,7 +284,7 @@ fn sweep(plan: &Plan) -> usize {
         let mut row = [0; 8];
         let (answer, next) = slice(&state, &mut row);
         assert_eq!(answer, Answer::GOOD);
-        open.push(rebased(&next));
+        open.push(next);
     }
     known.len()
 }

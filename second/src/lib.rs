@@ -8,6 +8,7 @@
 // Sums are written as 01 writes them, over x = 0..t-1.
 #![allow(clippy::needless_range_loop)]
 
+pub mod absolute_clock;
 pub mod answer;
 pub mod bytes;
 pub mod figures;
@@ -27,7 +28,7 @@ pub use figures::{figures, Figures};
 pub use layout::slot_table;
 pub use one_kind::build;
 pub use plan::{check, Kind, Plan, Project};
-pub use play::play;
+pub use play::{play, play_by_absolute_clock};
 pub use rack::{advance, fresh, release, show, slice, KindState, State};
 pub use rescue::rescue;
 pub use smallest::smallest_budget;

@@ -1,9 +1,65 @@
-//! "The player": a plan, then commands of three bytes, one line each.
+//! "The player": a plan, then commands of three bytes, one line each; by the rules, and by the old ones.
 
 use std::io::{self, BufRead, BufReader, BufWriter, Read, Write};
 
+use crate::answer::Answer;
 use crate::bytes::{bytes_asked_for, read};
-use crate::rack::{advance, fresh, release, show};
+use crate::plan::Plan;
+use crate::{absolute_clock, rack};
+
+/// What a player asks of a running state.
+trait Running: Sized {
+    fn fresh(plan: &Plan) -> (Answer, Self);
+    fn release(&self, kind: u64, e: u64) -> (Answer, Self);
+    fn show(&self, row: &mut [u8]) -> Answer;
+    fn advance(&self) -> (Answer, Self);
+    fn clock(&self) -> u64;
+}
+
+impl Running for rack::State {
+    fn fresh(plan: &Plan) -> (Answer, Self) {
+        rack::fresh(plan)
+    }
+
+    fn release(&self, kind: u64, e: u64) -> (Answer, Self) {
+        rack::release(self, kind, e)
+    }
+
+    fn show(&self, row: &mut [u8]) -> Answer {
+        rack::show(self, row)
+    }
+
+    fn advance(&self) -> (Answer, Self) {
+        rack::advance(self)
+    }
+
+    /// "`play` prints that slice as its clock, in `end` too."
+    fn clock(&self) -> u64 {
+        u64::from(self.slice)
+    }
+}
+
+impl Running for absolute_clock::State {
+    fn fresh(plan: &Plan) -> (Answer, Self) {
+        absolute_clock::fresh(plan)
+    }
+
+    fn release(&self, kind: u64, e: u64) -> (Answer, Self) {
+        absolute_clock::release(self, kind, e)
+    }
+
+    fn show(&self, row: &mut [u8]) -> Answer {
+        absolute_clock::show(self, row)
+    }
+
+    fn advance(&self) -> (Answer, Self) {
+        absolute_clock::advance(self)
+    }
+
+    fn clock(&self) -> u64 {
+        u64::from(self.clock)
+    }
+}
 
 /// "commands of three bytes: 1 bit (0 slice, 1 release), kind 4 bits, e 12 bits, 7 zero bits".
 #[derive(Clone, Copy, Debug, PartialEq, Eq)]
@@ -42,14 +98,23 @@ pub fn command(bytes: &[u8]) -> Command {
 
 /// "Program `play` reads a plan from standard input, then commands of three bytes".
 pub fn play(input: impl Read, output: impl Write) {
+    play_by::<rack::State>(input, output);
+}
+
+/// The same by the old rules: each clock is the absolute one.
+pub fn play_by_absolute_clock(input: impl Read, output: impl Write) {
+    play_by::<absolute_clock::State>(input, output);
+}
+
+fn play_by<State: Running>(input: impl Read, output: impl Write) {
     let mut input = BufReader::new(input);
     let mut output = BufWriter::new(output);
     // A failed read or a closed output ends the play quietly.
-    let _ = play_lines(&mut input, &mut output);
+    let _ = play_lines::<State, _, _>(&mut input, &mut output);
     let _ = output.flush();
 }
 
-fn play_lines<R: Read, W: Write>(
+fn play_lines<State: Running, R: Read, W: Write>(
     input: &mut BufReader<R>,
     output: &mut BufWriter<W>,
 ) -> io::Result<()> {
@@ -69,7 +134,7 @@ fn play_lines<R: Read, W: Write>(
     if !answer.is_good() {
         return writeln!(output, "plan refused {} at {}", answer.number, answer.place);
     }
-    let (answer, mut state) = fresh(&plan);
+    let (answer, mut state) = State::fresh(&plan);
     if !answer.is_good() {
         return writeln!(output, "plan refused {} at {}", answer.number, answer.place);
     }
@@ -83,7 +148,7 @@ fn play_lines<R: Read, W: Write>(
         match command(&bytes) {
             // "A release prints `r KIND E ok` or `r KIND E refused N`".
             Command::Release { kind, e } => {
-                let (answer, next) = release(&state, kind, e);
+                let (answer, next) = state.release(kind, e);
                 state = next;
                 if answer.is_good() {
                     writeln!(output, "r {kind} {e} ok")?;
@@ -94,15 +159,15 @@ fn play_lines<R: Read, W: Write>(
             // "a slice prints `t CLOCK:` with the clock before it and the row's bytes, or `t refused N`".
             Command::Slice => {
                 // "`play` and every other caller use the pair."
-                let mut row = vec![0; usize::from(state.plan.m)];
-                let answer = show(&state, &mut row);
+                let mut row = vec![0; usize::from(plan.m)];
+                let answer = state.show(&mut row);
                 if answer.is_good() {
-                    write!(output, "t {}:", state.clock)?;
+                    write!(output, "t {}:", state.clock())?;
                     for byte in row {
                         write!(output, " {byte}")?;
                     }
                     writeln!(output)?;
-                    state = advance(&state).1;
+                    state = state.advance().1;
                 } else {
                     writeln!(output, "t refused {}", answer.number)?;
                 }
@@ -115,7 +180,7 @@ fn play_lines<R: Read, W: Write>(
         }
     }
     // "Last line after a good plan, also then: `end CLOCK`."
-    writeln!(output, "end {}", state.clock)
+    writeln!(output, "end {}", state.clock())
 }
 
 /// The next `wanted` bytes, or fewer when the input ends; lines already known are shown before waiting for more.

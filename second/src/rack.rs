@@ -1,58 +1,62 @@
 //! "Running": the state, the fresh start, the release, and the slice as document 02's request (iv) splits it; with "the row of
-//! sums" that request (vii) keeps.
+//! sums" that request (vii) keeps, and without the clock that request (ix) replaces. Its old form is `absolute_clock`.
 
 use crate::answer::Answer;
 use crate::layout::{cards_held, cells};
 use crate::plan::{check, Plan};
 use crate::verdict::verdict;
 
-/// "a clock (0..1,000,000,000)".
-pub const LAST_CLOCK: u32 = 1_000_000_000;
-
-/// "for each kind: whether ever released, the clock at its last accepted release, and slices left".
+/// "for each kind: whether ever released, the clock at its last accepted release, and slices left", "each release clock [replaced]
+/// by the slices gone since then, held at T".
 #[derive(Clone, Copy, Debug, Default, PartialEq, Eq, Hash)]
 pub struct KindState {
     /// "whether ever released".
     pub released: bool,
-    /// "the clock at its last accepted release".
-    pub at: u32,
+    /// "the slices gone since then, held at T".
+    pub gone: u16,
     /// "slices left".
     pub left: u16,
 }
 
-/// "The state holds the plan, a clock (0..1,000,000,000) and for each kind".
+/// "The state holds the plan, a clock (0..1,000,000,000) and for each kind"; the clock: "Replace it by the slice within the frame".
 #[derive(Clone, Copy, Debug, Default, PartialEq, Eq, Hash)]
 pub struct State {
     /// "The state holds the plan".
     pub plan: Plan,
-    /// "a clock (0..1,000,000,000)".
-    pub clock: u32,
+    /// "the slice within the frame".
+    pub slice: u8,
     /// "and for each kind"; "places beyond n zero".
     pub kinds: [KindState; 16],
     /// "Keep each sum in the state": the stored row, a place for each project.
     pub sums: [u16; 8],
 }
 
-/// "In form: the clock within range; [...] places beyond n zero"; "A sum beyond p that is not zero is 10."
+/// "For form, the slice is below F and slices gone are at most T, 0 if never released, and below D where work is left"; the rest as
+/// it was: "left <= C; places beyond n zero"; "A sum beyond p that is not zero is 10."
 pub fn in_form(state: &State) -> bool {
-    // "the clock within range".
-    if state.clock > LAST_CLOCK {
+    // "the slice is below F".
+    if state.slice >= state.plan.frame {
         return false;
     }
     for (i, kind_state) in state.kinds.iter().enumerate() {
         if i >= usize::from(state.plan.n) {
             // "places beyond n zero".
-            if kind_state.released || kind_state.at != 0 || kind_state.left != 0 {
+            if kind_state.released || kind_state.gone != 0 || kind_state.left != 0 {
                 return false;
             }
         } else if !kind_state.released {
-            // "a kind never released has release clock 0 and left 0".
-            if kind_state.at != 0 || kind_state.left != 0 {
+            // "0 if never released"; "a kind never released has [...] left 0".
+            if kind_state.gone != 0 || kind_state.left != 0 {
                 return false;
             }
         } else {
-            // "else release clock <= clock and left <= C".
-            if kind_state.at > state.clock || kind_state.left > state.plan.kinds[i].length {
+            let kind = state.plan.kinds[i];
+            // "slices gone are at most T"; "left <= C".
+            if kind_state.gone > kind.separation || kind_state.left > kind.length {
+                return false;
+            }
+            // "and below D where work is left".
+            if kind_state.left > 0 && kind_state.gone >= kind.deadline {
                 return false;
             }
         }
@@ -124,7 +128,7 @@ pub fn fresh(plan: &Plan) -> (Answer, State) {
         Answer::GOOD,
         State {
             plan: *plan,
-            clock: 0,
+            slice: 0,
             kinds: [KindState::default(); 16],
             // "set by a fresh start": nothing is left yet.
             sums: [0; 8],
@@ -132,7 +136,7 @@ pub fn fresh(plan: &Plan) -> (Answer, State) {
     )
 }
 
-/// "*Release* of a kind with a length e (1..C) sets that clock and sets left to e."
+/// "*Release* of a kind with a length e (1..C) sets that clock and sets left to e": no slice is gone since then.
 pub fn release(state: &State, kind: u64, e: u64) -> (Answer, State) {
     match release_or_refuse(state, kind, e) {
         Ok(next) => (Answer::GOOD, next),
@@ -142,7 +146,7 @@ pub fn release(state: &State, kind: u64, e: u64) -> (Answer, State) {
 }
 
 fn release_or_refuse(state: &State, kind: u64, e: u64) -> Result<State, Answer> {
-    // "Release: the record order, 10, 12, 13, 14, 15", with 16 after 10.
+    // "Release: the record order, 10, 12, 13, 14, 15", with 16 after 10; "11 and 15 are retired".
     if let Some(answer) = refused_by_the_state(state) {
         return Err(answer);
     }
@@ -156,18 +160,13 @@ fn release_or_refuse(state: &State, kind: u64, e: u64) -> Result<State, Answer> 
         return Err(Answer::refused(13));
     }
     // 14: "released before, and fewer than T slices ago".
-    let ago = u64::from(state.clock) - u64::from(state.kinds[i].at);
-    if state.kinds[i].released && ago < u64::from(state.plan.kinds[i].separation) {
+    if state.kinds[i].released && state.kinds[i].gone < state.plan.kinds[i].separation {
         return Err(Answer::refused(14));
-    }
-    // 15: "slices of an earlier unit are left".
-    if state.kinds[i].left > 0 {
-        return Err(Answer::refused(15));
     }
     let mut next = *state;
     next.kinds[i] = KindState {
         released: true,
-        at: state.clock,
+        gone: 0,
         left: e as u16,
     };
     // "raised by a release".
@@ -175,22 +174,24 @@ fn release_or_refuse(state: &State, kind: u64, e: u64) -> Result<State, Answer> 
     Ok(next)
 }
 
-/// The kinds of a project with slices left, "ranked by release clock plus D, then by lower kind number".
+/// The kinds of a project with slices left: "Ranking is by slices left until the deadline, with the same tie rule", "by lower kind
+/// number".
 pub fn ranked(state: &State, project: usize) -> Vec<usize> {
-    let mut ranked: Vec<(u64, usize)> = Vec::new();
+    let mut ranked: Vec<(i64, usize)> = Vec::new();
     for (i, kind) in state.plan.used_kinds().iter().enumerate() {
         if usize::from(kind.project) == project && state.kinds[i].left > 0 {
-            ranked.push((u64::from(state.kinds[i].at) + u64::from(kind.deadline), i));
+            let until = i64::from(kind.deadline) - i64::from(state.kinds[i].gone);
+            ranked.push((until, i));
         }
     }
     ranked.sort();
     ranked.into_iter().map(|(_, i)| i).collect()
 }
 
-/// "*Slice* looks at clock mod F": each card that is taken at the state's clock, and the kind that takes it.
+/// "*Slice* looks at clock mod F", which the state holds: each card that is taken, and the kind that takes it.
 fn chosen(state: &State) -> Vec<(usize, usize)> {
     let mut chosen = Vec::new();
-    let now = u64::from(state.clock) % u64::from(state.plan.frame);
+    let now = u64::from(state.slice);
     let cells = cells(&state.plan);
     for project in 0..usize::from(state.plan.p) {
         // "the first h of them take that project's cards in ascending card order".
@@ -204,7 +205,7 @@ fn chosen(state: &State) -> Vec<(usize, usize)> {
 
 /// "one shows the row and keeps the state".
 pub fn show(state: &State, buffer: &mut [u8]) -> Answer {
-    // "showing keeps the slice order with 9 and 11": "the record order, 10, 9, 11", with 16 after 10.
+    // "showing keeps the slice order with 9": the record order, 10, 16, 9; 11 is retired.
     if let Some(answer) = refused_by_the_state(state) {
         return answer;
     }
@@ -212,10 +213,6 @@ pub fn show(state: &State, buffer: &mut [u8]) -> Answer {
     let m = usize::from(state.plan.m);
     if buffer.len() < m {
         return Answer::refused(9);
-    }
-    // 11: "clock is 1,000,000,000".
-    if state.clock == LAST_CLOCK {
-        return Answer::refused(11);
     }
     // "The row written has m bytes: kind number plus 1, or 0."
     buffer[..m].fill(0);
@@ -227,13 +224,9 @@ pub fn show(state: &State, buffer: &mut [u8]) -> Answer {
 
 /// "the other advances with no buffer".
 pub fn advance(state: &State) -> (Answer, State) {
-    // "advancing drops 9": the record order, 10, 16, 11.
+    // "advancing drops 9": the record order, 10, 16; 11 is retired.
     if let Some(answer) = refused_by_the_state(state) {
         return (answer, *state);
-    }
-    // 11: "clock is 1,000,000,000".
-    if state.clock == LAST_CLOCK {
-        return (Answer::refused(11), *state);
     }
     let mut next = *state;
     for (_, i) in chosen(state) {
@@ -242,8 +235,14 @@ pub fn advance(state: &State) -> (Answer, State) {
         // "lowered by an advance".
         next.sums[usize::from(state.plan.kinds[i].project)] -= 1;
     }
-    // "the clock rises by one".
-    next.clock += 1;
+    // "the slices gone since then, held at T".
+    for (i, kind) in state.plan.used_kinds().iter().enumerate() {
+        if state.kinds[i].released && state.kinds[i].gone < kind.separation {
+            next.kinds[i].gone += 1;
+        }
+    }
+    // "the clock rises by one", "the slice within the frame".
+    next.slice = (state.slice + 1) % state.plan.frame;
     (Answer::GOOD, next)
 }
 

@@ -10,11 +10,11 @@ fn short_by_one(slice: u64) -> Answer {
     Answer::not_admitted(0, 1, slice)
 }
 
-/// A hand-made start: "the record order, 10, 9, 11" has no 8, so a refused plan runs all the same.
-fn started(plan: &Plan, clock: u32) -> State {
+/// A hand-made start in a slice of the frame: "the record order, 10, 9, 11" has no 8, so a refused plan runs all the same.
+fn started(plan: &Plan, slice: u8) -> State {
     State {
         plan: *plan,
-        clock,
+        slice,
         ..State::default()
     }
 }
@@ -43,9 +43,12 @@ fn supply_is_not_taken_from_the_frames_start_only() {
     assert_eq!(h(&plan, 0), [1, 1, 1, 0]);
     assert_eq!(supply(&plan, 0, 1, 1), 0);
     assert_eq!(verdict(&plan).0, short_by_one(3));
-    // The refusal is right: released at clock 3, the unit is not finished at clock 4.
+    // The refusal is right: released in slice 3, the unit is not finished one slice later.
     let late = sliced(released(started(&plan, 3), 0, 1), 1);
-    assert_eq!((late.clock, late.kinds[0].left), (4, 1));
+    assert_eq!(
+        (late.slice, late.kinds[0].gone, late.kinds[0].left),
+        (0, 1, 1)
+    );
 }
 
 #[test]
@@ -57,7 +60,10 @@ fn supply_is_not_the_budgets_share_of_t() {
     assert_eq!(supply(&plan, 0, 1, t), 0);
     assert_eq!(verdict(&plan).0, short_by_one(2));
     let late = sliced(released(started(&plan, 2), 0, 1), 2);
-    assert_eq!((late.clock, late.kinds[0].left), (4, 1));
+    assert_eq!(
+        (late.slice, late.kinds[0].gone, late.kinds[0].left),
+        (0, 2, 1)
+    );
 }
 
 #[test]
@@ -84,7 +90,10 @@ fn the_cut_off_unit_is_in_w() {
     // Without it both kinds would fit (2 <= 3 and 2 <= 2); released together, kind 0 is late.
     let both = released(released(started(&plan, 0), 0, 2), 1, 2);
     let late = sliced(both, 3);
-    assert_eq!((late.clock, late.kinds[0].left), (3, 1));
+    assert_eq!(
+        (late.slice, late.kinds[0].gone, late.kinds[0].left),
+        (0, 3, 1)
+    );
 }
 
 #[test]
@@ -98,26 +107,27 @@ fn the_kinds_own_work_is_not_in_w() {
 
 #[test]
 fn the_layout_is_the_same_in_each_frame() {
-    // A unit that straddles the seam: released at clock 2, it is served at 2, 4, 5, 6, 8, 9.
+    // A unit that straddles the seam: released after two slices, it is served in slices 2, 4, 5, 6, 8, 9 of all that run.
     let plan = Plan::a();
     let mut state = sliced(fresh(&plan).1, 2);
     state = released(state, 0, 6);
     let mut served = Vec::new();
-    for clock in 2..10 {
+    for count in 2..10u8 {
+        assert_eq!(state.slice, count % 4);
         let mut row = [0; 2];
         let (answer, next) = slice(&state, &mut row);
         assert_eq!(answer, Answer::GOOD);
         if row.contains(&1) {
-            served.push(clock);
+            served.push(count);
         }
         state = next;
     }
     assert_eq!(served, [2, 4, 5, 6, 8, 9]);
-    assert_eq!((state.clock, state.kinds[0].left), (10, 0));
+    assert_eq!((state.slice, state.kinds[0].left), (2, 0));
 
     // Rotated by one slice from frame to frame, four slices across a seam would hold only two of the three.
     let h = h(&plan, 0);
-    let rotated = |clock: usize| h[(clock % 4 + 4 - clock / 4 % 4) % 4];
+    let rotated = |count: usize| h[(count % 4 + 4 - count / 4 % 4) % 4];
     let least = (0..16).map(|a| (a..a + 4).map(rotated).sum::<u64>()).min();
     assert_eq!(least, Some(2));
     assert_eq!(supply(&plan, 0, 1, 4), 3);

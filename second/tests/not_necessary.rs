@@ -4,17 +4,13 @@ use second::*;
 use std::collections::HashSet;
 
 /// What later slices depend on, in a frame of one slice: for each kind what is left, and how long ago it was released, at most T.
-fn outlook(state: &State) -> Vec<(u16, u32)> {
+fn outlook(state: &State) -> Vec<(u16, u16)> {
     let kinds = state.plan.n as usize;
     (0..kinds)
         .map(|i| {
-            let (unit, separation) = (state.kinds[i], state.plan.kinds[i].separation as u32);
-            let ago = if unit.released {
-                state.clock - unit.at
-            } else {
-                separation
-            };
-            (unit.left, ago.min(separation))
+            let (unit, separation) = (state.kinds[i], state.plan.kinds[i].separation);
+            let ago = if unit.released { unit.gone } else { separation };
+            (unit.left, ago)
         })
         .collect()
 }
@@ -38,8 +34,8 @@ fn a_refused_plan_that_no_order_of_releases_makes_late() {
             let (answer, next) = slice(&next, &mut [0; 8]);
             assert_eq!(answer, Answer::GOOD);
             for i in 0..2 {
-                let (unit, deadline) = (next.kinds[i], plan.kinds[i].deadline as u32);
-                let due = unit.released && unit.at + deadline <= next.clock;
+                let (unit, deadline) = (next.kinds[i], plan.kinds[i].deadline);
+                let due = unit.released && unit.gone >= deadline;
                 assert!(!due || unit.left == 0, "kind {i} is late");
             }
             if seen.insert(outlook(&next)) {

@@ -1,10 +1,10 @@
 //! "Let the card host see the row before the slice starts", document 02's request (iv).
 
 use second::layout::{cards_held, cells};
-use second::rack::{a_stored_sum_differs, in_form, ranked, LAST_CLOCK};
+use second::rack::{a_stored_sum_differs, in_form, ranked};
 use second::*;
 
-/// "the old call": document 01's slice, in one piece.
+/// "the old call": document 01's slice, in one piece, on the state that it has now.
 fn old_slice(state: &State, buffer: &mut [u8]) -> (Answer, State) {
     let order = check(&state.plan);
     if !order.is_good() {
@@ -15,7 +15,6 @@ fn old_slice(state: &State, buffer: &mut [u8]) -> (Answer, State) {
         _ if !in_form(state) => 10,
         _ if a_stored_sum_differs(state) => 16,
         _ if buffer.len() < m => 9,
-        _ if state.clock == LAST_CLOCK => 11,
         _ => 0,
     };
     if refused != 0 {
@@ -23,7 +22,7 @@ fn old_slice(state: &State, buffer: &mut [u8]) -> (Answer, State) {
     }
     let mut next = *state;
     buffer[..m].fill(0);
-    let now = u64::from(state.clock) % u64::from(state.plan.frame);
+    let now = u64::from(state.slice);
     for project in 0..usize::from(state.plan.p) {
         let cards = cards_held(&cells(&state.plan), project, now);
         for (card, i) in cards.into_iter().zip(ranked(state, project)) {
@@ -31,12 +30,18 @@ fn old_slice(state: &State, buffer: &mut [u8]) -> (Answer, State) {
             next.kinds[i].left -= 1;
         }
     }
-    next.clock += 1;
+    for (i, kind) in state.plan.used_kinds().iter().enumerate() {
+        let place = &mut next.kinds[i];
+        place.gone = (place.gone + u16::from(place.released)).min(kind.separation);
+    }
+    next.slice = match state.slice + 1 {
+        after if after == state.plan.frame => 0,
+        after => after,
+    };
     (Answer::GOOD, next.summed())
 }
 
-/// States of plan A that runs come to, and the same at the clock's end, out of form, with a sum that differs, and on a plan out
-/// of order.
+/// States of plan A that runs come to, and the same out of form, with a sum that differs, and on a plan out of order.
 fn states() -> Vec<State> {
     let mut states = vec![fresh(&Plan::a()).1];
     for at in 0..40u64 {
@@ -47,15 +52,6 @@ fn states() -> Vec<State> {
         });
     }
     for state in states.clone() {
-        let late = LAST_CLOCK - state.clock;
-        let mut moved = State {
-            clock: LAST_CLOCK,
-            ..state
-        };
-        for kind in moved.kinds.iter_mut().filter(|kind| kind.released) {
-            kind.at += late;
-        }
-        states.push(moved);
         let mut spoilt = state;
         spoilt.kinds[5].left = 1;
         states.push(spoilt);
@@ -82,8 +78,7 @@ fn an_accepted_showing_then_advancing_equals_the_old_call() {
                 match shown.number {
                     0 => assert_eq!((advanced, after), (answer, next)),
                     // "advancing drops 9".
-                    9 if state.clock < LAST_CLOCK => assert_eq!(advanced, Answer::GOOD),
-                    9 => assert_eq!((advanced, after), (Answer::refused(11), state)),
+                    9 => assert_eq!(advanced, Answer::GOOD),
                     _ => assert_eq!((advanced, after), (shown, state)),
                 }
                 accepted += u64::from(shown.is_good());
@@ -125,5 +120,5 @@ fn advancing_may_succeed_where_showing_gave_9() {
     assert_eq!((show(&state, &mut row), row), (Answer::refused(9), [0xEE]));
     let (answer, next) = advance(&state);
     assert_eq!(answer, Answer::GOOD);
-    assert_eq!((next.clock, next.kinds[0].left), (1, 5));
+    assert_eq!((next.slice, next.kinds[0].left), (1, 5));
 }

@@ -1,6 +1,6 @@
 //! "Keep the row of sums", document 02's request (vii).
 
-use second::rack::{a_stored_sum_differs, in_form, sum_of_what_is_left, LAST_CLOCK};
+use second::rack::{a_stored_sum_differs, in_form, sum_of_what_is_left};
 use second::*;
 
 /// What each of the three calls answers; a refused one must leave what it was given.
@@ -94,7 +94,10 @@ fn a_flip_in_a_sum_or_in_any_slices_left_is_told_by_the_next_call() {
                 let mut flipped = state;
                 flipped.kinds[place].left ^= 1 << bit;
                 let unit = flipped.kinds[place];
-                let expected = match unit.released && unit.left <= plan().kinds[place].length {
+                let kind = plan().kinds[place];
+                // Work left where D slices are gone is out of form as well.
+                let late = unit.left > 0 && unit.gone >= kind.deadline;
+                let expected = match unit.released && unit.left <= kind.length && !late {
                     true => 16,
                     false => 10,
                 };
@@ -108,10 +111,10 @@ fn a_flip_in_a_sum_or_in_any_slices_left_is_told_by_the_next_call() {
 }
 
 #[test]
-fn a_flip_is_told_before_9_11_and_12_to_15() {
+fn a_flip_is_told_before_9_and_12_to_14() {
     let mut state = State {
         plan: plan(),
-        clock: LAST_CLOCK,
+        slice: 3,
         ..State::default()
     };
     state.sums[2] = 1;

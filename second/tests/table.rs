@@ -163,7 +163,7 @@ fn release_at_exactly_t_passes_and_one_before_gives_14() {
         after.kinds[1],
         KindState {
             released: true,
-            at: 4,
+            gone: 0,
             left: 2
         }
     );

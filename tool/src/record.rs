@@ -179,9 +179,9 @@ impl Runner<'_> {
 }
 
 impl Record {
-    /// The clock as `play` prints it.
+    /// The slice within the frame, which `play` prints as its clock.
     fn clock(&self) -> u64 {
-        self.slices
+        self.slices % u64::from(self.plan.frame)
     }
 
     /// Counts an accepted slice.

@@ -405,7 +405,7 @@ fn run_draws_a_chart() {
 fn a_random_run_is_the_same_for_the_same_seed() {
     let random = |seed: &str| {
         parchbeetle(
-            &["run", "-", "--random", seed, "--slices", "40"],
+            &["run", "-", "--random", seed, "--slices", "42"],
             PLAN_A.as_bytes(),
         )
     };
@@ -417,13 +417,13 @@ fn a_random_run_is_the_same_for_the_same_seed() {
     );
     assert_eq!(one.output, random("7").output);
     assert_ne!(one.output, random("8").output);
-    assert!(one.text().contains("\nend 40\n"));
+    assert!(one.text().contains("\nend 2\n"));
     let json = parchbeetle(
-        &["run", "-", "--random", "7", "--slices", "40", "--json"],
+        &["run", "-", "--random", "7", "--slices", "42", "--json"],
         PLAN_A.as_bytes(),
     )
     .json();
-    assert_eq!(json.at("rows").list().len(), 40);
+    assert_eq!(json.at("rows").list().len(), 42);
     for project in json.at("projects").list() {
         assert!(project.at("most_in_frame").number() <= project.at("budget").number());
     }

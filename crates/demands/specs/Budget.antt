@@ -61,10 +61,10 @@ module _ (s : State) (order : InOrder (s .plan)) (calls : List Call) (x j : ℕ)
   named-most = omega (arith, named-sum, cards-all, sum-le (s .plan .frame) namedAt cardsAt (λ y l. omega arith))
 
   -- where as many of its kinds have slices left at each of them
-  pub named-all : ((y : ℕ) → y < s .plan .frame → held (s .plan) j (sliceAt y .before .clock) ≤ activeKinds (sliceAt y .before) j) →
+  pub named-all : ((y : ℕ) → y < s .plan .frame → held (s .plan) j (sliceAt y .before .slice) ≤ activeKinds (sliceAt y .before) j) →
       bytesNaming (namesProject (s .plan) j) inARow ≡ budgetOf (s .plan) j
   named-all h = named-sum ∙ sum-cong (s .plan .frame) namedAt cardsAt (λ y l. all y (h y l) (at y l)) ∙ cards-all
     where
-      all : (y : ℕ) → held (s .plan) j (sliceAt y .before .clock) ≤ activeKinds (sliceAt y .before) j →
+      all : (y : ℕ) → held (s .plan) j (sliceAt y .before .slice) ≤ activeKinds (sliceAt y .before) j →
           At (s .plan) (λ j. cardsFrom s j (x + y)) (sliceAt y) → namedAt y ≡ cardsAt y
       all y enough a = omega (arith, at-held a j project)

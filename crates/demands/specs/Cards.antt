@@ -31,7 +31,7 @@ module _ (s : State) (good : advanceAnswer s ≡ Good) where
   pub takes-named : (card i : ℕ) → card < s .plan .cards → (InUse s i) × (takes s i card ≡ true) → namesKind i (byte card) ≡ true
   unfolding namesKind
   takes-named card i l t =
-      let ready = advance-says s good .ready in
+      let ready = advance-says s good in
       eq-eqb (byte card) (i + 1) (omega (arith, row-shows s card l, row-is s ready card i (t .0) (t .1)))
 
 -- ---- two units

@@ -7,7 +7,7 @@ use mathlib.Core.Path.{_≡_, ap}
 use mathlib.Core.Logic.{_≢_, _↔_}
 use mathlib.Core.Bool.{true, false}
 use mathlib.Core.List.{List}
-use Prim.Native.Nat.{ℕ, _+_, _-_, _≤_, _<_}
+use Prim.Native.Nat.{ℕ, _+_, _-_, _%_, _≤_, _<_, min}
 use native.Mathlib.Omega.{arith}
 use lib.ListN.{length, getD, take, drop}
 use lib.Seq.{take-all}
@@ -27,9 +27,9 @@ use Rattle.demands.specs.Since.{never, sinceFrom, fewer}
 use Rattle.demands.specs.Named.{namesKind, namesProject, bytesIn, bytesNaming, Orderly, Apart}
 use Rattle.demands.specs.Shown.{shown, upTo, none, lastFrom, leftOf, restarted, kindsLeft}
 use Rattle.demands.specs.Cards.{named-apart}
-use Rattle.demands.specs.KeptShown.{one-kind-each, row-names, shown-left, shown-last, shown-unit, shown-work}
-use Rattle.demands.specs.Kept.{unit-named, unit-left, row-orderly, row-serves, project-most, project-all}
-use Rattle.demands.specs.Kept.{not-ten, not-fifteen, fourteen-says, fourteen-of, clock-counts}
+use Rattle.demands.specs.KeptShown.{one-kind-each, row-names, shown-left, shown-unit, shown-work}
+use Rattle.demands.specs.Kept.{unit-named, unit-gone, unit-left, row-orderly, row-serves, project-most, project-all}
+use Rattle.demands.specs.Kept.{advance-always, not-ten, fourteen-says, fourteen-of, slice-counts}
 
 module _ (p : Plan) (admitted : startOf p .answer ≡ Good) where
   -- ---- 1. In time
@@ -57,13 +57,13 @@ module _ (p : Plan) (admitted : startOf p .answer ≡ Good) where
       let all = ap (bytesNaming (namesKind i)) (take-all (kindOf p i .deadline) slices few) in
       omega (arith, unit-named p admitted calls more i e good .least, all)
 
-  -- "A unit released at clock r is in time if left is 0 when the clock is r + D": while it is the kind's last, the state's left
-  -- is at most D - x
+  -- "A unit released at clock r is in time if left is 0 when the clock is r + D": while it is the kind's last (no other release of the
+  -- kind is shown), the state's left is at most D - x
   pub left-in-time : (calls more : List Call) (i e : ℕ) →
       let next = releaseOf (after p calls) i e in
       let end = runFrom (next .state) more in
       next .answer ≡ Good →
-      unitOf end i .at ≡ after p calls .clock →
+      restarted i (shown (next .state) more) ≡ false →
       unitOf end i .left ≤ kindOf p i .deadline - length (slicesOf (next .state) more)
   left-in-time = unit-left p admitted
 
@@ -134,7 +134,7 @@ module _ (p : Plan) (admitted : startOf p .answer ≡ Good) where
       let slices = slicesOf (startOf p .state) calls in
       j < p .projects →
       x + p .frame ≤ length slices →
-      ((y : ℕ) → y < p .frame → let s = getD slices (x + y) noSlice .before in held p j (s .clock) ≤ activeKinds s j) →
+      ((y : ℕ) → y < p .frame → let s = getD slices (x + y) noSlice .before in held p j (s .slice) ≤ activeKinds s j) →
       bytesNaming (namesProject p j) (take (p .frame) (drop x slices)) ≡ budgetOf p j
   budget-exactly = project-all p admitted
 
@@ -144,9 +144,9 @@ module _ (p : Plan) (admitted : startOf p .answer ≡ Good) where
   pub never-out-of-form : (calls : List Call) (call : Call) → number (nextAfter (after p calls) call .answer) ≢ 10
   never-out-of-form = not-ten p admitted
 
-  -- 15 never occurs
-  pub never-left-over : (calls : List Call) (call : Call) → number (nextAfter (after p calls) call .answer) ≢ 15
-  never-left-over = not-fifteen p admitted
+  -- "A rack runs for ever": every advance is accepted
+  pub runs-for-ever : (calls : List Call) → advanceOf (after p calls) .answer ≡ Good
+  runs-for-ever = advance-always p admitted
 
   -- 14 says the truth: it is given exactly where 12 and 13 are not, and fewer than T accepted slices are gone since the last
   -- accepted release of the kind
@@ -156,11 +156,20 @@ module _ (p : Plan) (admitted : startOf p .answer ≡ Good) where
       ((i < p .kinds) × (within (kindOf p i .length) e ≡ true) × (fewer (kindOf p i .separation) since ≡ true))
   told-early calls i e = (fourteen-says p admitted calls i e, fourteen-of p admitted calls i e)
 
-  -- ---- 5. The clock
+  -- ---- 5. The slice within the frame, and the slices gone
 
-  -- it is the number of accepted slices since the fresh start
-  pub clock-tells : (calls : List Call) → after p calls .clock ≡ length (slicesOf (startOf p .state) calls)
-  clock-tells = clock-counts p admitted
+  -- the slice is the number of accepted slices since the fresh start, modulo F
+  pub slice-tells : (calls : List Call) → after p calls .slice ≡ length (slicesOf (startOf p .state) calls) % p .frame
+  slice-tells = slice-counts p admitted
+
+  -- the slices gone are those accepted since the kind's last accepted release, held at T
+  pub gone-tells : (calls more : List Call) (i e : ℕ) →
+      let next = releaseOf (after p calls) i e in
+      let end = runFrom (next .state) more in
+      next .answer ≡ Good →
+      restarted i (shown (next .state) more) ≡ false →
+      unitOf end i .gone ≡ min (kindOf p i .separation) (length (slicesOf (next .state) more))
+  gone-tells = unit-gone p admitted
 
   -- ---- 6. The same from what a run shows: its accepted releases and the rows of its slices
 
@@ -170,15 +179,7 @@ module _ (p : Plan) (admitted : startOf p .answer ≡ Good) where
       unitOf (after p calls) i .left ≡ leftOf (lastFrom i none (shown (startOf p .state) calls))
   left-shown = shown-left p admitted
 
-  -- the premise of `left-in-time`: no unit of the kind was released since
-  pub last-shown : (calls more : List Call) (i e : ℕ) →
-      let next = releaseOf (after p calls) i e in
-      let end = runFrom (next .state) more in
-      next .answer ≡ Good →
-      (unitOf end i .at ≡ after p calls .clock) ↔ (restarted i (shown (next .state) more) ≡ false)
-  last-shown = shown-last p admitted
-
-  -- what is left of such a unit
+  -- what is left of a unit that is the kind's last
   pub unit-shown : (calls more : List Call) (i e : ℕ) →
       let next = releaseOf (after p calls) i e in
       let end = runFrom (next .state) more in
@@ -195,14 +196,14 @@ module _ (p : Plan) (admitted : startOf p .answer ≡ Good) where
       restarted i (shown (next .state) more) ≡ false →
       e - bytesNaming (namesKind i) slices ≤ kindOf p i .deadline - length slices
   in-time-shown calls more i e good same =
-      omega (arith, unit-shown calls more i e good same, left-in-time calls more i e good (last-shown calls more i e good .1 same))
+      omega (arith, unit-shown calls more i e good same, left-in-time calls more i e good same)
 
   -- the premise of `budget-exactly`: before slice x, the cards held and the kinds with work left
   pub work-shown : (calls : List Call) (x j : ℕ) →
       let slices = slicesOf (startOf p .state) calls in
       let s = getD slices x noSlice .before in
       x < length slices →
-      (held p j (s .clock) ≡ held p j x) × (activeKinds s j ≡ kindsLeft p j (upTo x (shown (startOf p .state) calls)))
+      (held p j (s .slice) ≡ held p j x) × (activeKinds s j ≡ kindsLeft p j (upTo x (shown (startOf p .state) calls)))
   work-shown = shown-work p admitted
 
   -- `budget-exactly`

@@ -2,9 +2,9 @@
 -- Assumes nothing.
 use mathlib.Core.Path.{_≡_, ap, _∙_}
 use mathlib.Core.Logic.{_≢_}
-use mathlib.Core.Bool.{true}
+use mathlib.Core.Bool.{true, false}
 use mathlib.Core.List.{List, [], _∷_}
-use Prim.Native.Nat.{ℕ, zero, suc, _+_, _-_, _≤_}
+use Prim.Native.Nat.{ℕ, zero, suc, _+_, _-_, _≤_, min}
 use native.Mathlib.Decide.{ℕ-discrete}
 use native.Mathlib.Omega.{arith}
 use lib.ListN.{length, take}
@@ -13,21 +13,22 @@ use Rattle.plan.specs.declared.Plan.{Plan}
 use Rattle.answer.specs.declared.Answer.the-variants.{Good}
 use Rattle.plan.specs.Order.{kindOf}
 use Rattle.unit.specs.declared.Unit.{Unit}
+use Rattle.unit.specs.Step.{untilDue}
 use Rattle.rack.specs.declared.State.{State}
 use Rattle.rack.specs.State.{unitOf, kindAt, InUse}
-use Rattle.rack.specs.Rank.{due, until}
-use Rattle.rack.specs.Release.{released, releaseAnswer, Releasable}
+use Rattle.rack.specs.Rank.{until}
+use Rattle.rack.specs.Release.{startedUnit, released, releaseAnswer, Releasable}
 use Rattle.rack.specs.Release.Properties.{release-says, release-unit, release-others}
 use Rattle.rack.specs.Advance.{advanced}
-use Rattle.rack.specs.Advance.Properties.{advance-says}
 use Rattle.demands.specs.Run.{Call, runFrom, Accepted, accepted, slicesOf}
-use Rattle.demands.specs.Run.Properties.{Claim, WithSlice, WithRelease, along, run-clock, run-plan}
+use Rattle.demands.specs.Run.Properties.{Claim, WithSlice, WithRelease, along, run-plan}
 use Rattle.demands.specs.Named.{namesKind, bytesIn, bytesNaming}
 use Rattle.demands.specs.Served.{named-falls}
-use Rattle.demands.specs.View.Properties.{until-gone}
 use Rattle.demands.specs.View.Steps.{sliced-released, sliced-until, new-until, kept-until}
 use Rattle.demands.specs.Safe.{Safe}
-use Rattle.demands.specs.Safe.Properties.{safe-unit, safe-left, advance-safe, release-safe, run-safe}
+use Rattle.demands.specs.Safe.Properties.{safe-left, advance-safe, release-safe, run-safe}
+use Rattle.demands.specs.Shown.{shown, restarted}
+use Rattle.demands.specs.Shown.Properties.{Its, gone-counts}
 
 -- with so much left, due in so many slices: in the rows until then kind i is named no more often, and no less but for the slices to come
 pub record OnTime (i left t : ℕ) (slices : List Accepted) : Type 0 where
@@ -76,19 +77,19 @@ module _ (i : ℕ) where
   with-slice : WithSlice NamedIn
   unfolding advanced
   with-slice s end slices good h u =
-      let may = advance-says s good in
-      let kept = sliced-released s may (u .safe .places) i (u .its-kind) ∙ u .released in
-      let next : Under i (advanced s) = record { safe = advance-safe s (u .safe) may; its-kind = u .its-kind; released = kept } in
+      let ready = u .safe .ready in
+      let kept = sliced-released s ready (u .safe .places) i (u .its-kind) ∙ u .released in
+      let next : Under i (advanced s) = record { safe = advance-safe s (u .safe); its-kind = u .its-kind; released = kept } in
       one-more i (unitOf s i .left) (unitOf (advanced s) i .left) (until s i) (accepted s) slices (none-late s u)
       (named-falls s (u .safe) good i (u .its-kind))
-      (rw (← (sliced-until s may (u .safe .places) i (u .its-kind))) (h next))
+      (rw (← (sliced-until s ready (u .safe .places) i (u .its-kind) (u .released))) (h next))
 
   -- where the kind is released again, its unit's deadline has come
   again : (s : State) (e : ℕ) → releaseAnswer s i e ≡ Good → Under i s → until s i ≡ 0
+  unfolding untilDue
   again s e good u =
       let r = release-says s i e good in
-      let g = until-gone s i (safe-unit s (u .safe) i (u .its-kind) .release-clock) in
-      omega (arith, g, r .start .separated (u .released), u .safe .ready .order .kind-at i (u .its-kind) .deadline-most)
+      omega (arith, r .start .separated (u .released), u .safe .ready .order .kind-at i (u .its-kind) .deadline-most)
 
   with-release : WithRelease NamedIn
   unfolding released
@@ -115,7 +116,7 @@ module _ (s : State) (safe : Safe s) (i e : ℕ) (good : releaseAnswer s i e ≡
   may : Releasable s i e
   may = release-says s i e good
 
-  new : unitOf (released s i e) i ≡ record { released = true; at = s .clock; left = e }
+  new : unitOf (released s i e) i ≡ startedUnit e
   new = release-unit s i e may (safe .places)
 
   -- the unit in the rows that follow
@@ -129,14 +130,30 @@ module _ (s : State) (safe : Safe s) (i e : ℕ) (good : releaseAnswer s i e ≡
       } in
       rw (ap (λ (x : Unit). x .left) new, new-until s i e may (safe .places)) at (unit-named i more (released s i e) under)
 
-  -- and in the state that they lead to, as long as no other unit of the kind is released
-  pub release-left : (more : List Call) → let end = runFrom (released s i e) more in unitOf end i .at ≡ s .clock →
+  its : Its i (released s i e)
+  unfolding released
+  its = record { safe = release-safe s safe i e good; its-kind = may .its-kind }
+
+  -- in the state that they lead to, as long as no other unit of the kind is released: the slices gone since
+  pub release-gone : (more : List Call) → let end = runFrom (released s i e) more in restarted i (shown (released s i e) more) ≡ false →
+      unitOf end i .gone ≡ min (kindAt s i .separation) (length (slicesOf (released s i e) more))
+  unfolding released
+  release-gone more same =
+      omega (
+        arith,
+        gone-counts i more (released s i e) its (ap (λ (x : Unit). x .released) new) same,
+        ap (λ (x : Unit). x .gone) new,
+      )
+
+  -- and what is left
+  pub release-left : (more : List Call) → let end = runFrom (released s i e) more in restarted i (shown (released s i e) more) ≡ false →
       unitOf end i .left ≤ kindAt s i .deadline - length (slicesOf (released s i e) more)
-  unfolding until due released
+  unfolding untilDue released
   release-left more same =
       let start = released s i e in
       let end = runFrom start more in
       let p = run-plan more start in
       let safe-then = run-safe more start (release-safe s safe i e good) in
       let left = safe-left end safe-then i (omega (arith, may .its-kind, ap (λ (x : Plan). x .kinds) p)) in
-      omega (arith, left, run-clock more start, ap (λ (x : Plan). kindOf x i .deadline) p)
+      let most = may .ready .order .kind-at i (may .its-kind) .deadline-most in
+      omega (arith, left, release-gone more same, ap (λ (x : Plan). kindOf x i .deadline) p, most)

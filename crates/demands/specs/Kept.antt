@@ -1,10 +1,11 @@
 -- The layers together: what a run from a fresh start on an admitted plan keeps.
 -- Assumes nothing.
-use mathlib.Core.Path.{_≡_, sym, ap, _∙_}
+use mathlib.Core.Path.{_≡_, sym, ap, ap₂, _∙_}
 use mathlib.Core.Logic.{_≢_}
 use mathlib.Core.Bool.{true, false}
 use mathlib.Core.List.{List}
-use Prim.Native.Nat.{ℕ, _+_, _-_, _≤_, _<_}
+use Prim.Native.Nat.{ℕ, _+_, _-_, _%_, _≤_, _<_, min}
+use native.Mathlib.Nat.{zero-add}
 use native.Mathlib.Omega.{arith}
 use lib.ListN.{length, getD, take, drop, getD-replicate}
 use Rattle.plan.specs.declared.Plan.{Plan}
@@ -20,24 +21,24 @@ use Rattle.rack.specs.State.{unitOf, kindAt}
 use Rattle.rack.specs.State.Properties.{good-moves}
 use Rattle.rack.specs.Start.{startOf}
 use Rattle.rack.specs.Start.Properties.{start-good}
-use Rattle.rack.specs.Rank.{gone, activeKinds}
+use Rattle.rack.specs.Rank.{activeKinds}
 use Rattle.unit.specs.Start.{early}
 use Rattle.rack.specs.Release.{released, releaseAnswer, releaseOf}
 use Rattle.rack.specs.Row.{rowOf}
-use Rattle.rack.specs.Show.{showAnswer}
 use Rattle.rack.specs.Advance.{advanceAnswer, advanceOf}
 use Rattle.rack.specs.Advance.Properties.{advance-moves}
 use Rattle.demands.specs.Run.{Call, show, advance, release, nextAfter, runFrom, after, noSlice, slicesOf}
 use Rattle.demands.specs.Since.{Since, never, sinceFrom, fewer}
-use Rattle.demands.specs.Run.Properties.{run-clock, run-plan, At, slices-at}
+use Rattle.demands.specs.Run.Properties.{run-slice, run-plan, At, slices-at}
+use Rattle.demands.specs.Shown.{shown, restarted}
 use Rattle.demands.specs.View.{cardsFrom}
 use Rattle.demands.specs.Named.{namesKind, namesProject, bytesIn, bytesNaming, Orderly}
 use Rattle.demands.specs.Served.{named-falls}
 use Rattle.demands.specs.Named.Properties.{orderly}
 use Rattle.demands.specs.Budget.{named-most, named-all}
 use Rattle.demands.specs.Safe.Properties.{start-safe, after-safe}
-use Rattle.demands.specs.InTime.{OnTime, release-named, release-left}
-use Rattle.demands.specs.Refusals.{release-not-ten, release-not-fifteen, fourteen-early, early-fourteen, show-not, advance-not}
+use Rattle.demands.specs.InTime.{OnTime, release-named, release-gone, release-left}
+use Rattle.demands.specs.Refusals.{is-ready, release-not-ten, fourteen-early, early-fourteen, show-not}
 use Rattle.demands.specs.Since.Properties.{tells-early, Told, told-run}
 
 -- an accepted release hands back the state that it says
@@ -72,9 +73,15 @@ module _ (p : Plan) (admitted : startOf p .answer ≡ Good) where
   kind-kept : (calls : List Call) (i : ℕ) → kindAt (after p calls) i ≡ kindOf p i
   kind-kept calls i = ap (λ (q : Plan). kindOf q i) (after-plan calls)
 
-  -- the clock starts at 0, and counts
-  pub clock-counts : (calls : List Call) → after p calls .clock ≡ length (slicesOf fresh calls)
-  clock-counts calls = omega (arith, run-clock calls fresh, ap (λ (s : State). s .clock) (start-good p admitted))
+  -- the slice starts at 0, and counts within the frame
+  start-slice : fresh .slice ≡ 0
+  start-slice = ap (λ (s : State). s .slice) (start-good p admitted)
+
+  pub slice-counts : (calls : List Call) → after p calls .slice ≡ length (slicesOf fresh calls) % p .frame
+  slice-counts calls =
+      run-slice calls fresh (start-safe p admitted .ready .form .slice-below)
+      ∙ ap₂ (λ (n : ℕ) (q : Plan). (n + length (slicesOf fresh calls)) % q .frame) start-slice start-plan
+      ∙ ap (λ (n : ℕ). n % p .frame) (zero-add (length (slicesOf fresh calls)))
 
   -- ---- a unit
 
@@ -90,7 +97,16 @@ module _ (p : Plan) (admitted : startOf p .answer ≡ Good) where
         rw (release-moves (after p calls) i e good, ← deadline-kept)
         (release-named (after p calls) (after-safe p admitted calls) i e (release-good (after p calls) i e good) more)
 
-    pub unit-left : unitOf (runFrom next more) i .at ≡ after p calls .clock →
+    separation-kept : kindAt (after p calls) i .separation ≡ kindOf p i .separation
+    separation-kept = ap (λ (k : Kind). k .separation) (kind-kept calls i)
+
+    pub unit-gone : restarted i (shown next more) ≡ false →
+        unitOf (runFrom next more) i .gone ≡ min (kindOf p i .separation) (length (slicesOf next more))
+    unit-gone =
+        rw (release-moves (after p calls) i e good, ← separation-kept)
+        (release-gone (after p calls) (after-safe p admitted calls) i e (release-good (after p calls) i e good) more)
+
+    pub unit-left : restarted i (shown next more) ≡ false →
         unitOf (runFrom next more) i .left ≤ kindOf p i .deadline - length (slicesOf next more)
     unit-left =
         rw (release-moves (after p calls) i e good, ← deadline-kept)
@@ -121,32 +137,23 @@ module _ (p : Plan) (admitted : startOf p .answer ≡ Good) where
     project-most = rw start-plan at (named-most fresh start-order calls x j (rw start-plan l) (rw start-plan enough))
 
     pub project-all :
-        ((y : ℕ) → y < p .frame → let s = getD (slicesOf fresh calls) (x + y) noSlice .before in held p j (s .clock) ≤ activeKinds s j) →
+        ((y : ℕ) → y < p .frame → let s = getD (slicesOf fresh calls) (x + y) noSlice .before in held p j (s .slice) ≤ activeKinds s j) →
         bytesNaming (namesProject p j) (take (p .frame) (drop x (slicesOf fresh calls))) ≡ budgetOf p j
     project-all busy =
         rw start-plan at (named-all fresh start-order calls x j (rw start-plan l) (rw start-plan enough) (rw start-plan busy))
 
   -- ---- a refusal
 
-  -- a showing tells 9 or 11, if not the state's own, and an advance 11
-  show-never : (calls : List Call) (bytes : List ℕ) (n : ℕ) → 0 < n → n ≢ 9 → n ≢ 11 →
-      number (showAnswer (after p calls) (length bytes)) ≢ n
-  show-never calls bytes = show-not (after p calls) (after-safe p admitted calls) (length bytes)
-
-  advance-never : (calls : List Call) (n : ℕ) → 0 < n → n ≢ 11 → number (advanceAnswer (after p calls)) ≢ n
-  advance-never calls = advance-not (after p calls) (after-safe p admitted calls)
+  -- "A rack runs for ever": every advance is accepted
+  pub advance-always : (calls : List Call) → advanceOf (after p calls) .answer ≡ Good
+  unfolding advanceOf
+  advance-always calls = is-ready (after p calls) (after-safe p admitted calls .ready)
 
   pub not-ten : (calls : List Call) (call : Call) → number (nextAfter (after p calls) call .answer) ≢ 10
   unfolding advanceOf releaseOf
-  not-ten calls (show bytes) = show-never calls bytes 10 (omega arith) (omega arith) (omega arith)
-  not-ten calls advance = advance-never calls 10 (omega arith) (omega arith)
-  not-ten calls (release i e) = release-not-ten (after p calls) (after-safe p admitted calls) i e
-
-  pub not-fifteen : (calls : List Call) (call : Call) → number (nextAfter (after p calls) call .answer) ≢ 15
-  unfolding advanceOf releaseOf
-  not-fifteen calls (show bytes) = show-never calls bytes 15 (omega arith) (omega arith) (omega arith)
-  not-fifteen calls advance = advance-never calls 15 (omega arith) (omega arith)
-  not-fifteen calls (release i e) = release-not-fifteen (after p calls) (after-safe p admitted calls) i e
+  not-ten calls (show bytes) = show-not (after p calls) (after-safe p admitted calls .ready) (length bytes) 10 (omega arith) (omega arith)
+  not-ten calls advance = λ h. omega (arith, ap number (is-ready (after p calls) (after-safe p admitted calls .ready)), h)
+  not-ten calls (release i e) = release-not-ten (after p calls) (after-safe p admitted calls .ready) i e
 
   module _ (calls : List Call) (i e : ℕ) where
     -- what the run tells of the kind
@@ -169,7 +176,7 @@ module _ (p : Plan) (admitted : startOf p .answer ≡ Good) where
     -- the slices since, as the state and as the run count them
     counted : i < p .kinds →
         let s = after p calls in
-        early (kindAt s i .separation) (unitOf s i) (gone s i) ≡ fewer (kindOf p i .separation) since
+        early (kindAt s i .separation) (unitOf s i) ≡ fewer (kindOf p i .separation) since
     counted l = tells-early (after p calls) i since (told l .tells) ∙ ap (λ (k : Kind). fewer (k .separation) since) (kind-kept calls i)
 
     fits-kept : within (kindAt (after p calls) i .length) e ≡ within (kindOf p i .length) e
@@ -178,12 +185,12 @@ module _ (p : Plan) (admitted : startOf p .answer ≡ Good) where
     pub fourteen-says : number (releaseOf (after p calls) i e .answer) ≡ 14 → Early
     unfolding releaseOf
     fourteen-says h =
-        let t = fourteen-early (after p calls) (after-safe p admitted calls) i e h in
+        let t = fourteen-early (after p calls) (after-safe p admitted calls .ready) i e h in
         let l : i < p .kinds = omega (arith, t .0, kinds-kept calls) in
         (l, sym fits-kept ∙ t .1, sym (counted l) ∙ t .2)
 
     pub fourteen-of : Early → number (releaseOf (after p calls) i e .answer) ≡ 14
     unfolding releaseOf
     fourteen-of h =
-        early-fourteen (after p calls) (after-safe p admitted calls) i e
+        early-fourteen (after p calls) (after-safe p admitted calls .ready) i e
         (omega (arith, h .0, kinds-kept calls)) (fits-kept ∙ h .1) (counted (h .0) ∙ h .2)

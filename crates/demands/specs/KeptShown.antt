@@ -2,10 +2,10 @@
 -- Assumes nothing.
 use mathlib.Core.Path.{_≡_, refl, ap, ap₂, _∙_}
 use mathlib.Core.Logic.{_↔_}
-use mathlib.Core.Bool.{Bool, true, false, not, _&&_, true≢false}
+use mathlib.Core.Bool.{true, false, not, _&&_}
 use mathlib.Core.List.{List}
-use Prim.Native.Nat.{ℕ, _+_, _<_}
-use native.Mathlib.Nat.{zero-add}
+use Prim.Native.Nat.{ℕ, _+_, _%_, _<_}
+use native.Mathlib.Nat.{zero-add, mod-mod}
 use native.Mathlib.Omega.{arith}
 use lib.Dec.{eqb}
 use lib.ListN.{length, getD, getD-replicate}
@@ -14,7 +14,7 @@ use Rattle.laws.specs.Count.Properties.{count-cong}
 use Rattle.plan.specs.declared.Plan.{Plan}
 use Rattle.answer.specs.declared.Answer.the-variants.{Good}
 use Rattle.plan.specs.Order.{kindOf}
-use Rattle.layout.specs.Layout.{held}
+use Rattle.layout.specs.Layout.{cellAt, owns, held}
 use Rattle.unit.specs.declared.Unit.{Unit}
 use Rattle.unit.specs.Unit.{noUnit}
 use Rattle.rack.specs.declared.State.{State}
@@ -23,7 +23,7 @@ use Rattle.rack.specs.State.Properties.{good-moves}
 use Rattle.rack.specs.Start.{startOf}
 use Rattle.rack.specs.Start.Properties.{start-good}
 use Rattle.rack.specs.Rank.{working, active, activeKinds}
-use Rattle.rack.specs.Release.{released, releaseAnswer, releaseOf}
+use Rattle.rack.specs.Release.{startedUnit, released, releaseAnswer, releaseOf}
 use Rattle.rack.specs.Release.Properties.{release-says, release-unit}
 use Rattle.rack.specs.Row.{rowOf, takes}
 use Rattle.rack.specs.Row.Properties.{card-kind}
@@ -34,7 +34,12 @@ use Rattle.demands.specs.Named.{namesKind, bytesNaming}
 use Rattle.demands.specs.Safe.Properties.{start-safe, after-safe, release-safe}
 use Rattle.demands.specs.Cards.{named-takes, takes-named}
 use Rattle.demands.specs.Shown.{shown, upTo, none, lastFrom, leftOf, restarted, kindsLeft}
-use Rattle.demands.specs.Shown.Properties.{clock-before, Its, left-told, left-before, left-falls, Moved, clock-moves}
+use Rattle.demands.specs.Shown.Properties.{slice-before, Its, left-told, left-before, left-falls}
+
+-- "taken modulo F"
+held-turned : (p : Plan) (j x : ℕ) → held p j (x % p .frame) ≡ held p j x
+unfolding held
+held-turned p j x = ap (λ (n : ℕ). countTo (p .cards) (λ card. owns p j (cellAt (p .frame) card n))) (mod-mod x (p .frame))
 
 module _ (p : Plan) (admitted : startOf p .answer ≡ Good) where
   abbrev fresh : State
@@ -108,7 +113,7 @@ module _ (p : Plan) (admitted : startOf p .answer ≡ Good) where
     unfolding releaseOf
     moved = good-moves (releaseAnswer s i e) (released s i e) s good
 
-    its-unit : unitOf (released s i e) i ≡ record { released = true; at = s .clock; left = e }
+    its-unit : unitOf (released s i e) i ≡ startedUnit e
     its-unit = release-unit s i e (release-says s i e accepted) (after-safe p admitted calls .places)
 
     its : Its i (released s i e)
@@ -119,25 +124,12 @@ module _ (p : Plan) (admitted : startOf p .answer ≡ Good) where
         unitOf (runFrom next more) i .left + bytesNaming (namesKind i) (slicesOf next more) ≡ e
     shown-unit = rw moved (λ n. left-falls i more (released s i e) its n ∙ ap (λ (v : Unit). v .left) its-unit)
 
-    moves : Moved (restarted i (shown (released s i e) more)) (s .clock) (unitOf (runFrom (released s i e) more) i .at)
-    moves =
-        let started = ap (λ (v : Unit). v .released) its-unit in
-        rw (ap (λ (v : Unit). v .at) its-unit) at (clock-moves i more (released s i e) its started)
-
-    same-clock : (b : Bool) (to : ℕ) → Moved b (s .clock) to → (to ≡ s .clock) ↔ (b ≡ false)
-    same-clock true to m = (λ z. absurd (omega arith), λ z. absurd (true≢false z))
-    same-clock false to m = (λ z. refl, λ z. m)
-
-    pub shown-last : (unitOf (runFrom next more) i .at ≡ s .clock) ↔ (restarted i (shown next more) ≡ false)
-    shown-last =
-        rw moved (same-clock (restarted i (shown (released s i e) more)) (unitOf (runFrom (released s i e) more) i .at) moves)
-
   -- ---- a project
 
   pub shown-work : (calls : List Call) (x j : ℕ) →
       let s = getD (slicesOf fresh calls) x noSlice .before in
       x < length (slicesOf fresh calls) →
-      (held p j (s .clock) ≡ held p j x) × (activeKinds s j ≡ kindsLeft p j (upTo x (shown fresh calls)))
+      (held p j (s .slice) ≡ held p j x) × (activeKinds s j ≡ kindsLeft p j (upTo x (shown fresh calls)))
   unfolding activeKinds active working kindsLeft
   shown-work calls x j l = (cards, kinds)
     where
@@ -147,8 +139,14 @@ module _ (p : Plan) (admitted : startOf p .answer ≡ Good) where
       same : s .plan ≡ p
       same = slices-at noSlice calls fresh x l .plan ∙ start-plan
 
-      cards : held p j (s .clock) ≡ held p j x
-      cards = ap (held p j) (clock-before calls fresh x l ∙ rw (start-good p admitted) (zero-add x))
+      at-slice : s .slice ≡ x % p .frame
+      at-slice =
+          slice-before calls fresh (start-safe p admitted .ready .form .slice-below) x l
+          ∙ ap₂ (λ (n : ℕ) (q : Plan). (n + x) % q .frame) (ap (λ (t : State). t .slice) (start-good p admitted)) start-plan
+          ∙ ap (λ (n : ℕ). n % p .frame) (zero-add x)
+
+      cards : held p j (s .slice) ≡ held p j x
+      cards = ap (held p j) at-slice ∙ held-turned p j x
 
       -- what is left of kind i, by the events before
       left : ℕ → ℕ

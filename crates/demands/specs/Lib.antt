@@ -1,11 +1,10 @@
 -- The three demands: `Outcomes` (1), `Verdicts` (2) and `Deadlines` (3) state them, the last over `Run`, `Since`, `Named` and
 -- `Shown`; `SmallestBudgets`, over `OpenBudget`, states what is promised of the smallest budget, `OneKindProjects`, over `OneKind`, what
--- is promised of plans of one-kind projects, `Rescue` what is promised of rescued plans, and `EquationFive`, over `AnyWorkload`, that
--- either paper's workload gives the same; `KindFigures` has what is
--- promised of the figures of a kind; `Showing` has what showing and advancing owe a host, and `RowOfSums`, over `Flipped`, what the stored sums do; `Sufficient` has a
--- refused plan that runs
--- well, and `Uses` puts every statement to work. The other modules tie the theory of one project (`analysis`) to
--- the rack.
+-- is promised of plans of one-kind projects, `Rescue` what is promised of rescued plans, `EquationFive`, over `AnyWorkload`, that either
+-- paper's workload gives the same, and `KindFigures` what is promised of the figures of a kind; `Showing` has what showing and advancing
+-- owe a host, `RowOfSums`, over `Flipped`, what the stored sums do, and `NoClock`, over `AbsoluteClock` and `Beside`, what the rules
+-- without a clock owe those with one; `Sufficient` has a refused plan that runs well, `LateByHand` a state that goes out of form, and
+-- `Uses` puts every statement to work. The other modules tie the theory of one project (`analysis`) to the rack.
 -- Assumes nothing.
 -- ---- the statements
 pub mod Run
@@ -25,6 +24,10 @@ pub mod EquationFive
 pub mod OneKindProjects
 pub mod RowOfSums
 pub mod Rescue
+pub mod AbsoluteClock
+pub mod Beside
+pub mod NoClock
+pub mod LateByHand
 pub mod Sufficient
 -- ---- the statements at work
 pub mod Uses

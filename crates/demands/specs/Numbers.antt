@@ -33,13 +33,12 @@ use Rattle.one_kind.specs.Built.Properties.{counts-say}
 use Rattle.rescue.specs.Rescue.{rescuedPlan, listSize, restAnswer, rescueAnswer, rescueOf}
 use Rattle.unit.specs.Start.{early, startable}
 use Rattle.rack.specs.declared.State.{State}
-use Rattle.rack.specs.State.{lastClock, unitOf, kindAt, used}
+use Rattle.rack.specs.State.{unitOf, kindAt, used}
 use Rattle.rack.specs.Sums.{sumsRight}
 use Rattle.rack.specs.Form.{inForm, sumsTold, ready}
-use Rattle.rack.specs.Rank.{gone}
 use Rattle.rack.specs.Start.{startAnswer}
 use Rattle.rack.specs.Release.{releaseAnswer}
-use Rattle.rack.specs.Advance.{timeLeft, advanceAnswer}
+use Rattle.rack.specs.Advance.{advanceAnswer}
 use Rattle.rack.specs.Show.{roomFor, showAnswer}
 use Rattle.demands.specs.Numbers.Stages.{sizes-numbers, unused-numbers, there-numbers, projects-numbers, projects-open-numbers}
 use Rattle.demands.specs.Numbers.Stages.{kinds-numbers, sum-numbers}
@@ -87,17 +86,17 @@ rescueOrder = 1 ∷ 2 ∷ 20 ∷ 9 ∷ []
 abbrev pub stateOrder : List ℕ
 stateOrder = 10 ∷ 16 ∷ recordOrder
 
--- "Release: the record order, 10, 12, 13, 14, 15", with 16
+-- "Release: the record order, 10, 12, 13, 14", with 16; "15 .. retired"
 abbrev pub releaseOrder : List ℕ
-releaseOrder = 12 ∷ 13 ∷ 14 ∷ 15 ∷ stateOrder
+releaseOrder = 12 ∷ 13 ∷ 14 ∷ stateOrder
 
--- "showing keeps the slice order with 9 and 11": the record order, 10, 16, 9, 11
+-- "showing keeps the slice order with 9": the record order, 10, 16, 9; "11 .. retired"
 abbrev pub showOrder : List ℕ
-showOrder = 9 ∷ 11 ∷ stateOrder
+showOrder = 9 ∷ stateOrder
 
--- "advancing drops 9": the record order, 10, 16, 11
+-- "advancing drops 9": the record order, 10, 16
 abbrev pub advanceOrder : List ℕ
-advanceOrder = 11 ∷ stateOrder
+advanceOrder = stateOrder
 
 -- ---- the record order
 
@@ -250,21 +249,15 @@ release-numbers s i e =
     andThen-numbered _ _ _ (wider _ stateOrder _ refl (ready-numbers s))
     (λ a. andThen-numbered _ _ _ (refuse-numbered _ (not (used s i)) _ (bare-numbered _ 12 (λ z. omega arith) refl))
     (λ b. andThen-numbered _ _ _ (refuse-numbered _ (not (within (kindAt s i .length) e)) _ (bare-numbered _ 13 (λ z. omega arith) refl))
-    (λ c. andThen-numbered _ _ _
-    (refuse-numbered _ (early (kindAt s i .separation) (unitOf s i) (gone s i)) _ (bare-numbered _ 14 (λ z. omega arith) refl))
-    (λ d. refuse-numbered _ (not (eqb (unitOf s i .left) 0)) _ (bare-numbered _ 15 (λ z. omega arith) refl)))))
+    (λ c. refuse-numbered _ (early (kindAt s i .separation) (unitOf s i)) _ (bare-numbered _ 14 (λ z. omega arith) refl))))
 
 -- `State::show`
 pub show-numbers : (s : State) (room : ℕ) → Numbered showOrder (showAnswer s room)
-unfolding showAnswer roomFor timeLeft covers among
+unfolding showAnswer roomFor covers among
 show-numbers s room =
     andThen-numbered _ _ _ (wider _ stateOrder _ refl (ready-numbers s))
-    (λ a. andThen-numbered _ _ _ (refuse-numbered _ (ltb room (s .plan .cards)) _ (bare-numbered _ 9 (λ z. omega arith) refl))
-    (λ b. refuse-numbered _ (eqb (s .clock) lastClock) _ (bare-numbered _ 11 (λ z. omega arith) refl)))
+    (λ a. refuse-numbered _ (ltb room (s .plan .cards)) _ (bare-numbered _ 9 (λ z. omega arith) refl))
 
 -- `State::advance`
 pub advance-numbers : (s : State) → Numbered advanceOrder (advanceAnswer s)
-unfolding advanceAnswer timeLeft covers among
-advance-numbers s =
-    andThen-numbered _ _ _ (wider _ stateOrder _ refl (ready-numbers s))
-    (λ a. refuse-numbered _ (eqb (s .clock) lastClock) _ (bare-numbered _ 11 (λ z. omega arith) refl))
+advance-numbers s = ready-numbers s

@@ -59,6 +59,6 @@ module _ (s : State) (ready : Ready s) where
 
   -- a project's kinds: as many as it holds cards, or all that have slices left
   pub project-cards : (j : ℕ) → j < s .plan .projects →
-      countTo (s .plan .cards) (λ card. namesProject (s .plan) j (rowByte s card)) ≡ min (held (s .plan) j (s .clock)) (activeKinds s j)
+      countTo (s .plan .cards) (λ card. namesProject (s .plan) j (rowByte s card)) ≡ min (held (s .plan) j (s .slice)) (activeKinds s j)
   unfolding namesProject ofProject cardsTaken
   project-cards j l = taken-cards s ready j l

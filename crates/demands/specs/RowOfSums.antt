@@ -78,7 +78,7 @@ ten-when = ten-exactly
 
 -- ---- 4. "If a bit flips in a sum or in any slices-left field, the next call must say so"
 
--- a state on which some call is good or refused by 9, 11 or 12 to 15, and any of its eight sums changed to any other value: every call
+-- a state on which some call is good or refused by 9 or by 12 to 14, and any of its eight sums changed to any other value: every call
 -- says so, with 10 where the place is beyond p and 16 elsewhere, hands the changed state back and leaves the row as it was
 pub sum-told : (s : State) (before : Call) → among ownNumbers (number (nextAfter s before .answer)) ≡ true → Places s →
     (j v : ℕ) → j < 8 → v ≢ sumAt s j →

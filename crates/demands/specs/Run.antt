@@ -12,7 +12,7 @@ use Rattle.rack.specs.State.{noState}
 use Rattle.rack.specs.Start.{startOf}
 use Rattle.rack.specs.Release.{releaseOf}
 use Rattle.rack.specs.Row.{rowOf}
-use Rattle.rack.specs.Show.{showAnswer}
+use Rattle.rack.specs.Show.{showAnswer, bufferShown}
 use Rattle.rack.specs.Advance.{advanceAnswer, advanceOf}
 pub mod Properties
 
@@ -27,6 +27,12 @@ abbrev pub nextAfter : State → Call → Next
 nextAfter s (show bytes) = record { answer = showAnswer s (length bytes); state = s }
 nextAfter s advance = advanceOf s
 nextAfter s (release i e) = releaseOf s i e
+
+-- what a call leaves in the row lent to it, as the contract of show says it; only a showing is lent one
+abbrev pub rowAfter : State → Call → List ℕ
+rowAfter s (show bytes) = bufferShown s bytes
+rowAfter s advance = []
+rowAfter s (release i e) = []
 
 -- the state that the last of the calls gives back
 unfoldable pub runFrom : State → List Call → State

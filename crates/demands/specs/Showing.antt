@@ -7,16 +7,14 @@ use mathlib.Core.List.{List, [], _∷_, _++_}
 use Prim.Native.Nat.{ℕ, zero, suc, _≤_, _<_}
 use native.Mathlib.Omega.{arith}
 use lib.ListN.{length, getD, take}
-use borrow.Author.Tests.{eq-eqb, ne-eqb}
 use Rattle.answer.specs.declared.Answer.{Answer}
 use Rattle.answer.specs.declared.Answer.the-variants.{Good, No}
 use Rattle.answer.specs.Answer.{number}
 use Rattle.answer.specs.Numbers.{among}
 use Rattle.rack.specs.declared.State.{State}
 use Rattle.rack.specs.declared.Next.{Next}
-use Rattle.rack.specs.State.{lastClock}
 use Rattle.rack.specs.Form.{ready}
-use Rattle.rack.specs.Advance.{timeLeft, advanceOf}
+use Rattle.rack.specs.Advance.{advanceOf}
 use Rattle.rack.specs.Advance.Properties.{advance-says}
 use Rattle.rack.specs.Show.{showAnswer, bufferShown, Shows}
 use Rattle.rack.specs.Show.Properties.{show-of, show-first, shown-length, shown-again}
@@ -84,15 +82,14 @@ no-nine s e = go (ready s) refl
     go Good q = omega (arith, ap number q)
     go (No w) q = true≢false (sym (ready-numbers s .its-number w q) ∙ ap (among stateOrder) e)
 
--- "advancing drops 9": where the showing is refused by 9, advancing is accepted, or says 11 if the clock has ended
+-- "advancing drops 9": where the showing is refused by 9, advancing is accepted
 pub short-advances : (s : State) (bytes after : List ℕ) (answer : Answer) →
     Shows s bytes answer after →
     number answer ≡ 9 →
-    (s .clock ≢ lastClock → advanceOf s .answer ≡ Good) × (s .clock ≡ lastClock → number (advanceOf s .answer) ≡ 11)
-unfolding advanceOf timeLeft
+    advanceOf s .answer ≡ Good
+unfolding advanceOf
 short-advances s bytes after answer shows nine =
-    let only = advance-short s (length bytes) (no-nine s) (ap number (sym (shows .result)) ∙ nine) in
-    (λ n. only ∙ rw (ne-eqb (s .clock) lastClock n), λ e. ap number only ∙ rw (eq-eqb (s .clock) lastClock e))
+    advance-short s (length bytes) (no-nine s) (ap number (sym (shows .result)) ∙ nine)
 
 -- ---- 3. "A release may fall between; the host then shows again"
 
@@ -147,6 +144,6 @@ slices-shown = along Each (λ s x l. absurd (omega arith)) first (λ s end i e s
 
     first : WithSlice Each
     first s end slices g h zero l bytes m =
-        let good = show-of s (length bytes) (record { advance = advance-says s g; enough = m }) in
+        let good = show-of s (length bytes) (record { ready = advance-says s g; enough = m }) in
         (good, show-first s bytes good)
     first s end slices g h (suc x) l bytes m = h x (omega arith) bytes m

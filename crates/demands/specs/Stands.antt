@@ -34,13 +34,13 @@ module _ (s : State) (i : ℕ) where
   module _ (card : ℕ) where
     -- the card's place among the project's: how many lower ones it holds
     abbrev place : ℕ
-    place = countTo card (holds (s .plan) j (s .clock))
+    place = countTo card (holds (s .plan) j (s .slice))
 
     place-is : countTo card (hasCard view) ≡ place
-    place-is = count-cong card (hasCard view) (holds (s .plan) j (s .clock)) (λ c l. sym (holds-has s j c))
+    place-is = count-cong card (hasCard view) (holds (s .plan) j (s .slice)) (λ c l. sym (holds-has s j c))
 
     abbrev Stands : Type 0
-    Stands = (InUse s i) × (0 < unitOf s i .left) × (holds (s .plan) j (s .clock) card ≡ true) × (rank s i ≡ place)
+    Stands = (InUse s i) × (0 < unitOf s i .left) × (holds (s .plan) j (s .slice) card ≡ true) × (rank s i ≡ place)
 
     takes-rank : takes s i card ≡ true → rank s i ≡ place
     unfolding takesCard rank
@@ -49,7 +49,7 @@ module _ (s : State) (i : ℕ) where
         let its-card = and-right (view .active i) (hasCard view card && ranked-there) t in
         eqb-true (rankOf view i) (countTo card (hasCard view)) (and-right (hasCard view card) ranked-there its-card) ∙ place-is
 
-    takes-of : 0 < unitOf s i .left → holds (s .plan) j (s .clock) card ≡ true → rank s i ≡ place → takes s i card ≡ true
+    takes-of : 0 < unitOf s i .left → holds (s .plan) j (s .slice) card ≡ true → rank s i ≡ place → takes s i card ≡ true
     unfolding takesCard rank
     takes-of w h r =
         let ranked-there = eqb (rankOf view i) (countTo card (hasCard view)) in
@@ -66,7 +66,7 @@ module _ (s : State) (i : ℕ) where
     stands-of ready t = row-is s ready card i (t .0) (takes-of (t .1) (t .2) (t .3))
 
   -- all of a project's kinds with slices left are among the first h, where they are no more than h
-  pub enough-served : Ready s → InUse s i → 0 < unitOf s i .left → activeKinds s j ≤ held (s .plan) j (s .clock) →
+  pub enough-served : Ready s → InUse s i → 0 < unitOf s i .left → activeKinds s j ≤ held (s .plan) j (s .slice) →
       served s i ≡ true
   unfolding viewOf served activeKinds activeIn
   enough-served ready l w enough =
@@ -74,6 +74,6 @@ module _ (s : State) (i : ℕ) where
       let cards = view-held s ready j (ready .order .kind-at i l .its-project) in
       chosen-of view i (is-active w) (omega (arith, below, cards))
 
-  pub enough-stand : Ready s → InUse s i → 0 < unitOf s i .left → activeKinds s j ≤ held (s .plan) j (s .clock) →
+  pub enough-stand : Ready s → InUse s i → 0 < unitOf s i .left → activeKinds s j ≤ held (s .plan) j (s .slice) →
       (card : ℕ) × (card < s .plan .cards) × (rowByte s card ≡ suc i)
   enough-stand ready l w enough = served-stands s ready i l (enough-served ready l w enough)

@@ -4,7 +4,7 @@ use mathlib.Core.Path.{_≡_, refl, ap, ap₂, _∙_}
 use mathlib.Core.Logic.{_≢_}
 use mathlib.Core.Bool.{true}
 use mathlib.Core.List.{List, [], _∷_}
-use Prim.Native.Nat.{ℕ, zero, suc, _≤_, _<_}
+use Prim.Native.Nat.{ℕ, zero, suc, _-_, _≤_, _<_}
 use native.Mathlib.Decide.{ℕ-discrete}
 use native.Mathlib.Omega.{arith}
 use lib.ListN.{length, take, replicate}
@@ -34,12 +34,13 @@ use Rattle.unit.specs.declared.Unit.{Unit}
 use Rattle.rack.specs.declared.State.{State}
 use Rattle.rack.specs.State.{freshOf, unitOf, kindAt, InUse, Places}
 use Rattle.rack.specs.Form.{Ready}
-use Rattle.rack.specs.Rank.{gone, active, activeKinds, served}
+use Rattle.rack.specs.Form.Properties.{unit-form}
+use Rattle.rack.specs.Rank.{active, activeKinds, served}
 use Rattle.rack.specs.Start.Properties.{fresh-form, fresh-places}
 use Rattle.rack.specs.Release.{released, releaseAnswer, releaseOf}
 use Rattle.rack.specs.Release.Properties.{release-says, release-unit, release-others, release-form, release-places}
-use Rattle.rack.specs.Advance.{advanced, advanceAnswer}
-use Rattle.rack.specs.Advance.Properties.{advance-says, advance-form, advance-places}
+use Rattle.rack.specs.Advance.{unitAfter, advanced, advanceAnswer}
+use Rattle.rack.specs.Advance.Properties.{after-left, advance-form, advance-places}
 use Rattle.demands.specs.View.{cardsFrom}
 use Rattle.demands.specs.Stands.{enough-served}
 use Rattle.demands.specs.Run.{Call, runFrom, accepted, slicesOf}
@@ -83,11 +84,39 @@ pub record Running (s : State) : Type 0 where
   pub ready : Ready s
   pub places : Places s
 
+-- ---- every kind with slices left is served
+
+all-served : (s : State) (i : ℕ) → Running s → InUse s i → 0 < unitOf s i .left → served s i ≡ true
+unfolding activeKinds
+all-served s i r l w =
+    let j = kindAt s i .project in
+    let its = r .ready .order .kind-at i l .its-project in
+    let first : j ≡ 0 = omega (arith, its, ap (λ (p : Plan). p .projects) (r .plan)) in
+    let cards = ap₂ (λ (p : Plan) (x : ℕ). held p x (s .slice)) (r .plan) first in
+    let two = held-least enoughCards order 0 (omega arith) (s .slice) in
+    let most = count-le (s .plan .kinds) (active s j) in
+    enough-served s i (r .ready) l w (omega (arith, cards, two, most, ap (λ (p : Plan). p .kinds) (r .plan)))
+
+-- ---- what every call keeps
+
+-- a unit has one slice, so after a slice nothing is left
+none-late : (s : State) → Running s → (i : ℕ) → InUse s i → 0 < unitAfter s i .left → unitAfter s i .gone < kindAt s i .deadline
+none-late s r i l w =
+    let v = unit-form s i (r .ready) l in
+    let k = r .ready .order .kind-at i l in
+    let below : i < 2 = omega (arith, l, ap (λ (p : Plan). p .kinds) (r .plan)) in
+    let same = ap (λ (p : Plan). kindOf p i .deadline) (r .plan) in
+    let some : 0 < unitOf s i .left = omega (arith, after-left s i) in
+    let fallen : unitAfter s i .left ≡ unitOf s i .left - 1 = rw (all-served s i r l some) at (after-left s i) in
+    absurd (omega (arith, fallen, v .left-most, k .length-most, same, one-slice i below .1))
+
 advance-running : (s : State) → advanceAnswer s ≡ Good → Running s → Running (advanced s)
 unfolding advanced
-advance-running s good r =
-    let may = advance-says s good in
-    record { plan = r .plan; ready = advance-form s may (r .places); places = advance-places s may (r .places) }
+advance-running s good r = record {
+  plan = r .plan;
+  ready = advance-form s (r .ready) (r .places) (none-late s r);
+  places = advance-places s (r .ready) (r .places);
+}
 
 release-running : (s : State) (k e : ℕ) → releaseAnswer s k e ≡ Good → Running s → Running (released s k e)
 unfolding released
@@ -107,26 +136,13 @@ run-running =
 fresh-running : Running (freshOf enoughCards)
 fresh-running = record { plan = refl; ready = fresh-form enoughCards order; places = fresh-places enoughCards }
 
--- ---- every kind with slices left is served
-
-all-served : (s : State) (i : ℕ) → Running s → InUse s i → 0 < unitOf s i .left → served s i ≡ true
-unfolding activeKinds
-all-served s i r l w =
-    let j = kindAt s i .project in
-    let its = r .ready .order .kind-at i l .its-project in
-    let first : j ≡ 0 = omega (arith, its, ap (λ (p : Plan). p .projects) (r .plan)) in
-    let cards = ap₂ (λ (p : Plan) (x : ℕ). held p x (s .clock)) (r .plan) first in
-    let two = held-least enoughCards order 0 (omega arith) (s .clock) in
-    let most = count-le (s .plan .kinds) (active s j) in
-    enough-served s i (r .ready) l w (omega (arith, cards, two, most, ap (λ (p : Plan). p .kinds) (r .plan)))
-
 -- ---- a unit that waits for its first slice gets it
 
 pub record Waits (i : ℕ) (s : State) : Type 0 where
   pub running : Running s
   pub its-kind : InUse s i
   pub released : unitOf s i .released ≡ true
-  pub now : unitOf s i .at ≡ s .clock
+  pub now : unitOf s i .gone ≡ 0
   pub left : unitOf s i .left ≡ 1
 
 module _ (i : ℕ) where
@@ -140,7 +156,7 @@ module _ (i : ℕ) where
       omega (arith, rw (all-served s i (u .running) (u .its-kind) (omega (arith, u .left))) at n)
 
   step-release : WithRelease Served
-  unfolding released gone
+  unfolding released
   step-release s end k e slices good h u enough =
       elim (ℕ-discrete i k) [ yes q ↦ absurd (again (rw (← q) at (release-says s k e good .start .separated))) | no q ↦ h (other q) enough ]
     where
@@ -148,7 +164,7 @@ module _ (i : ℕ) where
       below = omega (arith, u .its-kind, ap (λ (p : Plan). p .kinds) (u .running .plan))
 
       -- "fewer than T slices ago": none is gone
-      again : (unitOf s i .released ≡ true → kindAt s i .separation ≤ gone s i) → ⊥
+      again : (unitOf s i .released ≡ true → kindAt s i .separation ≤ unitOf s i .gone) → ⊥
       again separated =
           let same = ap (λ (p : Plan). kindOf p i .separation) (u .running .plan) in
           omega (arith, separated (u .released), u .now, same, one-slice i below .0)
@@ -160,7 +176,7 @@ module _ (i : ℕ) where
             running = release-running s k e good (u .running);
             its-kind = u .its-kind;
             released = ap (λ (x : Unit). x .released) v ∙ u .released;
-            now = ap (λ (x : Unit). x .at) v ∙ u .now;
+            now = ap (λ (x : Unit). x .gone) v ∙ u .now;
             left = ap (λ (x : Unit). x .left) v ∙ u .left;
           }
 
@@ -183,7 +199,7 @@ released-waits s i e r good =
         running = release-running s i e good r;
         its-kind = may .its-kind;
         released = ap (λ (x : Unit). x .released) v;
-        now = ap (λ (x : Unit). x .at) v;
+        now = ap (λ (x : Unit). x .gone) v;
         left = ap (λ (x : Unit). x .left) v ∙ one;
       },
     )

@@ -15,19 +15,18 @@ use Rattle.answer.specs.declared.Answer.{Answer}
 use Rattle.answer.specs.declared.Answer.the-variants.{Good, No}
 use Rattle.answer.specs.Answer.{bare, number, refuse, _andThen_}
 use Rattle.answer.specs.Numbers.{among, Numbered}
-use Rattle.answer.specs.Numbers.Properties.{bare-numbered, refuse-numbered, andThen-numbered}
+use Rattle.answer.specs.Numbers.Properties.{good-numbered, bare-numbered, refuse-numbered, andThen-numbered}
 use Rattle.plan.specs.Order.{within, InOrder, checked}
 use Rattle.plan.specs.Order.Properties.{in-order, in-order-good}
 use Rattle.unit.specs.Start.{early, startable}
 use Rattle.rack.specs.declared.State.{State}
-use Rattle.rack.specs.State.{lastClock, unitOf, kindAt, used, ProjectInUse, projectPlaces, sumAt}
+use Rattle.rack.specs.State.{unitOf, kindAt, used, ProjectInUse, projectPlaces, sumAt}
 use Rattle.rack.specs.Sums.{projectLeft, sumRight, sumsRight}
 use Rattle.rack.specs.Sums.Properties.{sums-say}
 use Rattle.rack.specs.Form.{InForm, Ready, inForm, sumsTold, ready}
 use Rattle.rack.specs.Form.Properties.{form-says, form-of, ready-says, ready-of}
-use Rattle.rack.specs.Rank.{gone}
 use Rattle.rack.specs.Release.{releaseAnswer, releaseOf}
-use Rattle.rack.specs.Advance.{timeLeft, advanceAnswer, advanceOf}
+use Rattle.rack.specs.Advance.{advanceOf}
 use Rattle.rack.specs.Show.{roomFor, showAnswer}
 use Rattle.demands.specs.Run.{Call, show, advance, release, nextAfter}
 use Rattle.demands.specs.Numbers.{recordOrder, stateOrder, check-numbers, ready-numbers}
@@ -37,28 +36,29 @@ use Rattle.demands.specs.Flipped.{ownNumbers}
 
 -- what comes after the state's own refusals
 restOf : State → Call → Answer
-restOf s (show bytes) = roomFor s (length bytes) andThen timeLeft s
-restOf s advance = timeLeft s
-restOf s (release i e) = refuse (not (used s i)) (bare 12) andThen startable (kindAt s i) (unitOf s i) (gone s i) e
+restOf s (show bytes) = roomFor s (length bytes)
+restOf s advance = Good
+restOf s (release i e) = refuse (not (used s i)) (bare 12) andThen startable (kindAt s i) (unitOf s i) e
 
 answered : (s : State) (call : Call) → nextAfter s call .answer ≡ (ready s andThen restOf s call)
-unfolding restOf showAnswer advanceAnswer advanceOf releaseAnswer releaseOf
+unfolding restOf showAnswer advanceOf releaseAnswer releaseOf
 answered s (show bytes) = refl
-answered s advance = refl
+answered s advance = alone (ready s)
+  where
+    alone : (a : Answer) → a ≡ (a andThen Good)
+    alone Good = refl
+    alone (No w) = refl
 answered s (release i e) = refl
 
 rest-numbers : (s : State) (call : Call) → Numbered ownNumbers (restOf s call)
-unfolding restOf roomFor timeLeft startable among
+unfolding restOf roomFor startable among
 rest-numbers s (show bytes) =
-    andThen-numbered _ _ _ (refuse-numbered _ (ltb (length bytes) (s .plan .cards)) _ (bare-numbered _ 9 (λ z. omega arith) refl))
-    (λ b. refuse-numbered _ (eqb (s .clock) lastClock) _ (bare-numbered _ 11 (λ z. omega arith) refl))
-rest-numbers s advance = refuse-numbered _ (eqb (s .clock) lastClock) _ (bare-numbered _ 11 (λ z. omega arith) refl)
+    refuse-numbered _ (ltb (length bytes) (s .plan .cards)) _ (bare-numbered _ 9 (λ z. omega arith) refl)
+rest-numbers s advance = good-numbered _
 rest-numbers s (release i e) =
     andThen-numbered _ _ _ (refuse-numbered _ (not (used s i)) _ (bare-numbered _ 12 (λ z. omega arith) refl))
     (λ b. andThen-numbered _ _ _ (refuse-numbered _ (not (within (kindAt s i .length) e)) _ (bare-numbered _ 13 (λ z. omega arith) refl))
-    (λ c. andThen-numbered _ _ _
-    (refuse-numbered _ (early (kindAt s i .separation) (unitOf s i) (gone s i)) _ (bare-numbered _ 14 (λ z. omega arith) refl))
-    (λ d. refuse-numbered _ (not (eqb (unitOf s i .left) 0)) _ (bare-numbered _ 15 (λ z. omega arith) refl))))
+    (λ c. refuse-numbered _ (early (kindAt s i .separation) (unitOf s i)) _ (bare-numbered _ 14 (λ z. omega arith) refl)))
 
 -- a number of no such list is the state's own
 own-first : (listed : List ℕ) (a b : Answer) (n : ℕ) → among listed n ≡ false → n ≢ 0 → Numbered listed b →
@@ -180,7 +180,7 @@ module _ (s : State) (call : Call) where
         λ h. ap number (answered s call) ∙ own .1 (sixteen-ready s .1 h),
       )
 
-  -- a call that is good, or refused by 9, 11 or 12 to 15, found nothing wrong with the state
+  -- a call that is good, or refused by 9 or by 12 to 14, found nothing wrong with the state
   pub taken-ready : among ownNumbers (number (nextAfter s call .answer)) ≡ true → Ready s
   unfolding among disjoint
   taken-ready e = ready-says s (go (ready s) refl)

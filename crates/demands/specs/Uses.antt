@@ -50,14 +50,14 @@ use Rattle.demands.specs.Outcomes.{showing, showing-refused, advancing, 
 use Rattle.demands.specs.Verdicts.{admitted-when, least-given, refused-when, written-then-read, read-then-written, only-encoding}
 use Rattle.demands.specs.Verdicts.{stands-when, nothing-left, all-stand, on-its-own, earliest-first, ascending, none-idle}
 use Rattle.demands.specs.Deadlines.{in-time, in-time-so-far, left-in-time, rows-orderly, rows-serve, one-kind-a-card, rows-name}
-use Rattle.demands.specs.Deadlines.{served-apart, budget-at-most, budget-exactly, never-out-of-form, never-left-over, told-early}
-use Rattle.demands.specs.Deadlines.{clock-tells, left-shown, last-shown, unit-shown, in-time-shown, work-shown, budget-shown}
+use Rattle.demands.specs.Deadlines.{served-apart, budget-at-most, budget-exactly, never-out-of-form, runs-for-ever, told-early}
+use Rattle.demands.specs.Deadlines.{slice-tells, gone-tells, left-shown, unit-shown, in-time-shown, work-shown, budget-shown}
 use Rattle.demands.specs.Showing.{row-shown, shown-twice, shown-alike, pair-is-slice, short-advances, shown-after-release}
 use Rattle.demands.specs.Showing.{showings-move-nothing, slices-shown}
 use Rattle.demands.specs.Sufficient.{runs-well}
 use Rattle.demands.specs.Uses.Figures.{tick, releases, threeSlices, fourSlices, example, rows, earlier, later, begun, fourRows}
 use Rattle.demands.specs.Uses.Bytes.{are-bytes}
-use Rattle.demands.specs.Uses.Figures.{oneSlice, ended, running, longer, both, waiting, verdicts, ranks, answers}
+use Rattle.demands.specs.Uses.Figures.{oneSlice, past, running, longer, both, waiting, verdicts, ranks, answers}
 pub mod Bytes
 pub mod Figures
 pub mod Worst
@@ -69,6 +69,7 @@ pub mod OneKind
 pub mod RowOfSums
 pub mod KindFigures
 pub mod Rescue
+pub mod NoClock
 
 -- ---- demand 1: one outcome, and a refusal that changes nothing
 
@@ -123,8 +124,8 @@ gives-none = judging-refused longer (λ z. omega (arith, verdicts .eight .0)) .0
 pub gives-no-slice : judged longer .slice ≡ replicate 16 0
 gives-no-slice = judging-refused longer (λ z. omega (arith, verdicts .eight .0)) .1
 
-pub starts-at-none : starting planA .outcome .state .clock ≡ 0
-starts-at-none = ap (λ (n : Next). n .state .clock) (starting planA .meets ∙ answers .starts)
+pub starts-at-none : starting planA .outcome .state .slice ≡ 0
+starts-at-none = ap (λ (n : Next). n .state .slice) (starting planA .meets ∙ answers .starts)
 
 pub starts-nothing : startOf longer .state ≡ noState
 starts-nothing = starting-refused longer (λ z. omega (arith, answers .start-eight))
@@ -155,12 +156,12 @@ shows-nothing a left c = showing-refused (after planA releases) (7 ∷ []) left 
     refused : number a ≢ 0
     refused z = omega (arith, ap number (c .result), running .show-told)
 
--- an advance raises the clock, and at its end it does not
-pub advances-one : advancing (after planA releases) .outcome .state .clock ≡ 1
-advances-one = ap (λ (n : Next). n .state .clock) (advancing (after planA releases) .meets) ∙ running .advance-clock
+-- an advance moves the slice, and one past the frame stays
+pub advances-one : advancing (after planA releases) .outcome .state .slice ≡ 1
+advances-one = ap (λ (n : Next). n .state .slice) (advancing (after planA releases) .meets) ∙ running .advance-slice
 
-pub advances-nothing : advanceOf ended .state ≡ ended
-advances-nothing = advancing-refused ended (λ z. omega (arith, running .advance-ended))
+pub advances-nothing : advanceOf past .state ≡ past
+advances-nothing = advancing-refused past (λ z. omega (arith, running .advance-past))
 
 -- ---- demand 1: the numbers
 
@@ -199,8 +200,8 @@ release-excess = release-numbers (after planA fourSlices) 2 1 .its-excess (λ z.
 pub show-place : place (showAnswer (after planA releases) 1) ≡ 0
 show-place = show-numbers (after planA releases) 1 .its-place (ap (among placed) (running .show-told) ∙ answers .nine-bare)
 
-pub advance-excess : excess (advanceAnswer ended) ≡ 0
-advance-excess = advance-numbers ended .its-excess (λ z. omega (arith, running .advance-told))
+pub advance-excess : excess (advanceAnswer past) ≡ 0
+advance-excess = advance-numbers past .its-excess (λ z. omega (arith, running .advance-told))
 
 pub ready-excess : (s : State) → number (ready s) ≢ 8 → excess (ready s) ≡ 0
 ready-excess s = ready-numbers s .its-excess
@@ -345,7 +346,7 @@ none-to-come =
 
 pub none-left : unitOf (runFrom begun later) 1 .left ≤ 0
 none-left =
-    rw (running .four-rows) at (left-in-time planA (running .admitted-A) earlier later 1 2 (running .kind-one) (running .still-last))
+    rw (running .four-rows) at (left-in-time planA (running .admitted-A) earlier later 1 2 (running .kind-one) (running .not-again))
 
 -- and where there are as many cards as kinds, two units of one slice have it in the same slice, on a refused plan
 pub one-in-one : bytesNaming (namesKind 1) (take 1 oneSlice) ≡ 1
@@ -407,14 +408,11 @@ three-by-rows = budget-shown planA (running .admitted-A) example 0 0 (omega arit
 pub one-by-rows : kindsLeft planA 0 (upTo 0 (shown (startOf planA .state) example)) ≡ 1
 one-by-rows = sym (work-shown planA (running .admitted-A) example 0 0 (omega (arith, running .rows-long)) .1) ∙ running .one-active
 
--- ---- demand 3: refusals on the way, and the clock
+-- ---- demand 3: refusals on the way, and the slice
 
 -- the release of kind 1 at exactly its separation
 pub not-ten : number (nextAfter (after planA fourSlices) (release 1 2) .answer) ≢ 10
 not-ten = never-out-of-form planA (running .admitted-A) fourSlices (release 1 2)
-
-pub not-fifteen : number (nextAfter (after planA fourSlices) (release 1 2) .answer) ≢ 15
-not-fifteen = never-left-over planA (running .admitted-A) fourSlices (release 1 2)
 
 pub not-fourteen : number (releaseOf (after planA fourSlices) 1 2 .answer) ≢ 14
 not-fourteen h = true≢false (sym (told-early planA (running .admitted-A) fourSlices 1 2 .0 h .2) ∙ rw (running .since-four))
@@ -423,8 +421,12 @@ not-fourteen h = true≢false (sym (told-early planA (running .admitted-A) fourS
 pub fourteen : number (releaseOf (after planA threeSlices) 1 2 .answer) ≡ 14
 fourteen = told-early planA (running .admitted-A) threeSlices 1 2 .1 (omega arith, running .fits, rw (running .since-three))
 
-pub four : after planA example .clock ≡ 4
-four = clock-tells planA (running .admitted-A) example ∙ running .rows-long
+-- four slices are a whole frame, and the rack runs on
+pub turned : after planA example .slice ≡ 0
+turned = slice-tells planA (running .admitted-A) example ∙ rw (running .rows-long)
+
+pub runs-on : advanceOf (after planA example) .answer ≡ Good
+runs-on = runs-for-ever planA (running .admitted-A) example
 
 -- ---- demand 3: from what the example shows
 
@@ -432,9 +434,9 @@ four = clock-tells planA (running .admitted-A) example ∙ running .rows-long
 pub one-named : leftOf (lastFrom 2 none (shown (startOf planA .state) threeSlices)) ≡ 1
 one-named = sym (left-shown planA (running .admitted-A) threeSlices 2 (omega arith)) ∙ running .one-left
 
--- kind 1 is not released again in its four slices, and all that was asked is named or left
-pub not-again : restarted 1 (shown begun later) ≡ false
-not-again = last-shown planA (running .admitted-A) earlier later 1 2 (running .kind-one) .0 (running .still-last)
+-- kind 1 is not released again in its four slices: as many are gone, and all that was asked is named or left
+pub four-gone : unitOf (runFrom begun later) 1 .gone ≡ 4
+four-gone = gone-tells planA (running .admitted-A) earlier later 1 2 (running .kind-one) (running .not-again) ∙ rw (running .four-rows)
 
 pub named-or-left : unitOf (runFrom begun later) 1 .left + bytesNaming (namesKind 1) fourRows ≡ 2
 named-or-left = unit-shown planA (running .admitted-A) earlier later 1 2 (running .kind-one) (running .not-again)
@@ -456,7 +458,8 @@ twice again last second =
     shown-twice (after planA releases) (7 ∷ 7 ∷ 7 ∷ []) (1 ∷ 2 ∷ 7 ∷ []) Good (running .shows) again last second .1
 
 -- and so it is in any other lent row
-pub whatever-stood : (bytes left : List ℕ) (a : Answer) → Shows (after planA releases) bytes a left → number a ≡ 0 → 1 ∷ 2 ∷ [] ≡ take 2 left
+pub whatever-stood : (bytes left : List ℕ) (a : Answer) → Shows (after planA releases) bytes a left → number a ≡ 0 →
+    1 ∷ 2 ∷ [] ≡ take 2 left
 whatever-stood bytes left a c good =
     rw (running .first-cards) at
     (shown-alike (after planA releases) (7 ∷ 7 ∷ 7 ∷ []) bytes (1 ∷ 2 ∷ 7 ∷ []) left Good a (running .shows) c refl good)
@@ -467,15 +470,12 @@ one-call =
     let s = after planA releases in
     pair-is-slice s (7 ∷ 7 ∷ 7 ∷ []) (1 ∷ 2 ∷ 7 ∷ []) Good (advanceOf s) (running .shows) refl (omega arith) .0
 
--- a row that is too short keeps nobody from advancing, but for the clock's end
-pub short-row : (a : Answer) (left : List ℕ) → Shows (after planA releases) (7 ∷ []) a left → advanceOf (after planA releases) .answer ≡ Good
+-- a row that is too short keeps nobody from advancing
+pub short-row : (a : Answer) (left : List ℕ) → Shows (after planA releases) (7 ∷ []) a left →
+    advanceOf (after planA releases) .answer ≡ Good
 short-row a left c =
     let nine : number a ≡ 9 = ap number (c .result) ∙ running .show-told in
-    let early : after planA releases .clock ≢ 1000000000 = λ z. omega (arith, running .first-clock) in
-    short-advances (after planA releases) (7 ∷ []) left a c nine .0 early
-
-pub short-at-the-end : number (advanceOf ended .answer) ≡ 11
-short-at-the-end = short-advances ended [] [] _ (running .ended-short) refl .1 refl
+    short-advances (after planA releases) (7 ∷ []) left a c nine
 
 -- kind 1 is released after a showing: the row shown then has it
 pub shown-anew : 1 ∷ 2 ∷ [] ≡ rowOf begun
@@ -492,8 +492,8 @@ shown-before =
 pub nine-calls : length (handedBack (startOf planA .state) example) ≡ 9
 nine-calls = sym (ap length (showings-move-nothing example (startOf planA .state) .1)) ∙ running .unshown-nine
 
-pub four-still : after planA (unshown example) .clock ≡ 4
-four-still = ap (λ (s : State). s .clock) (showings-move-nothing example (startOf planA .state) .0) ∙ four
+pub turned-still : after planA (unshown example) .slice ≡ 0
+turned-still = ap (λ (s : State). s .slice) (showings-move-nothing example (startOf planA .state) .0) ∙ turned
 
 -- and each of the four has the row that showing gives on its state
 pub third-shown : let slice = getD rows 2 noSlice in (bytes : List ℕ) → slice .before .plan .cards ≤ length bytes →

@@ -109,9 +109,9 @@ module _ (s : State) (ready : Ready s) where
   -- the project's: as many kinds with slices left outrank it as the project holds lower cards
   pub stands-when : (card i : ℕ) →
       let j = kindAt s i .project in
-      let place = countTo card (holds (s .plan) j (s .clock)) in
+      let place = countTo card (holds (s .plan) j (s .slice)) in
       (rowByte s card ≡ suc i) ↔
-      ((i < s .plan .kinds) × (0 < unitOf s i .left) × (holds (s .plan) j (s .clock) card ≡ true) × (rank s i ≡ place))
+      ((i < s .plan .kinds) × (0 < unitOf s i .left) × (holds (s .plan) j (s .slice) card ≡ true) × (rank s i ≡ place))
   stands-when card i = (stands-says s i card, stands-of s i card ready)
 
   -- so a kind with nothing left stands nowhere
@@ -123,12 +123,12 @@ module _ (s : State) (ready : Ready s) where
       let j = kindAt s i .project in
       i < s .plan .kinds →
       0 < unitOf s i .left →
-      activeKinds s j ≤ held (s .plan) j (s .clock) →
+      activeKinds s j ≤ held (s .plan) j (s .slice) →
       (card : ℕ) × (card < s .plan .cards) × (rowByte s card ≡ suc i)
   all-stand i = enough-stand s i ready
 
   -- a kind stands on a card that its own project holds
-  pub on-its-own : (card i : ℕ) → rowByte s card ≡ suc i → holds (s .plan) (kindAt s i .project) (s .clock) card ≡ true
+  pub on-its-own : (card i : ℕ) → rowByte s card ≡ suc i → holds (s .plan) (kindAt s i .project) (s .slice) card ≡ true
   on-its-own = stands-held s ready
 
   -- it goes before every kind of its project with slices left that stands on no card
@@ -153,7 +153,7 @@ module _ (s : State) (ready : Ready s) where
   -- no card of a project with enough work is idle
   pub none-idle : (j card : ℕ) →
       j < s .plan .projects →
-      holds (s .plan) j (s .clock) card ≡ true →
-      held (s .plan) j (s .clock) ≤ activeKinds s j →
+      holds (s .plan) j (s .slice) card ≡ true →
+      held (s .plan) j (s .slice) ≤ activeKinds s j →
       0 < rowByte s card
   none-idle = cards-used s ready

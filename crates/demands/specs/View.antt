@@ -1,5 +1,5 @@
--- A project's view of a plan and of a state: the quantities that the theory speaks of. They are counted from now; what stands on them
--- reads no clock, and so counts on none that rises.
+-- A project's view of a plan and of a state: the quantities that the theory speaks of. They are counted from now: no clock is read, and
+-- there is none.
 -- Assumes nothing.
 use Prim.Native.Nat.{ℕ, _+_, _-_}
 use mathlib.Core.Bool.{cond}
@@ -13,7 +13,7 @@ use Rattle.supply.specs.Supply.{supply}
 use Rattle.verdict.specs.Verdict.{judged}
 use Rattle.rack.specs.declared.State.{State}
 use Rattle.rack.specs.State.{unitOf, kindAt}
-use Rattle.rack.specs.Rank.{gone, until, viewOf}
+use Rattle.rack.specs.Rank.{until, viewOf}
 use Rattle.analysis.specs.Setup.{Setup}
 use Rattle.analysis.specs.Moment.{Moment}
 pub mod Properties
@@ -39,7 +39,7 @@ cardsFrom s j x = let v = viewOf s j in heldFrom (v .first) (v .budget) (v .fram
 
 -- the slices until a kind's next unit may be released
 unfoldable pub waitOf : State → ℕ → ℕ
-waitOf s i = cond (unitOf s i .released) (kindAt s i .separation - gone s i) 0
+waitOf s i = cond (unitOf s i .released) (kindAt s i .separation - unitOf s i .gone) 0
 
 -- where project j stands in a state
 abbrev pub momentOf : State → ℕ → Moment

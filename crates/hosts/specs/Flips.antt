@@ -25,9 +25,9 @@ pub mod Properties
 abbrev pub sumByte : ℕ → ℕ → ℕ
 sumByte j b = sumPlace j + b
 
--- byte b of the two of kind i's slices left: behind the released byte and the four of the release clock
+-- byte b of the two of kind i's slices left: behind the released byte and the two of the slices gone
 abbrev pub leftByte : ℕ → ℕ → ℕ
-leftByte i b = unitPlace i + 5 + b
+leftByte i b = unitPlace i + 3 + b
 
 -- a byte with bit k flipped
 unfoldable pub flipBit : ℕ → ℕ → ℕ

@@ -1,6 +1,6 @@
--- A flip is told, at the C interface: any image of a state on which a call was good, or refused by the row's 9, by 11 or by 12 to 15; any
--- one byte of a sum or of slices left in it changed, of which a single flipped bit is a case; and any call on the bytes that then
--- stand there.
+-- A flip is told, at the C interface: any image of a state on which a call was good, or refused by the row's 9 or by 12 to 14; any one
+-- byte of a sum or of slices left in it changed, of which a single flipped bit is a case; and any call on the bytes that then stand
+-- there.
 -- Assumes nothing.
 use mathlib.Core.Path.{_≡_, refl, sym, ap, subst, _∙_}
 use mathlib.Core.Logic.{_≢_}

@@ -6,7 +6,7 @@ use mathlib.Core.Path.{_≡_, refl, sym, ap, subst, _∙_}
 use mathlib.Core.Logic.{_≢_, _↔_}
 use mathlib.Core.Bool.{Bool, true}
 use mathlib.Core.List.{List, [], _∷_, _++_}
-use Prim.Native.Nat.{ℕ, _+_, _≤_, _<_}
+use Prim.Native.Nat.{ℕ, _+_, _%_, _≤_, _<_}
 use native.Mathlib.Omega.{arith}
 use lib.ListN.{length, getD, take, drop}
 use Rattle.answer.specs.declared.Answer.{Answer}
@@ -223,13 +223,13 @@ module _ (plan state first : List ℕ) (word : ℕ) (fresh : Starts plan state w
         ∙ rack.budget-shown p admitted calls x j l m
         (λ y k. subst (λ (es : List Event). held p j (x + y) ≤ kindsLeft p j (upTo (x + y) es)) events-are (busy y k))
 
-    -- ---- 5. The clock
+    -- ---- 5. The slice within the frame
 
-    -- it is the number of accepted slices since the fresh start
-    pub clock-tells : stateFrom end .clock ≡ length (rowsSeen (p .cards) calls seens)
-    clock-tells =
-        ap (λ (s : State). s .clock) state-found ∙ rack.clock-tells p admitted calls
-        ∙ sym (ap length rows-are ∙ rows-count (slicesOf (startOf p .state) calls))
+    -- it is the number of accepted slices since the fresh start, modulo F
+    pub slice-tells : stateFrom end .slice ≡ length (rowsSeen (p .cards) calls seens) % p .frame
+    slice-tells =
+        ap (λ (s : State). s .slice) state-found ∙ rack.slice-tells p admitted calls
+        ∙ ap (λ (n : ℕ). n % p .frame) (sym (ap length rows-are ∙ rows-count (slicesOf (startOf p .state) calls)))
 
     -- ---- a release after these calls
 
@@ -364,7 +364,7 @@ module _ (plan state first : List ℕ) (word : ℕ) (fresh : Starts plan state w
     pub row-right : stateFrom end .sum ≡ leftRow (stateFrom end)
     row-right = rw state-found (sums.row-right p admitted calls)
 
-    -- 15 never occurs
-    pub never-left-over : (call : Call) (seen : Seen) (next : List ℕ) → Called end call seen next → numberIn (seen .word) ≢ 15
-    never-left-over call seen next c z =
-        rack.never-left-over p admitted calls call (sym (seen-number (after p calls) call seen (next-is-run call seen next c .0)) ∙ z)
+    -- every advance is accepted: a rack runs for ever
+    pub runs-for-ever : (seen : Seen) (next : List ℕ) → Called end advance seen next → numberIn (seen .word) ≡ 0
+    runs-for-ever seen next c =
+        seen-number (after p calls) advance seen (next-is-run advance seen next c .0) ∙ ap number (rack.runs-for-ever p admitted calls)

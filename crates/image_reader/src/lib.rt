@@ -7,8 +7,8 @@ ghost use Rattle.codec.specs.Bytes.{numberTo};
 ghost use Rattle.answer.specs.declared.Answer.the-variants.{No};
 ghost use Rattle.answer.specs.Answer.{bare, _andThen_};
 ghost use Rattle.plan.specs.Order.{checked};
-ghost use Rattle.images.specs.Image.{planSize, stateSize, clockPlace, unitWidths, field};
-ghost use Rattle.images.specs.Image.{projectFrom, kindFrom, clockFrom, unitFrom, sumFrom};
+ghost use Rattle.images.specs.Image.{planSize, stateSize, slicePlace, unitWidths, field, projectFrom, kindFrom, sliceFrom, unitFrom};
+ghost use Rattle.images.specs.Image.{sumFrom};
 ghost use Rattle.images.specs.Image.{projectsFrom, kindsFrom, unitsFrom, sumsFrom, planFrom, stateFrom, releasedTold};
 ghost use Rattle.images.specs.Lent.{planFound, stateFound};
 use answer::Answer;
@@ -17,8 +17,6 @@ use images::BITS_16;
 use images::BITS_24;
 use images::BITS_32;
 use images::BITS_48;
-use images::CLOCK;
-use images::CLOCK_AT;
 use images::COUNTS;
 use images::KIND;
 use images::KINDS_AT;
@@ -26,6 +24,8 @@ use images::PLAN;
 use images::PROJECT;
 use images::PROJECTS_AT;
 use images::PlanFound;
+use images::SLICE;
+use images::SLICE_AT;
 use images::STATE;
 use images::SUM;
 use images::SUMS_AT;
@@ -113,22 +113,22 @@ fn plan_from(s: &[u8]) -> Plan
     }
 }
 
-fn clock_from(s: &[u8]) -> u32
+fn slice_from(s: &[u8]) -> u8
     requires { ⌜ stateSize ≤ length (now s) ⌝ }
-    ensures { λ r. ⌜ r ≡ clockFrom (drop clockPlace (now (s .entry))) ⌝ }
+    ensures { λ r. ⌜ r ≡ sliceFrom (drop slicePlace (now (s .entry))) ⌝ }
 {
-    (fields(s, CLOCK_AT, CLOCK) % BITS_32) as u32
+    (fields(s, SLICE_AT, SLICE) % BITS_8) as u8
 }
 
 fn unit_from(s: &[u8], at: usize) -> Unit
-    requires { ⌜ at + 7 ≤ length (now s) ⌝ }
+    requires { ⌜ at + 5 ≤ length (now s) ⌝ }
     ensures { λ r. ⌜ r ≡ unitFrom (drop at (now (s .entry))) ⌝ }
 {
     let fields = fields(s, at, UNIT);
     Unit {
-        at: (fields / BITS_16 % BITS_32) as u32,
+        gone: (fields / BITS_16 % BITS_16) as u16,
         left: (fields % BITS_16) as u16,
-        released: fields / BITS_48 % BITS_8 == 1,
+        released: fields / BITS_32 % BITS_8 == 1,
     }
 }
 
@@ -166,12 +166,12 @@ fn state_from(s: &[u8]) -> State
     ensures { λ r. ⌜ r ≡ stateFrom (now (s .entry)) ⌝ }
 {
     let plan = plan_from(s);
-    let clock = clock_from(s);
+    let slice = slice_from(s);
     let unit = units_from(s);
     let sum = sums_from(s);
     State {
         plan,
-        clock,
+        slice,
         unit,
         sum,
     }
@@ -179,10 +179,10 @@ fn state_from(s: &[u8]) -> State
 
 // A unit's released byte.
 fn released_at(s: &[u8], at: usize) -> u64
-    requires { ⌜ at + 7 ≤ length (now s) ⌝ }
+    requires { ⌜ at + 5 ≤ length (now s) ⌝ }
     ensures { λ r. ⌜ r ≡ field unitWidths (drop at (now (s .entry))) 0 ⌝ }
 {
-    fields(s, at, UNIT) / BITS_48 % BITS_8
+    fields(s, at, UNIT) / BITS_32 % BITS_8
 }
 
 // Whether every released byte is 0 or 1.

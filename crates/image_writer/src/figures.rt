@@ -1,7 +1,7 @@
 // The figures of a kind stored as bytes. Offsets and widths are those that crate `images` states.
 ghost use mathlib.Core.Path.{_≡_};
 ghost use mathlib.Core.List.{[], _∷_, _++_};
-ghost use Prim.Native.Nat.{_+_, _≤_};
+ghost use Prim.Native.Nat.{_+_, _≤_, _<_};
 ghost use lib.ListN.{length, drop};
 ghost use lib.Seq.{sets};
 ghost use Rattle.codec.specs.Place.{sizeOf, placed};
@@ -10,7 +10,6 @@ ghost use Rattle.images.specs.FiguresImage.{numberWidths, sliceWidths, figuresS
 ghost use Rattle.images.specs.FiguresImage.{figuresImage, StoresFigures};
 use crate::put_fields;
 use crate::wide;
-use crate::widest;
 use answer::Answer;
 use plan::Plan;
 use verdict::Figures;
@@ -25,6 +24,12 @@ const SUPPLY_AT: usize = NUMBER;
 const SLICES_AT: usize = SUPPLY_AT + 8 * NUMBER;
 
 const FIGURES: usize = SLICES_AT + 8 * SLICE;
+
+fn widest(x: u32) -> u64
+    ensures { λ r. ⌜ (r ≡ x) × (r < 4294967296) ⌝ }
+{
+    x as u64
+}
 
 fn put_figure(figure: u32, out: &mut [u8], at: usize)
     requires { ⌜ at + 4 ≤ length (now out) ⌝ }

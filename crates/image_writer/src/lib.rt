@@ -12,9 +12,9 @@ ghost use lib.Seq.{sets};
 ghost use Rattle.codec.specs.Bytes.{bytesOf};
 ghost use Rattle.codec.specs.Place.{sizeOf, placed};
 ghost use Rattle.codec.specs.Places.{putTo};
-ghost use Rattle.images.specs.Image.{countWidths, projectWidths, kindWidths, clockWidths, unitWidths, sumWidths, planSize, stateSize};
-ghost use Rattle.images.specs.Image.{projectPlace, kindPlace, clockPlace, unitPlace};
-ghost use Rattle.images.specs.Image.{sumPlace, countFields, projectFields, kindFields, unitFields};
+ghost use Rattle.images.specs.Image.{countWidths, projectWidths, kindWidths, sliceWidths, unitWidths, sumWidths, planSize, stateSize};
+ghost use Rattle.images.specs.Image.{projectPlace, kindPlace, slicePlace, unitPlace, sumPlace, countFields, projectFields, kindFields};
+ghost use Rattle.images.specs.Image.{unitFields};
 ghost use Rattle.images.specs.Image.{projectBytesAt, kindBytesAt, unitBytesAt, sumBytesAt, planImage, stateImage};
 ghost use Rattle.images.specs.Lent.{StoresPlan, StoresState};
 use answer::Answer;
@@ -23,14 +23,14 @@ use images::BITS_16;
 use images::BITS_24;
 use images::BITS_32;
 use images::BITS_48;
-use images::CLOCK;
-use images::CLOCK_AT;
 use images::COUNTS;
 use images::KIND;
 use images::KINDS_AT;
 use images::PLAN;
 use images::PROJECT;
 use images::PROJECTS_AT;
+use images::SLICE;
+use images::SLICE_AT;
 use images::STATE;
 use images::SUM;
 use images::SUMS_AT;
@@ -50,12 +50,6 @@ fn wide(x: u8) -> u64
 
 fn wider(x: u16) -> u64
     ensures { λ r. ⌜ (r ≡ x) × (r < 65536) ⌝ }
-{
-    x as u64
-}
-
-fn widest(x: u32) -> u64
-    ensures { λ r. ⌜ (r ≡ x) × (r < 4294967296) ⌝ }
 {
     x as u64
 }
@@ -109,18 +103,18 @@ fn put_kind(kind: Kind, out: &mut [u8], at: usize)
 }
 
 fn put_unit(unit: Unit, out: &mut [u8], at: usize)
-    requires { ⌜ at + 7 ≤ length (now out) ⌝ }
+    requires { ⌜ at + 5 ≤ length (now out) ⌝ }
     ensures { λ _. ⌜ now (out .exit) ≡ sets (now (out .entry)) at (placed unitWidths (unitFields unit)) ⌝ }
 {
-    let fields = flag(unit.released) * BITS_48 + widest(unit.at) * BITS_16 + wider(unit.left);
+    let fields = flag(unit.released) * BITS_32 + wider(unit.gone) * BITS_16 + wider(unit.left);
     put_fields(fields, UNIT, out, at);
 }
 
-fn put_clock(clock: u32, out: &mut [u8])
+fn put_slice(slice: u8, out: &mut [u8])
     requires { ⌜ stateSize ≤ length (now out) ⌝ }
-    ensures { λ _. ⌜ now (out .exit) ≡ sets (now (out .entry)) clockPlace (placed clockWidths (clock ∷ [])) ⌝ }
+    ensures { λ _. ⌜ now (out .exit) ≡ sets (now (out .entry)) slicePlace (placed sliceWidths (slice ∷ [])) ⌝ }
 {
-    put_fields(widest(clock), CLOCK, out, CLOCK_AT);
+    put_fields(wide(slice), SLICE, out, SLICE_AT);
 }
 
 fn put_sum(sum: u16, out: &mut [u8], at: usize)
@@ -184,7 +178,7 @@ fn store_state(state: State, out: &mut [u8])
     ensures { λ _. ⌜ now (out .exit) ≡ stateImage state ++ drop stateSize (now (out .entry)) ⌝ }
 {
     store_plan(state.plan, out);
-    put_clock(state.clock, out);
+    put_slice(state.slice, out);
     put_units(state, out);
     put_sums(state, out);
 }

@@ -34,13 +34,13 @@ projectWidths = 8 ∷ 16 ∷ []
 abbrev pub kindWidths : List ℕ
 kindWidths = 8 ∷ 16 ∷ 16 ∷ 16 ∷ []
 
--- clock u32
-abbrev pub clockWidths : List ℕ
-clockWidths = 32 ∷ []
+-- slice u8
+abbrev pub sliceWidths : List ℕ
+sliceWidths = 8 ∷ []
 
--- released u8, release clock u32, left u16
+-- released u8, slices gone u16, left u16
 abbrev pub unitWidths : List ℕ
-unitWidths = 8 ∷ 32 ∷ 16 ∷ []
+unitWidths = 8 ∷ 16 ∷ 16 ∷ []
 
 -- document 02 (vii), a sum: u16
 abbrev pub sumWidths : List ℕ
@@ -52,9 +52,9 @@ sumWidths = 16 ∷ []
 abbrev pub planRows : List Row
 planRows = row 1 countWidths ∷ row 8 projectWidths ∷ row 16 kindWidths ∷ []
 
--- a state's: its plan's, the clock, 16 units, 8 sums
+-- a state's: its plan's, the slice, 16 units, 8 sums
 abbrev pub stateRows : List Row
-stateRows = planRows ++ (row 1 clockWidths ∷ row 16 unitWidths ∷ row 8 sumWidths ∷ [])
+stateRows = planRows ++ (row 1 sliceWidths ∷ row 16 unitWidths ∷ row 8 sumWidths ∷ [])
 
 -- the bytes of a plan's image
 abbrev pub planSize : ℕ
@@ -72,9 +72,9 @@ projectPlace j = placeAt stateRows 1 j
 abbrev pub kindPlace : ℕ → ℕ
 kindPlace i = placeAt stateRows 2 i
 
--- where the clock starts
-abbrev pub clockPlace : ℕ
-clockPlace = placeAt stateRows 3 0
+-- where the slice starts
+abbrev pub slicePlace : ℕ
+slicePlace = placeAt stateRows 3 0
 
 -- where the unit of kind i starts
 abbrev pub unitPlace : ℕ → ℕ
@@ -104,13 +104,13 @@ kindFrom s =
       length = field kindWidths s 3;
     }
 
--- the clock at the front of s
-unfoldable pub clockFrom : List ℕ → ℕ
-clockFrom s = field clockWidths s 0
+-- the slice at the front of s
+unfoldable pub sliceFrom : List ℕ → ℕ
+sliceFrom s = field sliceWidths s 0
 
 -- the unit at the front of s
 unfoldable pub unitFrom : List ℕ → Unit
-unitFrom s = record { released = eqb (field unitWidths s 0) 1; at = field unitWidths s 1; left = field unitWidths s 2 }
+unitFrom s = record { released = eqb (field unitWidths s 0) 1; gone = field unitWidths s 1; left = field unitWidths s 2 }
 
 -- the sum at the front of s
 unfoldable pub sumFrom : List ℕ → ℕ
@@ -146,7 +146,7 @@ planFrom s =
 
 -- the state that an image says
 unfoldable pub stateFrom : List ℕ → State
-stateFrom s = record { plan = planFrom s; clock = clockFrom (drop clockPlace s); unit = unitsFrom 16 s; sum = sumsFrom 8 s }
+stateFrom s = record { plan = planFrom s; slice = sliceFrom (drop slicePlace s); unit = unitsFrom 16 s; sum = sumsFrom 8 s }
 
 -- "what is no state is refused": a released byte is 0 or 1
 abbrev pub releasedAt : List ℕ → ℕ → Bool
@@ -172,7 +172,7 @@ kindFields v = v .project ∷ v .separation ∷ v .deadline ∷ v .length ∷ []
 
 -- a unit's fields
 abbrev pub unitFields : Unit → List ℕ
-unitFields v = cond (v .released) 1 0 ∷ v .at ∷ v .left ∷ []
+unitFields v = cond (v .released) 1 0 ∷ v .gone ∷ v .left ∷ []
 
 -- project j's bytes
 abbrev pub projectBytesAt : Plan → ℕ → List ℕ
@@ -196,7 +196,7 @@ planValues p = (λ i. countFields p) ∷ (λ j. projectFields (projectOf p j)) �
 
 -- the values of a state's rows
 abbrev pub stateValues : State → List Values
-stateValues s = planValues (s .plan) ++ ((λ i. s .clock ∷ []) ∷ (λ i. unitFields (unitOf s i)) ∷ (λ j. sumAt s j ∷ []) ∷ [])
+stateValues s = planValues (s .plan) ++ ((λ i. s .slice ∷ []) ∷ (λ i. unitFields (unitOf s i)) ∷ (λ j. sumAt s j ∷ []) ∷ [])
 
 -- a plan's image
 unfoldable pub planImage : Plan → List ℕ

@@ -23,10 +23,10 @@ use Rattle.unit.specs.declared.Unit.{Unit}
 use Rattle.rack.specs.declared.State.{State}
 use Rattle.unit.specs.Unit.{noUnit}
 use Rattle.rack.specs.State.{unitOf}
-use Rattle.images.specs.Image.{countWidths, projectWidths, kindWidths, clockWidths, unitWidths, planRows, stateRows, projectPlace}
-use Rattle.images.specs.Image.{kindPlace, clockPlace, unitPlace, sumPlace, field, projectFrom, kindFrom, clockFrom, unitFrom, sumFrom}
-use Rattle.images.specs.Image.{projectsFrom, kindsFrom, unitsFrom, sumsFrom, planFrom}
-use Rattle.images.specs.Image.{stateFrom, releasedAt, releasedTold, countFields, projectFields}
+use Rattle.images.specs.Image.{countWidths, projectWidths, kindWidths, sliceWidths, unitWidths, planRows, stateRows, projectPlace}
+use Rattle.images.specs.Image.{kindPlace, slicePlace, unitPlace, sumPlace, field, projectFrom, kindFrom, sliceFrom, unitFrom, sumFrom}
+use Rattle.images.specs.Image.{projectsFrom, kindsFrom, unitsFrom, sumsFrom, planFrom, stateFrom, releasedAt, releasedTold}
+use Rattle.images.specs.Image.{countFields, projectFields}
 use Rattle.images.specs.Image.{kindFields, unitFields, planValues, stateValues, planImage, stateImage}
 use Rattle.images.specs.Typed.{PlanTyped, StateTyped}
 
@@ -46,7 +46,7 @@ flag-read false = refl
 
 unit-read : (s : List ℕ) (v : Unit) → fieldsOf unitWidths s ≡ unitFields v → unitFrom s ≡ v
 unfolding unitFrom
-unit-read s v e = rw e (let f = flag-read (v .released) in λ i. record { at = v .at; left = v .left; released = f i })
+unit-read s v e = rw e (let f = flag-read (v .released) in λ i. record { gone = v .gone; left = v .left; released = f i })
 
 -- every place written is the whole list
 written-all : {A : Type 0} (n : ℕ) (f : ℕ → A) (l r : List A) (d : A) → length l ≡ n → length r ≡ n → ((i : ℕ) → i < n → f i ≡ getD r i d)
@@ -111,10 +111,10 @@ module _ (v : State) (typed : StateTyped v) (rest : List ℕ) where
       (λ j l. ap (λ (k : List ℕ). getD k 0 0)
       (row-fields stateRows (stateValues v) 5 j s rest refl (omega arith) l refl refl (typed .sum-fits j l)))
 
-  clock-is : clockFrom (drop clockPlace s) ≡ v .clock
-  unfolding s stateImage clockFrom
-  clock-is = ap (λ (l : List ℕ). getD l 0 0)
-      (row-fields stateRows (stateValues v) 3 0 s rest refl (omega arith) (omega arith) refl refl (typed .clock-fits))
+  slice-is : sliceFrom (drop slicePlace s) ≡ v .slice
+  unfolding s stateImage sliceFrom
+  slice-is = ap (λ (l : List ℕ). getD l 0 0)
+      (row-fields stateRows (stateValues v) 3 0 s rest refl (omega arith) (omega arith) refl refl (typed .slice-fits))
 
   plan-is : planFrom s ≡ v .plan
   unfolding s stateImage
@@ -134,10 +134,10 @@ module _ (v : State) (typed : StateTyped v) (rest : List ℕ) where
   unfolding s stateFrom
   state-round-trip =
       let a = plan-is in
-      let b = clock-is in
+      let b = slice-is in
       let d = units-are in
       let e = sums-are in
-      λ i. record { plan = a i; clock = b i; unit = d i; sum = e i }
+      λ i. record { plan = a i; slice = b i; unit = d i; sum = e i }
 
   -- and each of its released bytes is 0 or 1
   pub state-told : releasedTold (stateImage v ++ rest) ≡ true

@@ -8,7 +8,7 @@ use Rattle.plan.specs.Order.{projectOf, kindOf}
 use Rattle.plan_bytes.specs.Parts.{Shaped}
 use Rattle.rack.specs.declared.State.{State}
 use Rattle.rack.specs.State.{unitOf, sumAt, Places}
-use Rattle.images.specs.Image.{countWidths, projectWidths, kindWidths, clockWidths, unitWidths, sumWidths, countFields, projectFields}
+use Rattle.images.specs.Image.{countWidths, projectWidths, kindWidths, sliceWidths, unitWidths, sumWidths, countFields, projectFields}
 use Rattle.images.specs.Image.{kindFields, unitFields}
 pub mod Properties
 
@@ -22,7 +22,7 @@ pub record PlanTyped (p : Plan) : Type 0 where
 -- a state of the language's type
 pub record StateTyped (s : State) : Type 0 where
   pub plan-typed : PlanTyped (s .plan)
-  pub clock-fits : Fitting clockWidths (s .clock ∷ [])
+  pub slice-fits : Fitting sliceWidths (s .slice ∷ [])
   pub places : Places s
   pub unit-fits : (i : ℕ) → i < 16 → Fitting unitWidths (unitFields (unitOf s i))
   pub sum-fits : (j : ℕ) → j < 8 → Fitting sumWidths (sumAt s j ∷ [])

@@ -17,16 +17,16 @@ pub struct StateFound {
     pub state: State,
 }
 
-// The bytes of a place: a plan's counts, a project, a unit kind, the clock, a unit, a sum.
+// The bytes of a place: a plan's counts, a project, a unit kind, the slice, a unit, a sum.
 pub const COUNTS: usize = 4;
 
 pub const PROJECT: usize = 3;
 
 pub const KIND: usize = 7;
 
-pub const CLOCK: usize = 4;
+pub const SLICE: usize = 1;
 
-pub const UNIT: usize = 7;
+pub const UNIT: usize = 5;
 
 pub const SUM: usize = 2;
 
@@ -37,9 +37,9 @@ pub const KINDS_AT: usize = PROJECTS_AT + 8 * PROJECT;
 
 pub const PLAN: usize = KINDS_AT + 16 * KIND;
 
-pub const CLOCK_AT: usize = PLAN;
+pub const SLICE_AT: usize = PLAN;
 
-pub const UNITS_AT: usize = CLOCK_AT + CLOCK;
+pub const UNITS_AT: usize = SLICE_AT + SLICE;
 
 pub const SUMS_AT: usize = UNITS_AT + 16 * UNIT;
 

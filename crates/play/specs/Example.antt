@@ -28,16 +28,17 @@ use Rattle.supply.specs.Greatest.{greatestTo}
 use Rattle.supply.specs.Fit.{fitsAt, leastWidth, allowedLength, leastExcess}
 use Rattle.workload.specs.Workload.{besides, partOf, workload}
 use Rattle.verdict.specs.Verdict.{widthOf, excessOf, fitted, admitted}
-use Rattle.unit.specs.Form.{untouched, underway, unitInForm, emptyUnit}
+use Rattle.unit.specs.Form.{untouched, inTime, underway, unitInForm, emptyUnit}
+use Rattle.unit.specs.Step.{untilDue, goneAfter, leftAfter}
 use Rattle.unit.specs.Start.{early, startable}
 use Rattle.rack.specs.Sums.{leftFor, projectLeft, sumsRight}
 use Rattle.rack.specs.Form.{sumFits, sumsInForm, inForm, sumsTold, ready}
 use Rattle.rack.specs.View.{hasCard, cardsHeld, rankOf, chosen, takesCard, byteOn}
-use Rattle.rack.specs.Rank.{gone, due, working, active, outranks, viewOf, rank, served}
+use Rattle.rack.specs.Rank.{working, active, outranks, viewOf, rank, served}
 use Rattle.rack.specs.Row.{byteBy, rowByte}
 use Rattle.rack.specs.Start.{startAnswer, startOf}
 use Rattle.rack.specs.Release.{releaseAnswer, released, releaseOf}
-use Rattle.rack.specs.Advance.{unitAfter, servedFor, sumAfter, advanced, timeLeft, advanceAnswer, advanceOf}
+use Rattle.rack.specs.Advance.{unitAfter, servedFor, sumAfter, advanced, advanceOf}
 use Rattle.rack.specs.Show.{roomFor, showAnswer}
 use Rattle.commands.specs.Command.{commandFields, fieldsSay, commandOf}
 use Rattle.lines.specs.Text.{decimalIn, decimal}
@@ -58,7 +59,7 @@ input =
 
 -- the eleven lines
 abbrev pub output : List ℕ
-output = ascii "plan ok\nr 0 6 ok\nr 1 2 ok\nr 2 2 ok\nt 0: 1 2\nt 1: 1 2\nt 2: 1 3\nt 3: 3 0\nr 1 2 ok\nr 2 1 refused 14\nend 4\n"
+output = ascii "plan ok\nr 0 6 ok\nr 1 2 ok\nr 2 2 ok\nt 0: 1 2\nt 1: 1 2\nt 2: 1 3\nt 3: 3 0\nr 1 2 ok\nr 2 1 refused 14\nend 0\n"
 
 pub example : played input ≡ output
 unfolding sumTo leastTo firstTo countTo allTo written rankIn firstIn sooner eachTo within sized emptyProject emptyKind tidyProjects
@@ -66,10 +67,9 @@ unfolding sumTo leastTo firstTo countTo allTo written rankIn firstIn sooner each
     size partsTo headerFields projectFields kindFields projectFrom kindFrom projectsFrom kindsFrom headed decoded headerSpare
     projectSpare kindSpare projectsSpare kindsSpare placesSpare spareZero bodyAnswer readAnswer readOf cellAt heldFrom firstCell
     owns slotOf held window supply workloadPart fitsAt leastWidth greatestTo allowedLength leastExcess besides partOf workload
-    widthOf excessOf fitted admitted untouched underway unitInForm emptyUnit early startable leftFor projectLeft
-    sumsRight sumFits sumsInForm inForm sumsTold ready gone due working active
-    outranks hasCard cardsHeld rankOf chosen takesCard byteOn viewOf rank served byteBy rowByte startAnswer startOf releaseAnswer
-    released releaseOf unitAfter servedFor sumAfter
-    advanced timeLeft roomFor showAnswer advanceAnswer advanceOf commandFields fieldsSay commandOf
-    decimalIn decimal planLine outcome releaseLine rowText sliceLine endLine lineOf after turns opening played
+    widthOf excessOf fitted admitted untouched inTime underway unitInForm emptyUnit early startable leftFor projectLeft sumsRight
+    sumFits sumsInForm inForm sumsTold ready untilDue goneAfter leftAfter working active outranks hasCard cardsHeld rankOf chosen
+    takesCard byteOn viewOf rank served byteBy rowByte startAnswer startOf releaseAnswer released releaseOf unitAfter servedFor
+    sumAfter advanced roomFor showAnswer advanceOf commandFields fieldsSay commandOf decimalIn decimal planLine outcome releaseLine
+    rowText sliceLine endLine lineOf after turns opening played
 example = refl

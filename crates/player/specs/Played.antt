@@ -24,12 +24,12 @@ onward Bad on stop = stop
 
 -- "then commands of three bytes": a line for each, and "Last line after a good plan, also then: `end CLOCK`"
 unfoldable pub turns : State → List ℕ → List ℕ
-turns s [] = endLine (s .clock)
-turns s (a ∷ []) = badLine ++ endLine (s .clock)
-turns s (a ∷ b ∷ []) = badLine ++ endLine (s .clock)
+turns s [] = endLine (s .slice)
+turns s (a ∷ []) = badLine ++ endLine (s .slice)
+turns s (a ∷ b ∷ []) = badLine ++ endLine (s .slice)
 turns s (a ∷ b ∷ c ∷ rest) =
     let k = commandOf (a ∷ b ∷ c ∷ rest) in
-    lineOf s k ++ onward k (turns (after s k) rest) (endLine (s .clock))
+    lineOf s k ++ onward k (turns (after s k) rest) (endLine (s .slice))
 
 -- what the plan at the front of the input answers: it is read, and then started fresh
 unfoldable pub opening : List ℕ → Answer

@@ -84,11 +84,11 @@ openOf x last bytes =
 unfoldable pub commandMove : State → Command → Move
 commandMove s Slice = record { session = running (after s Slice); taken = 3; text = lineOf s Slice }
 commandMove s (Release kind e) = record { session = running (after s (Release kind e)); taken = 3; text = lineOf s (Release kind e) }
-commandMove s Bad = record { session = over s; taken = 0; text = badLine ++ endLine (s .clock) }
+commandMove s Bad = record { session = over s; taken = 0; text = badLine ++ endLine (s .slice) }
 
 -- "Last line after a good plan .. `end CLOCK`"
 abbrev pub lastLine : State → Move
-lastLine s = record { session = over s; taken = 0; text = endLine (s .clock) }
+lastLine s = record { session = over s; taken = 0; text = endLine (s .slice) }
 
 -- the line of the command at the front, or the last line; where the input has not ended, only a whole command
 unfoldable pub runOf : Session → Bool → List ℕ → Move

@@ -19,9 +19,9 @@ abbrev pub rowRoom : ℕ
 rowRoom = 8
 
 -- "A release prints ..; a slice prints `t CLOCK:` with the clock before it and the row's bytes ..; Any other three bytes .. print `bad
--- command`"
+-- command`"; document 02 (ix), "`play` prints that slice as its clock, in `end` too"
 unfoldable pub lineOf : State → Command → List ℕ
-lineOf s Slice = sliceLine (showAnswer s rowRoom) (s .clock) (s .plan .cards) (rowByte s)
+lineOf s Slice = sliceLine (showAnswer s rowRoom) (s .slice) (s .plan .cards) (rowByte s)
 lineOf s (Release kind e) = releaseLine kind e (releaseOf s kind e .answer)
 lineOf s Bad = badLine
 

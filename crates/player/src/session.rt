@@ -183,7 +183,7 @@ impl Session {
         match command {
             Command::Slice => after_turn(turn::slice(state)),
             Command::Release(kind, e) => after_turn(turn::release(state, kind, e)),
-            Command::Bad => step_of(Session::over(state), 0, Line::Bad(state.clock)),
+            Command::Bad => step_of(Session::over(state), 0, Line::Bad(state.slice as u32)),
         }
     }
 
@@ -193,7 +193,7 @@ impl Session {
     {
         if is_end(last, bytes.len()) {
             let state = self.state;
-            return step_of(Session::over(state), 0, Line::End(state.clock));
+            return step_of(Session::over(state), 0, Line::End(state.slice as u32));
         }
         if is_short(last, bytes.len()) {
             return self.stay();

@@ -22,7 +22,7 @@ pub(crate) fn slice(state: State) -> Turn
     let plan = state.plan;
     Turn {
         state: after,
-        line: Line::Slice(answer, state.clock, plan.cards),
+        line: Line::Slice(answer, state.slice as u32, plan.cards),
         row,
     }
 }

@@ -1,24 +1,24 @@
--- Document 01, "Slice", and the refusal 11: the state that follows. Document 02 (iv): "the other advances with no buffer"; (vii): a sum
--- "lowered by an advance".
+-- Document 01, "Slice": the state that follows. Document 02 (iv): "the other advances with no buffer"; (vii): a sum "lowered by an
+-- advance"; (ix): "the slice within the frame", and "the slices gone since then, held at T".
 -- Assumes nothing.
-use Prim.Native.Nat.{ℕ, _+_, _-_, _<_}
-use mathlib.Core.Bool.{Bool, cond, _&&_}
+use Prim.Native.Nat.{ℕ, _+_, _-_, _%_}
+use mathlib.Core.Bool.{Bool, _&&_}
 use lib.Dec.{eqb}
 use Rattle.laws.specs.Count.{countTo}
 use Rattle.laws.specs.Written.{written}
 use Rattle.answer.specs.declared.Answer.{Answer}
-use Rattle.answer.specs.Answer.{bare, refuse, _andThen_}
 use Rattle.unit.specs.declared.Unit.{Unit}
+use Rattle.unit.specs.Step as Step
 use Rattle.rack.specs.declared.State.{State}
 use Rattle.rack.specs.declared.Next.{Next}
-use Rattle.rack.specs.State.{lastClock, unitOf, kindAt, kindPlaces, projectPlaces, sumAt, nextOf}
-use Rattle.rack.specs.Form.{Ready, ready}
+use Rattle.rack.specs.State.{unitOf, kindAt, kindPlaces, projectPlaces, sumAt, nextOf}
+use Rattle.rack.specs.Form.{ready}
 use Rattle.rack.specs.Rank.{served}
 pub mod Properties
 
--- "Each chosen kind's left falls by one"
+-- kind i's unit: "Each chosen kind's left falls by one", and one slice more is gone, held at T
 unfoldable pub unitAfter : State → ℕ → Unit
-unitAfter s i = record { released = unitOf s i .released; at = unitOf s i .at; left = unitOf s i .left - cond (served s i) 1 0 }
+unitAfter s i = Step.unitAfter (served s i) (kindAt s i .separation) (unitOf s i)
 
 -- kind i is one of project j's, and is served
 unfoldable pub servedFor : State → ℕ → ℕ → Bool
@@ -28,30 +28,19 @@ servedFor s j i = eqb (kindAt s i .project) j && served s i
 unfoldable pub sumAfter : State → ℕ → ℕ
 sumAfter s j = sumAt s j - countTo (kindPlaces s) (servedFor s j)
 
--- ".. the clock rises by one"
+-- and the next slice: the first of the frame after its last
 unfoldable pub advanced : State → State
 advanced s = record {
   plan = s .plan;
-  clock = s .clock + 1;
+  slice = (s .slice + 1) % s .plan .frame;
   unit = written (kindPlaces s) (unitAfter s) (s .unit);
   sum = written (projectPlaces s) (sumAfter s) (s .sum);
 }
 
--- "11: clock is 1,000,000,000"
-unfoldable pub timeLeft : State → Answer
-timeLeft s = refuse (eqb (s .clock) lastClock) (bare 11)
-
--- "advancing drops 9": the record order, 10, 16, 11
-unfoldable pub advanceAnswer : State → Answer
-advanceAnswer s = ready s andThen timeLeft s
+-- "advancing drops 9", and 11 is "retired": the record order, 10, 16
+abbrev pub advanceAnswer : State → Answer
+advanceAnswer s = ready s
 
 -- what advancing answers and hands back
 unfoldable pub advanceOf : State → Next
 advanceOf s = nextOf (advanceAnswer s) (advanced s) s
-
--- ---- what a good answer says
-
--- what advancing needs: none of the record order, 10, 16 and 11
-pub record Advanceable (s : State) : Type 0 where
-  pub ready : Ready s
-  pub time : s .clock < lastClock

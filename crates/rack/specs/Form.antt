@@ -1,10 +1,11 @@
--- Document 01, "In form", and the refusal 10: when a state is in form, and what is said where it is not; document 02 (vii), the refusal 16.
+-- Document 01, "In form", as document 02 (ix) has it, and the refusal 10: when a state is in form, and what is said where it is not;
+-- document 02 (vii), the refusal 16.
 -- Assumes nothing.
-use Prim.Native.Nat.{ℕ, _≤_, _<_}
+use Prim.Native.Nat.{ℕ, _<_}
 use mathlib.Core.Path.{_≡_}
 use mathlib.Core.Bool.{Bool, not, _&&_, _||_}
 use mathlib.Core.List.{List}
-use lib.Dec.{ltb, leb, eqb}
+use lib.Dec.{ltb, eqb}
 use lib.ListN.{getD}
 use Rattle.laws.specs.All.{allTo}
 use Rattle.answer.specs.declared.Answer.{Answer}
@@ -13,13 +14,13 @@ use Rattle.plan.specs.Order.{InOrder, checked}
 use Rattle.unit.specs.Unit.{noUnit}
 use Rattle.unit.specs.Form.{UnitInForm, fitsPlace}
 use Rattle.rack.specs.declared.State.{State}
-use Rattle.rack.specs.State.{lastClock, unitOf, kindAt, InUse, used, ProjectInUse, projectUsed, sumAt}
+use Rattle.rack.specs.State.{unitOf, kindAt, InUse, used, ProjectInUse, projectUsed, sumAt}
 use Rattle.rack.specs.Sums.{sumsRight, SumsRight}
 pub mod Properties
 
 -- place i
 abbrev pub placeInForm : State → ℕ → Bool
-placeInForm s i = fitsPlace (used s i) (s .clock) (kindAt s i .length) (unitOf s i)
+placeInForm s i = fitsPlace (used s i) (kindAt s i) (unitOf s i)
 
 -- a stored sum at its place: "A sum beyond p that is not zero is 10"
 unfoldable pub sumFits : Bool → ℕ → Bool
@@ -33,9 +34,9 @@ sumInForm s j = sumFits (projectUsed s j) (sumAt s j)
 unfoldable pub sumsInForm : State → Bool
 sumsInForm s = allTo 8 (sumInForm s)
 
--- "the clock within range" and every place in form
+-- "the slice is below F" and every place in form
 unfoldable pub inForm : State → Bool
-inForm s = leb (s .clock) lastClock && (allTo 16 (placeInForm s) && sumsInForm s)
+inForm s = ltb (s .slice) (s .plan .frame) && (allTo 16 (placeInForm s) && sumsInForm s)
 
 -- "16, directly after 10, in every call that takes a state, exactly when a stored sum differs"
 unfoldable pub sumsTold : State → Answer
@@ -49,8 +50,8 @@ ready s = checked (s .plan) andThen (refuse (not (inForm s)) (bare 10) andThen s
 
 -- what a state in form is, place by place
 pub record InForm (s : State) : Type 0 where
-  pub clock-most : s .clock ≤ lastClock
-  pub unit-at : (i : ℕ) → i < 16 → InUse s i → UnitInForm (s .clock) (kindAt s i .length) (unitOf s i)
+  pub slice-below : s .slice < s .plan .frame
+  pub unit-at : (i : ℕ) → i < 16 → InUse s i → UnitInForm (kindAt s i) (unitOf s i)
   pub unused : (i : ℕ) → i < 16 → (InUse s i → ⊥) → unitOf s i ≡ noUnit
   pub sums-unused : (j : ℕ) → j < 8 → (ProjectInUse s j → ⊥) → sumAt s j ≡ 0
 

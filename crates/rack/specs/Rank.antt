@@ -1,29 +1,21 @@
--- Document 01, "Running": who has work, who outranks whom, and who is served. Times are differences of clocks, but for the key that
--- 01 names.
+-- Document 01, "Running", and document 02 (ix): who has work, who outranks whom, and who is served.
 -- Assumes nothing.
-use Prim.Native.Nat.{ℕ, _+_, _-_, _%_}
+use Prim.Native.Nat.{ℕ}
 use mathlib.Core.Bool.{Bool, not, _&&_}
 use lib.Dec.{eqb}
 use Rattle.laws.specs.Count.{countTo}
 use Rattle.laws.specs.Ranking.{sooner}
 use Rattle.plan.specs.Order.{budgetOf}
 use Rattle.layout.specs.Layout.{firstCell}
+use Rattle.unit.specs.Step.{untilDue}
 use Rattle.rack.specs.declared.State.{State}
 use Rattle.rack.specs.State.{unitOf, kindAt, kindPlaces}
 use Rattle.rack.specs.View.{View, rankOf, chosen}
 pub mod Properties
 
--- slices since kind i's last release
-unfoldable pub gone : State → ℕ → ℕ
-gone s i = s .clock - unitOf s i .at
-
--- "release clock plus D"
-unfoldable pub due : State → ℕ → ℕ
-due s i = unitOf s i .at + kindAt s i .deadline
-
--- slices until then
-unfoldable pub until : State → ℕ → ℕ
-until s i = due s i - s .clock
+-- "slices left until the deadline" of kind i
+abbrev pub until : State → ℕ → ℕ
+until s i = untilDue (kindAt s i .deadline) (unitOf s i)
 
 -- "the kinds with slices left"
 unfoldable pub working : State → ℕ → Bool
@@ -37,9 +29,9 @@ active s j i = eqb (kindAt s i .project) j && working s i
 unfoldable pub activeKinds : State → ℕ → ℕ
 activeKinds s j = countTo (kindPlaces s) (active s j)
 
--- "ranked by release clock plus D, then by lower kind number": kind k goes before kind i
+-- "Ranking is by slices left until the deadline, with the same tie rule", "by lower kind number": kind k goes before kind i
 unfoldable pub outranks : State → ℕ → ℕ → Bool
-outranks s k i = sooner (due s) k i
+outranks s k i = sooner (until s) k i
 
 -- project j's view
 unfoldable pub viewOf : State → ℕ → View
@@ -50,7 +42,7 @@ viewOf s j = record {
   first = firstCell (s .plan) j;
   budget = budgetOf (s .plan) j;
   frame = s .plan .frame;
-  slice = s .clock % s .plan .frame;
+  slice = s .slice;
 }
 
 -- that of kind i's project

@@ -1,6 +1,6 @@
 -- Document 01, "Running": the row that a state shows, put together from the projects' views.
 -- Assumes nothing.
-use Prim.Native.Nat.{ℕ, zero, suc, _%_, pred}
+use Prim.Native.Nat.{ℕ, zero, suc, pred}
 use mathlib.Core.Bool.{Bool, not, _&&_}
 use mathlib.Core.List.{List, _++_}
 use lib.Dec.{eqb}
@@ -15,9 +15,9 @@ use Rattle.rack.specs.View.{takesCard, byteOn}
 use Rattle.rack.specs.Rank.{viewOf, ownView}
 pub mod Properties
 
--- whether project j holds a card at slice s, "taken modulo F"
+-- whether project j holds a card at a slice of the frame
 unfoldable pub holds : Plan → ℕ → ℕ → ℕ → Bool
-holds p j s card = owns p j (cellAt (p .frame) card (s % p .frame))
+holds p j slice card = owns p j (cellAt (p .frame) card slice)
 
 -- ".. take that project's cards in ascending card order": kind i takes the card
 abbrev pub takes : State → ℕ → ℕ → Bool
@@ -30,7 +30,7 @@ byteBy s (suc j) card = byteOn (viewOf s j) card
 
 -- "kind number plus 1, or 0": as the project says that holds the card, "nobody else gets it"
 unfoldable pub rowByte : State → ℕ → ℕ
-rowByte s card = byteBy s (slotOf (s .plan) (cellAt (s .plan .frame) card (s .clock % s .plan .frame))) card
+rowByte s card = byteBy s (slotOf (s .plan) (cellAt (s .plan .frame) card (s .slice))) card
 
 -- "The row written has m bytes"
 unfoldable pub rowOf : State → List ℕ

@@ -1,7 +1,7 @@
 -- How a slice finds its row: for each kind the card that it takes, plus 1, or 0 where it is not served. Row.antt says what the row is.
 -- Assumes nothing.
 use mathlib.Core.Path.{_≡_}
-use Prim.Native.Nat.{ℕ, zero, suc, _+_, _-_, _%_}
+use Prim.Native.Nat.{ℕ, zero, suc, _+_, _-_}
 use mathlib.Core.Bool.{cond}
 use mathlib.Core.List.{List}
 use lib.Dec.{eqb}
@@ -39,18 +39,18 @@ worksFor v k = cond (eqb (v .left) 0) 0 (k .project + 1)
 abbrev pub worksOf : State → ℕ → ℕ
 worksOf s i = worksFor (unitOf s i) (kindAt s i)
 
--- project j's lowest card at a clock
+-- project j's lowest card at a slice
 unfoldable pub lowestAt : Plan → ℕ → ℕ → ℕ
-lowestAt p clock j = cardsBelow (p .frame) (firstCell p j) (clock % p .frame)
+lowestAt p slice j = cardsBelow (p .frame) (firstCell p j) slice
 
 -- the card after its last
 unfoldable pub endAt : Plan → ℕ → ℕ → ℕ
-endAt p clock j = cardsBelow (p .frame) (firstCell p j + budgetOf p j) (clock % p .frame)
+endAt p slice j = cardsBelow (p .frame) (firstCell p j + budgetOf p j) slice
 
 -- each project's
-pub record ProjectCards (p : Plan) (clock : ℕ) (low end : List ℕ) : Type 0 where
-  pub lowest : low ≡ written (p .projects) (lowestAt p clock) (replicate 8 0)
-  pub past : end ≡ written (p .projects) (endAt p clock) (replicate 8 0)
+pub record ProjectCards (p : Plan) (slice : ℕ) (low end : List ℕ) : Type 0 where
+  pub lowest : low ≡ written (p .projects) (lowestAt p slice) (replicate 8 0)
+  pub past : end ≡ written (p .projects) (endAt p slice) (replicate 8 0)
 
 -- ---- the row from the seats
 

@@ -8,18 +8,17 @@ use Rattle.answer.specs.declared.Answer.{Answer}
 use Rattle.answer.specs.Answer.{bare, refuse, _andThen_, ifGood}
 use Rattle.answer.specs.Outcome.{Leaves}
 use Rattle.rack.specs.declared.State.{State}
-use Rattle.rack.specs.Form.{ready}
+use Rattle.rack.specs.Form.{ready, Ready}
 use Rattle.rack.specs.Row.{rowOver}
-use Rattle.rack.specs.Advance.{Advanceable, timeLeft}
 pub mod Properties
 
 -- "9: buffer shorter than needed", for a lent row of that many bytes
 unfoldable pub roomFor : State → ℕ → Answer
 roomFor s room = refuse (ltb room (s .plan .cards)) (bare 9)
 
--- "showing keeps the slice order with 9 and 11": the record order, 10, 16, 9, 11
+-- "showing keeps the slice order with 9", and 11 is "retired": the record order, 10, 16, 9
 unfoldable pub showAnswer : State → ℕ → Answer
-showAnswer s room = ready s andThen (roomFor s room andThen timeLeft s)
+showAnswer s room = ready s andThen roomFor s room
 
 -- "Lent buffers keep every byte on a refusal. On success, bytes past those needed keep their value"
 unfoldable pub bufferShown : State → List ℕ → List ℕ
@@ -31,7 +30,7 @@ Shows s bytes answer after = Leaves (showAnswer s (length bytes)) (bufferShown s
 
 -- ---- what a good answer says
 
--- none of the record order, 10, 16, 9 and 11: what advancing needs, and the room of a row
+-- none of the record order, 10, 16 and 9
 pub record Showable (s : State) (room : ℕ) : Type 0 where
-  pub advance : Advanceable s
+  pub ready : Ready s
   pub enough : s .plan .cards ≤ room

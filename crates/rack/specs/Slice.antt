@@ -12,13 +12,13 @@ use Rattle.rack.specs.declared.Next.{Next}
 use Rattle.rack.specs.State.{nextOf}
 use Rattle.rack.specs.Form.{ready}
 use Rattle.rack.specs.Row.{rowOver}
-use Rattle.rack.specs.Advance.{advanced, timeLeft}
+use Rattle.rack.specs.Advance.{advanced}
 use Rattle.rack.specs.Show.{roomFor}
 pub mod Properties
 
--- "Slice: the record order, 10, 9, 11", with "16, directly after 10"
+-- "Slice: the record order, 10, 9", with "16, directly after 10"
 unfoldable pub sliceAnswer : State → ℕ → Answer
-sliceAnswer s room = ready s andThen (roomFor s room andThen timeLeft s)
+sliceAnswer s room = ready s andThen roomFor s room
 
 -- what a slice answers and hands back
 unfoldable pub sliceOf : State → ℕ → Next

@@ -1,4 +1,4 @@
--- Document 01, "Running": the state and its places, and what a call that may be refused hands back.
+-- Document 01, "Running", and document 02 (ix): the state and its places, and what a call that may be refused hands back.
 -- Assumes nothing.
 use Prim.Native.Nat.{ℕ, _<_}
 use mathlib.Core.Path.{_≡_}
@@ -17,19 +17,15 @@ use Rattle.rack.specs.declared.State.{State}
 use Rattle.rack.specs.declared.Next.{Next}
 pub mod Properties
 
--- "a clock (0..1,000,000,000)": where it ends
-abbrev pub lastClock : ℕ
-lastClock = 1000000000
-
--- the plan at clock 0, with no kind ever released and every sum "set by a fresh start"
+-- the plan at slice 0, with no kind ever released and every sum "set by a fresh start"
 abbrev pub freshOf : Plan → State
-freshOf p = record { plan = p; clock = 0; unit = replicate 16 noUnit; sum = replicate 8 0 }
+freshOf p = record { plan = p; slice = 0; unit = replicate 16 noUnit; sum = replicate 8 0 }
 
 -- "an all-zero state"
 abbrev pub noState : State
 noState = freshOf noPlan
 
--- "for each kind: whether ever released, the clock at its last accepted release, and slices left"
+-- "for each kind: whether ever released", "the slices gone since then", "and slices left"
 abbrev pub unitOf : State → ℕ → Unit
 unitOf s i = getD (s .unit) i noUnit
 

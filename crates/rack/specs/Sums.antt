@@ -1,5 +1,5 @@
 -- Document 02 (vii), "Keep the row of sums": the sum of slices left of each project, and whether the stored ones are these. Nothing of it
--- looks at a clock.
+-- looks at the slice.
 -- Assumes nothing.
 use Prim.Native.Nat.{ℕ}
 use mathlib.Core.Path.{_≡_}

@@ -22,7 +22,7 @@ pub record View : Type 0 where
   -- its first cell and its budget B
   pub first : ℕ
   pub budget : ℕ
-  -- the frame's length F, and "clock mod F"
+  -- the frame's length F, and "the slice within the frame"
   pub frame : ℕ
   pub slice : ℕ
 

@@ -1,35 +1,34 @@
 // Advancing: the state that follows is handed back.
 //
-// Of n kinds, a of them with slices left, for p projects, that is at most a·n / 2 steps for the
-// ranks and 4n + p for the rest, after a check of 40 + n + 2p.
+// Of n kinds, a of them with slices left, for p projects, that is 16a steps for the ranks, none of
+// them a branch, and 4n + p for the rest, after a check of 40 + n + 2p.
 ghost use mathlib.Core.Path.{_≡_};
-ghost use Rattle.rack.specs.Advance.{advanceAnswer, advanceOf};
+ghost use Prim.Native.Nat.{_+_, _%_, _<_};
+ghost use Rattle.rack.specs.Advance.{advanceOf};
 use crate::Next;
 use crate::State;
 use crate::project_place;
 use answer::Answer;
 
-impl State {
-    // The record order, 10, 16, 11.
-    fn may_advance(self) -> Answer
-        ensures { λ r. ⌜ r ≡ advanceAnswer self ⌝ }
-    {
-        let checked = self.check();
-        let Answer::Good = checked else {
-            return checked;
-        };
-        if self.clock == State::LAST {
-            return Answer::bare(11);
-        }
-        Answer::Good
+// The slice after one of a frame: the first after the last.
+fn slice_after(slice: u8, frame: u8) -> u8
+    requires { ⌜ slice < frame ⌝ }
+    ensures { λ r. ⌜ r ≡ (slice + 1) % frame ⌝ }
+{
+    let next = slice + 1;
+    if next == frame {
+        return 0;
     }
+    next
+}
 
-    // Runs one slice: one slice less for each kind that sits, one less in its project's sum, and the
-    // next clock.
+impl State {
+    // Runs one slice: one slice more gone for each kind ever released, one less left for each that
+    // sits, one less in its project's sum, and the next slice.
     pub fn advance(mut self) -> Next
         ensures { λ r. ⌜ r ≡ advanceOf self ⌝ }
     {
-        let answer = self.may_advance();
+        let answer = self.check();
         let Answer::Good = answer else {
             return Next {
                 answer,
@@ -40,14 +39,16 @@ impl State {
         let seat = self.seats();
         let kinds = self.places();
         for i in 0..kinds {
-            if seat[i] == 0 {
+            let kind = plan.kind[i];
+            let number = seat[i];
+            self.unit[i] = self.unit[i].after(number != 0, kind.separation);
+            if number == 0 {
                 continue;
             }
-            self.unit[i].left -= 1;
-            let project = project_place(plan.kind[i]);
+            let project = project_place(kind);
             self.sum[project] -= 1;
         }
-        self.clock += 1;
+        self.slice = slice_after(self.slice, plan.frame);
         Next {
             answer,
             state: self,

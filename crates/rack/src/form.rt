@@ -52,14 +52,14 @@ impl State {
         ensures { λ r. ⌜ r ≡ (refuse (not (inForm self)) (bare 10) andThen sumsTold self) ⌝ }
     {
         let plan = self.plan;
-        if State::LAST < self.clock {
+        if plan.frame <= self.slice {
             return Answer::bare(10);
         }
         let mut left = [0u16; Plan::PROJECTS];
         for i in 0..Plan::KINDS {
             let unit = self.unit[i];
             let kind = plan.kind[i];
-            if !unit.fits_place(self.in_use(i), self.clock, kind.length) {
+            if !unit.fits_place(self.in_use(i), kind) {
                 return Answer::bare(10);
             }
             if unit.left == 0 {

@@ -1,8 +1,9 @@
 // The dispatcher: a state that is started on a plan, takes releases, and runs slice by slice.
 //
-// Document 01, "Running", and the refusals 8 to 15 of "Numbers given back when we say no"; document
-// 02 (vii), the row of sums and the refusal 16. A state goes in by value and the next one is handed
-// back. Every record is answered, whatever its fields hold.
+// Document 01, "Running", and the refusals 8 to 14 of "Numbers given back when we say no"; document
+// 02 (vii), the row of sums and the refusal 16, and (ix), the slice within the frame in place of a
+// clock. A state goes in by value and the next one is handed back. Every record is answered,
+// whatever its fields hold.
 mod advance;
 mod form;
 mod release;
@@ -19,11 +20,11 @@ use plan::Plan;
 use unit::Unit;
 use verdict::judge;
 
-// The plan that runs, the clock, a place for each kind's unit, and a place for each project's sum of
-// slices left. Places beyond the plan's kinds and projects hold zeros.
+// The plan that runs, the slice within its frame, a place for each kind's unit, and a place for each
+// project's sum of slices left. Places beyond the plan's kinds and projects hold zeros.
 pub struct State {
     pub plan: Plan,
-    pub clock: u32,
+    pub slice: u8,
     pub unit: [Unit; Plan::KINDS],
     pub sum: [u16; Plan::PROJECTS],
 }
@@ -43,9 +44,6 @@ pub(crate) fn project_place(kind: Kind) -> usize
 }
 
 impl State {
-    // Where the clock ends.
-    pub const LAST: u32 = 1000000000;
-
     // How many places of kinds are looked through.
     pub(crate) fn places(self) -> usize
         ensures { λ r. ⌜ r ≡ kindPlaces self ⌝ }
@@ -60,13 +58,13 @@ impl State {
         place < self.plan.kinds as usize
     }
 
-    // The plan at clock 0, with no kind ever released and nothing left.
+    // The plan at slice 0, with no kind ever released and nothing left.
     pub(crate) fn fresh(plan: Plan) -> Self
         ensures { λ r. ⌜ r ≡ freshOf plan ⌝ }
     {
         State {
             plan,
-            clock: 0,
+            slice: 0,
             unit: [Unit::empty(); Plan::KINDS],
             sum: [0; Plan::PROJECTS],
         }

@@ -8,7 +8,7 @@ use answer::Answer;
 use unit::Unit;
 
 impl State {
-    // The record order, 10, 16, 12, 13, 14, 15.
+    // The record order, 10, 16, 12, 13, 14.
     fn may_release(self, kind: usize, length: u32) -> Answer
         ensures { λ r. ⌜ r ≡ releaseAnswer self kind length ⌝ }
     {
@@ -20,8 +20,7 @@ impl State {
             return Answer::bare(12);
         }
         let plan = self.plan;
-        let unit = self.unit[kind];
-        unit.may_start(plan.kind[kind], self.clock - unit.at, length)
+        self.unit[kind].may_start(plan.kind[kind], length)
     }
 
     // Starts a unit of the kind, with that length, by which its project's sum rises.
@@ -38,7 +37,7 @@ impl State {
         let plan = self.plan;
         let project = project_place(plan.kind[kind]);
         self.unit[kind] = Unit {
-            at: self.clock,
+            gone: 0,
             left: length as u16,
             released: true,
         };

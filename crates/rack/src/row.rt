@@ -4,15 +4,14 @@
 // kind has its seat: the card that it takes, plus 1, or 0 where it is not served. The row and the
 // state that follows both go by the seats.
 //
-// Of n kinds, a of them with slices left, on m cards for p projects, that is at most a·n / 2 steps
-// for the ranks and 4n + p + m for the rest.
+// Of n kinds, a of them with slices left, on m cards for p projects, that is 16a steps for the ranks
+// and 4n + p + m for the rest.
 ghost use mathlib.Core.Path.{_≡_};
-ghost use Prim.Native.Nat.{ℕ, _+_, _≤_, _<_};
+ghost use Prim.Native.Nat.{ℕ, _≤_, _<_};
 ghost use lib.ListN.{length};
 ghost use Rattle.laws.specs.Written.{written};
 ghost use Rattle.plan.specs.Order.{InOrder};
 ghost use Rattle.seats.specs.Seats.{at};
-ghost use Rattle.rack.specs.State.{lastClock};
 ghost use Rattle.rack.specs.Form.{Ready};
 ghost use Rattle.rack.specs.Row.{rowOver};
 ghost use Rattle.rack.specs.Seat.{idle, worksFor, ProjectCards, seatsOf, seated};
@@ -30,11 +29,10 @@ struct Cards {
 }
 
 // One walk over the projects: each one's cells begin where the last one's end.
-fn project_cards(plan: Plan, clock: u32) -> Cards
-    requires { ⌜ InOrder plan ⌝ }
-    ensures { λ r. ⌜ ProjectCards plan clock (r .low) (r .end) ⌝ }
+fn project_cards(plan: Plan, slice: u8) -> Cards
+    requires { ⌜ InOrder plan × (slice < plan .frame) ⌝ }
+    ensures { λ r. ⌜ ProjectCards plan slice (r .low) (r .end) ⌝ }
 {
-    let slice = (clock % plan.frame as u32) as u8;
     let mut low = [0u8; 8];
     let mut end = [0u8; 8];
     let mut cell: u16 = 0;
@@ -83,14 +81,6 @@ fn works_for(unit: Unit, kind: Kind) -> u8
     kind.project + 1
 }
 
-// Release clock plus D.
-fn due_clock(unit: Unit, kind: Kind) -> u32
-    requires { ⌜ unit .at ≤ lastClock ⌝ }
-    ensures { λ r. ⌜ r ≡ unit .at + kind .deadline ⌝ }
-{
-    unit.at + kind.deadline as u32
-}
-
 impl State {
     // Where every kind sits in this slice. What it goes by is put down for every place, so that the
     // compiler knows the length of the loop.
@@ -101,17 +91,17 @@ impl State {
         let plan = self.plan;
         let kinds = self.places();
         let mut works = [0u8; 16];
-        let mut due = [0u32; 16];
+        let mut until = [0u16; 16];
         for i in 0..Plan::KINDS {
             let unit = self.unit[i];
             let kind = plan.kind[i];
             works[i] = works_for(unit, kind);
-            due[i] = due_clock(unit, kind);
+            until[i] = unit.until_due(kind.deadline);
         }
-        let cards = project_cards(plan, self.clock);
+        let cards = project_cards(plan, self.slice);
         let low = cards.low;
         let end = cards.end;
-        seats(&works, &due, &low, &end, kinds)
+        seats(&works, &until, &low, &end, kinds)
     }
 
     // Writes the row into a lent one, by the seats.

@@ -1,14 +1,14 @@
 // A showing: the row of the slice to come is written, and the state kept.
 //
-// Of n kinds, a of them with slices left, on m cards for p projects, that is at most a·n / 2 steps
-// for the ranks and 4n + p + m for the rest, after a check of 40 + n + 2p.
+// Of n kinds, a of them with slices left, on m cards for p projects, that is 16a steps for the ranks,
+// none of them a branch, and 4n + p + m for the rest, after a check of 40 + n + 2p.
 ghost use mathlib.Core.Path.{_≡_};
 ghost use Rattle.rack.specs.Show.{showAnswer, Shows};
 use crate::State;
 use answer::Answer;
 
 impl State {
-    // The record order, 10, 16, 9, 11.
+    // The record order, 10, 16, 9.
     fn may_show(self, room: usize) -> Answer
         ensures { λ r. ⌜ r ≡ showAnswer self room ⌝ }
     {
@@ -19,9 +19,6 @@ impl State {
         let plan = self.plan;
         if room < plan.cards as usize {
             return Answer::bare(9);
-        }
-        if self.clock == State::LAST {
-            return Answer::bare(11);
         }
         Answer::Good
     }

@@ -8,5 +8,5 @@ use Rattle.answer.specs.Outcome.Properties.{is-one}
 use Rattle.seats.specs.Seats.{seatsBy}
 
 -- `seats`
-pub seats-one-outcome : (works due low end : List ℕ) (kinds : ℕ) → One (λ r. r ≡ seatsBy works due low end kinds)
-seats-one-outcome works due low end kinds = is-one _
+pub seats-one-outcome : (works until low end : List ℕ) (kinds : ℕ) → One (λ r. r ≡ seatsBy works until low end kinds)
+seats-one-outcome works until low end kinds = is-one _

@@ -1,36 +1,42 @@
--- Document 01, "In form": when a kind's unit is in form.
+-- Document 01, "In form", as document 02 (ix) has it: when a kind's unit is in form.
 -- Assumes nothing.
-use Prim.Native.Nat.{ℕ, _≤_}
+use Prim.Native.Nat.{ℕ, _≤_, _<_}
 use mathlib.Core.Path.{_≡_}
-use mathlib.Core.Bool.{Bool, false, not, cond, _&&_}
-use lib.Dec.{leb, eqb}
+use mathlib.Core.Bool.{Bool, false, not, cond, _&&_, _||_}
+use lib.Dec.{leb, ltb, eqb}
+use Rattle.plan.specs.declared.Kind.{Kind}
 use Rattle.unit.specs.declared.Unit.{Unit}
 pub mod Properties
 
--- "release clock 0 and left 0"
+-- slices gone "0 if never released", and "left 0"
 unfoldable pub untouched : Unit → Bool
-untouched v = eqb (v .at) 0 && eqb (v .left) 0
+untouched v = eqb (v .gone) 0 && eqb (v .left) 0
 
--- "release clock <= clock and left <= C", for C a kind's length
-unfoldable pub underway : ℕ → ℕ → Unit → Bool
-underway clock length v = leb (v .at) clock && leb (v .left) length
+-- slices gone "below D where work is left"
+unfoldable pub inTime : ℕ → Unit → Bool
+inTime deadline v = eqb (v .left) 0 || ltb (v .gone) deadline
 
--- "a kind never released has release clock 0 and left 0; else release clock <= clock and left <= C"
-unfoldable pub unitInForm : ℕ → ℕ → Unit → Bool
-unitInForm clock length v = cond (v .released) (underway clock length v) (untouched v)
+-- "slices gone are at most T", "left <= C", slices gone "below D where work is left"
+unfoldable pub underway : Kind → Unit → Bool
+underway k v = leb (v .gone) (k .separation) && (leb (v .left) (k .length) && inTime (k .deadline) v)
+
+-- "slices gone are at most T, 0 if never released, and below D where work is left", and left as document 01 has it
+unfoldable pub unitInForm : Kind → Unit → Bool
+unitInForm k v = cond (v .released) (underway k v) (untouched v)
 
 -- a place of a unit that holds zeros
 unfoldable pub emptyUnit : Unit → Bool
 emptyUnit v = not (v .released) && untouched v
 
 -- a unit at its place: in form where the plan has that kind, and else "places beyond n zero"
-abbrev pub fitsPlace : Bool → ℕ → ℕ → Unit → Bool
-fitsPlace used clock length v = cond used (unitInForm clock length v) (emptyUnit v)
+abbrev pub fitsPlace : Bool → Kind → Unit → Bool
+fitsPlace used k v = cond used (unitInForm k v) (emptyUnit v)
 
 -- ---- what the test says, field by field
 
--- "a kind never released has release clock 0 and left 0; else release clock <= clock and left <= C"
-pub record UnitInForm (clock length : ℕ) (v : Unit) : Type 0 where
-  pub release-clock : v .at ≤ clock
-  pub left-most : v .left ≤ length
-  pub never : v .released ≡ false → (v .at ≡ 0) × (v .left ≡ 0)
+-- "slices gone are at most T, 0 if never released, and below D where work is left"; "left <= C", and 0 if never released
+pub record UnitInForm (k : Kind) (v : Unit) : Type 0 where
+  pub gone-most : v .gone ≤ k .separation
+  pub left-most : v .left ≤ k .length
+  pub in-time : 0 < v .left → v .gone < k .deadline
+  pub never : v .released ≡ false → (v .gone ≡ 0) × (v .left ≡ 0)

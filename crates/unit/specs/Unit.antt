@@ -3,6 +3,6 @@
 use mathlib.Core.Bool.{false}
 use Rattle.unit.specs.declared.Unit.{Unit}
 
--- "a kind never released has release clock 0 and left 0"
+-- document 02 (ix), "slices gone are .. 0 if never released", and nothing left
 abbrev pub noUnit : Unit
-noUnit = record { at = 0; left = 0; released = false }
+noUnit = record { gone = 0; left = 0; released = false }

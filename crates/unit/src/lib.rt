@@ -1,16 +1,18 @@
-// One kind's unit: whether there ever was one, the clock at its release, and the slices left.
+// One kind's unit: whether there ever was one, the slices gone since its release, and the slices
+// left.
 //
-// Document 01, "Running", "In form" and the refusals 13 to 15. Every record is answered, whatever
-// its fields hold.
+// Document 01, "Running", "In form" and the refusals 13 and 14; document 02 (ix), slices gone in
+// place of a clock. Every record is answered, whatever its fields hold.
 mod form;
 mod start;
+mod step;
 
 ghost use mathlib.Core.Path.{_≡_};
 ghost use Rattle.unit.specs.Unit.{noUnit};
 
-// A kind's last unit. The fields stand in this order so that a unit takes eight bytes.
+// A kind's last unit. It takes six bytes.
 pub struct Unit {
-    pub at: u32,
+    pub gone: u16,
     pub left: u16,
     pub released: bool,
 }
@@ -21,7 +23,7 @@ impl Unit {
         ensures { λ r. ⌜ r ≡ noUnit ⌝ }
     {
         Unit {
-            at: 0,
+            gone: 0,
             left: 0,
             released: false,
         }

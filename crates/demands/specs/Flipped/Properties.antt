@@ -5,12 +5,13 @@ use mathlib.Core.Logic.{_≢_}
 use mathlib.Core.Bool.{Bool, true, false, cond, not, _&&_, true≢false}
 use mathlib.Core.List.{List, [], _∷_}
 use Prim.Native.Nat.{ℕ, _+_, _≤_, _<_}
-use native.Mathlib.Decide.{decLt, decLe, ℕ-discrete}
+use native.Mathlib.Decide.{decLt, ℕ-discrete}
 use native.Mathlib.Omega.{arith}
 use lib.Dec.{eqb, leb}
 use lib.ListN.{length, set}
 use lib.Seq.{getD-set-same, getD-set-other}
-use borrow.Author.Tests.{le-ltb, le-leb, lt-leb}
+use borrow.Author.Tests.{le-ltb, le-leb, leb-true}
+use Rattle.laws.specs.Tests.{and-left, and-right, and-both}
 use Rattle.laws.specs.Sum.{sumTo}
 use Rattle.answer.specs.declared.Answer.{Answer}
 use Rattle.answer.specs.declared.Answer.the-variants.{Good, No}
@@ -19,7 +20,9 @@ use Rattle.plan.specs.Order.{checked}
 use Rattle.plan.specs.Order.Properties.{in-order-good}
 use Rattle.unit.specs.declared.Unit.{Unit}
 use Rattle.unit.specs.Unit.{noUnit}
-use Rattle.unit.specs.Form.{UnitInForm}
+use Rattle.unit.specs.Form.{UnitInForm, inTime}
+use Rattle.unit.specs.Form.Properties.{in-time-says, in-time-of}
+use Rattle.plan.specs.declared.Kind.{Kind}
 use Rattle.rack.specs.declared.State.{State}
 use Rattle.rack.specs.State.{unitOf, kindAt, kindPlaces, InUse, ProjectInUse, projectPlaces, sumAt, Places}
 use Rattle.rack.specs.Sums.{leftFor, projectLeft, sumsRight, SumsRight}
@@ -29,14 +32,14 @@ use Rattle.rack.specs.Form.Properties.{form-says, form-of, used-of, not-used, p
 use Rattle.rack.specs.Release.{releaseAnswer, releaseOf}
 use Rattle.rack.specs.Show.{showAnswer, bufferShown, Shows}
 use Rattle.rack.specs.Show.Properties.{show-refused}
-use Rattle.rack.specs.Advance.{advanceAnswer, advanceOf}
+use Rattle.rack.specs.Advance.{advanceOf}
 use Rattle.demands.specs.Run.{Call, show, advance, release, nextAfter}
 use Rattle.demands.specs.Flipped.{withSum, leftAs, withLeft, sumTold, couldBeLeft, leftTold, Told}
 
 -- ---- what the state's own refusal settles
 
 pub told-by : (s : State) (n : ℕ) → ready s ≡ bare n → Told s n
-unfolding showAnswer advanceAnswer advanceOf releaseAnswer releaseOf
+unfolding showAnswer advanceOf releaseAnswer releaseOf
 told-by s n e = record {
   answer = λ call. answer call;
   state = λ call. state call;
@@ -99,7 +102,7 @@ module _ (s : State) (r : Ready s) (places : Places s) (j v : ℕ) (l : j < 8) (
       inside m =
           sum-wrong t order
           (record {
-            clock-most = r .form .clock-most;
+            slice-below = r .form .slice-below;
             unit-at = r .form .unit-at;
             unused = r .form .unused;
             sums-unused = λ k q z. sum-same k (λ e. z (omega arith)) ∙ r .form .sums-unused k q z;
@@ -125,24 +128,25 @@ module _ (s : State) (r : Ready s) (places : Places s) (i v : ℕ) (l : i < 16) 
   in-order = in-order-good (s .plan) (r .order)
 
   -- what could be left is in form
-  form-still : InUse s i → unitOf s i .released ≡ true → v ≤ kindAt s i .length → InForm u
-  form-still m e q = record {
-    clock-most = r .form .clock-most;
+  form-still : InUse s i → unitOf s i .released ≡ true → v ≤ kindAt s i .length → (0 < v → unitOf s i .gone < kindAt s i .deadline) →
+      InForm u
+  form-still m e q w = record {
+    slice-below = r .form .slice-below;
     unit-at = λ k a b. unit-form k (r .form .unit-at k a b) (ℕ-discrete k i);
     unused = λ k a b. unit-same k (λ z. b (omega arith)) ∙ r .form .unused k a b;
     sums-unused = r .form .sums-unused;
   }
     where
-      unit-form : (k : ℕ) → UnitInForm (s .clock) (kindAt s k .length) (unitOf s k) → Dec (k ≡ i) →
-          UnitInForm (s .clock) (kindAt s k .length) (unitOf u k)
+      unit-form : (k : ℕ) → UnitInForm (kindAt s k) (unitOf s k) → Dec (k ≡ i) → UnitInForm (kindAt s k) (unitOf u k)
       unit-form k f (yes z) =
           let here : unitOf u k ≡ leftAs (unitOf s i) v = ap (λ (x : ℕ). unitOf u x) z ∙ unit-new in
-          let clock = f .release-clock in
-          let same = ap (λ (x : ℕ). unitOf s x .at) z in
-          let length-same = ap (λ (x : ℕ). kindAt s x .length) z in
+          let most = f .gone-most in
+          let same = ap (λ (x : ℕ). unitOf s x .gone) z in
+          let kind-same : kindAt s k ≡ kindAt s i = ap (kindAt s) z in
           rw here (record {
-            release-clock = omega arith;
-            left-most = omega arith;
+            gone-most = omega arith;
+            left-most = omega (arith, ap (λ (x : Kind). x .length) kind-same);
+            in-time = λ some. omega (arith, w some, ap (λ (x : Kind). x .deadline) kind-same);
             never = λ n. absurd (true≢false (sym e ∙ n));
           })
       unit-form k f (no z) = rw (unit-same k z) f
@@ -175,27 +179,35 @@ module _ (s : State) (r : Ready s) (places : Places s) (i v : ℕ) (l : i < 16) 
           let was = ap (λ (x : Unit). x .left) (r .form .unused i l m) in
           other (is ∙ sym was))
 
-      -- by whether it was ever released, and whether it could be so long
+      -- by whether it was ever released, and whether it could have so many left
       numbered : Bool → Bool → Answer
       numbered a b = bare (cond (a && b) 16 10)
 
-      inside : InUse s i → (b : Bool) → unitOf s i .released ≡ b →
-          ready u ≡ numbered (unitOf s i .released) (leb v (kindAt s i .length))
-      inside m true e =
-          elim (decLe v (kindAt s i .length)) [
-            | yes q ↦
-                sum-wrong u in-order (form-still m e q) (sum-off m)
-                ∙ ap₂ numbered (sym e) (sym (le-leb v (kindAt s i .length) q))
-            | no q ↦
-                not-in-form u in-order (λ f. over q (f .unit-at i l m))
-                ∙ ap₂ numbered (sym e) (sym (lt-leb v (kindAt s i .length) (omega arith)))
-          ]
+      long : Bool
+      long = leb v (kindAt s i .length)
+
+      prompt : Bool
+      prompt = inTime (kindAt s i .deadline) (leftAs (unitOf s i) v)
+
+      inside : InUse s i → (b : Bool) → unitOf s i .released ≡ b → ready u ≡ numbered (unitOf s i .released) (long && prompt)
+      inside m true e = go (long && prompt) refl
         where
-          over : (v ≤ kindAt s i .length → ⊥) → UnitInForm (s .clock) (kindAt s i .length) (unitOf u i) → ⊥
-          over q f = q (omega (arith, f .left-most, ap (λ (x : Unit). x .left) unit-new))
+          go : (b : Bool) → (long && prompt) ≡ b → ready u ≡ numbered (unitOf s i .released) (long && prompt)
+          go true q =
+              sum-wrong u in-order
+              (form-still m e (leb-true v (kindAt s i .length) (and-left long prompt q))
+              (in-time-says (kindAt s i .deadline) (leftAs (unitOf s i) v) (and-right long prompt q))) (sum-off m)
+              ∙ ap₂ numbered (sym e) (sym q)
+          go false q = not-in-form u in-order (λ f. over (rw unit-new at (f .unit-at i l m))) ∙ ap₂ numbered (sym e) (sym q)
+            where
+              over : UnitInForm (kindAt s i) (leftAs (unitOf s i) v) → ⊥
+              over f =
+                  true≢false
+                  (sym (and-both long prompt (le-leb v (kindAt s i .length) (f .left-most))
+                  (in-time-of (kindAt s i .deadline) (leftAs (unitOf s i) v) (f .in-time))) ∙ q)
       inside m false e =
           not-in-form u in-order (λ f.
           let is = f .unit-at i l m .never (ap (λ (x : Unit). x .released) unit-new ∙ e) .1 in
           let was = r .form .unit-at i l m .never e .1 in
           other (sym (ap (λ (x : Unit). x .left) unit-new) ∙ is ∙ sym was))
-          ∙ ap (λ (b : Bool). numbered b (leb v (kindAt s i .length))) (sym e)
+          ∙ ap (λ (b : Bool). numbered b (long && prompt)) (sym e)

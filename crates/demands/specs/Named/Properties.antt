@@ -47,7 +47,7 @@ module _ (p : Plan) (holds : ℕ → ℕ) (w : Accepted) (at : At p holds w) whe
       ap (λ (q : Plan). bytesIn (namesProject q j) (w .row)) (sym (at .plan))
       ∙ bytes-shown (namesProject (w .before .plan) j)
       ∙ project-cards (w .before) (at .ready) j (omega (arith, ap (λ (q : Plan). q .projects) (at .plan)))
-      ∙ ap (λ (n : ℕ). min n (activeKinds (w .before) j)) (ap (λ (q : Plan). held q j (w .before .clock)) (at .plan) ∙ at-held at j l)
+      ∙ ap (λ (n : ℕ). min n (activeKinds (w .before) j)) (ap (λ (q : Plan). held q j (w .before .slice)) (at .plan) ∙ at-held at j l)
 
 -- every row written
 pub orderly : (p : Plan) (holds : ℕ → ℕ) (w : Accepted) → At p holds w → Orderly p (w .row)
@@ -60,7 +60,7 @@ orderly p holds w at = record {
     arith,
     project-named p holds w at j l,
     at-held at j l,
-    held-ceiling p (rw (at .plan) at (at .ready .order)) j l (w .before .clock),
+    held-ceiling p (rw (at .plan) at (at .ready .order)) j l (w .before .slice),
   );
 }
 

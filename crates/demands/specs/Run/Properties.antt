@@ -2,7 +2,8 @@
 -- Assumes nothing.
 use mathlib.Core.Path.{_≡_, refl, sym, ap, _∙_}
 use mathlib.Core.List.{List, [], _∷_}
-use Prim.Native.Nat.{ℕ, zero, suc, _+_, _<_}
+use Prim.Native.Nat.{ℕ, zero, suc, _+_, _%_, _<_}
+use native.Mathlib.Nat.{add-zero, add-assoc, mod-lt, mod-eq-of-lt, mod-add-mod}
 use native.Mathlib.Numerals.{one-add}
 use native.Mathlib.Omega.{arith}
 use lib.ListN.{length, getD}
@@ -49,13 +50,22 @@ module _ (P : Claim) (none : (s : State) → P s [] s) (with-slice : WithSlice P
 
 -- ---- how far it gets
 
--- an advance moves the clock by one, and nothing else does
-pub run-clock : (calls : List Call) (s : State) → runFrom s calls .clock ≡ s .clock + length (slicesOf s calls)
+-- an advance moves the slice by one within the frame, and nothing else does
+pub run-slice : (calls : List Call) (s : State) → s .slice < s .plan .frame →
+    runFrom s calls .slice ≡ (s .slice + length (slicesOf s calls)) % s .plan .frame
 unfolding advanced released
-run-clock = along Counts (λ s. omega arith) (λ s end slices g h. omega arith) (λ s end i e slices g h. h)
+run-slice = along Counts (λ s l. sym (rw (add-zero (s .slice)) (mod-eq-of-lt l))) with-slice (λ s end i e slices g h. h)
   where
     Counts : Claim
-    Counts s slices end = end .clock ≡ s .clock + length slices
+    Counts s slices end = s .slice < s .plan .frame → end .slice ≡ (s .slice + length slices) % s .plan .frame
+
+    with-slice : WithSlice Counts
+    with-slice s end slices g h l =
+        let some : 0 < s .plan .frame = omega arith in
+        h (mod-lt (s .slice + 1) some)
+        ∙ mod-add-mod (s .slice + 1) (s .plan .frame) (length slices)
+        ∙ ap (λ (n : ℕ). n % s .plan .frame) (add-assoc (s .slice) 1 (length slices)
+        ∙ ap (λ (n : ℕ). s .slice + n) (one-add (length slices)))
 
 pub run-plan : (calls : List Call) (s : State) → runFrom s calls .plan ≡ s .plan
 unfolding advanced released
@@ -75,16 +85,16 @@ pub now-at : (s : State) → advanceAnswer s ≡ Good → At (s .plan) (λ j. ca
 now-at s g = record {
   plan = refl;
   cards = λ j. sym (cards-now s j);
-  ready = advance-says s g .ready;
+  ready = advance-says s g;
   size = row-size s;
   shows = row-shows s;
 }
 
 -- as the layout counts them
-pub at-held : {p : Plan} {holds : ℕ → ℕ} {w : Accepted} → At p holds w → (j : ℕ) → j < p .projects → held p j (w .before .clock) ≡ holds j
+pub at-held : {p : Plan} {holds : ℕ → ℕ} {w : Accepted} → At p holds w → (j : ℕ) → j < p .projects → held p j (w .before .slice) ≡ holds j
 at-held {w = w} a j l =
     let used : j < w .before .plan .projects = omega (arith, ap (λ (q : Plan). q .projects) (a .plan)) in
-    ap (λ (q : Plan). held q j (w .before .clock)) (sym (a .plan)) ∙ sym (view-held (w .before) (a .ready) j used) ∙ a .cards j
+    ap (λ (q : Plan). held q j (w .before .slice)) (sym (a .plan)) ∙ sym (view-held (w .before) (a .ready) j used) ∙ a .cards j
 
 same-cards : {p : Plan} {f g : ℕ → ℕ} {w : Accepted} → ((j : ℕ) → f j ≡ g j) → At p f w → At p g w
 same-cards e a = record { plan = a .plan; cards = λ j. a .cards j ∙ e j; ready = a .ready; size = a .size; shows = a .shows }

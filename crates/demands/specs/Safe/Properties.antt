@@ -1,9 +1,8 @@
 -- A fresh start on an admitted plan is safe, every call keeps it so, and what that says of a kind.
 -- Assumes nothing.
 use mathlib.Core.Path.{_≡_, refl, ap}
-use mathlib.Core.Bool.{Bool, true, false, cond}
 use mathlib.Core.List.{List}
-use Prim.Native.Nat.{ℕ, _-_, _≤_, _<_}
+use Prim.Native.Nat.{ℕ, _≤_, _<_}
 use native.Mathlib.Omega.{arith}
 use lib.ListN.{length, getD-replicate}
 use borrow.Author.Tests.{eq-eqb}
@@ -17,18 +16,19 @@ use Rattle.rack.specs.declared.State.{State}
 use Rattle.unit.specs.Unit.{noUnit}
 use Rattle.rack.specs.State.{unitOf, kindAt, freshOf, InUse}
 use Rattle.unit.specs.Form.{UnitInForm}
-use Rattle.rack.specs.Rank.{gone, until, served}
+use Rattle.unit.specs.Step.{untilDue}
+use Rattle.rack.specs.Rank.{until, served}
 use Rattle.rack.specs.Start.{startAnswer, startOf}
 use Rattle.rack.specs.Start.Properties.{start-good, fresh-form, fresh-places}
 use Rattle.rack.specs.Release.{released, releaseAnswer}
 use Rattle.rack.specs.Release.Properties.{release-says, release-form, release-places}
-use Rattle.rack.specs.Advance.{Advanceable, advanced}
-use Rattle.rack.specs.Advance.Properties.{advance-says, advance-places, advance-form}
+use Rattle.rack.specs.Advance.{unitAfter, advanced}
+use Rattle.rack.specs.Advance.Properties.{unit-after, advance-places, advance-form}
 use Rattle.analysis.specs.Setup.{Own}
 use Rattle.analysis.specs.Moment.{Idle}
 use Rattle.analysis.specs.Reached.{idle, slice, release}
-use Rattle.analysis.specs.InTime.{in-time, next-clear}
-use Rattle.demands.specs.View.{setupOf, waitOf, momentOf}
+use Rattle.analysis.specs.InTime.{in-time}
+use Rattle.demands.specs.View.{setupOf, momentOf}
 use Rattle.demands.specs.View.Properties.{view-admitted, cards-supplied}
 use Rattle.demands.specs.View.Steps.{slice-step, release-step}
 use Rattle.demands.specs.Run.{Call, runFrom, after}
@@ -44,23 +44,12 @@ module _ (s : State) (safe : Safe s) (i : ℕ) (l : InUse s i) where
   own : Own (setupOf (s .plan) j) i
   own = record { below = l; mine = eq-eqb (kindAt s i .project) (kindAt s i .project) refl }
 
-  pub safe-unit : UnitInForm (s .clock) (kindAt s i .length) (unitOf s i)
+  pub safe-unit : UnitInForm (kindAt s i) (unitOf s i)
   safe-unit = safe .ready .form .unit-at i (omega (arith, safe .ready .order .counts .kinds-most)) l
 
   -- no more is left of a unit than there are slices until it is due
   pub safe-left : unitOf s i .left ≤ until s i
   safe-left = in-time (setupOf (s .plan) j) (view-admitted (s .plan) (safe .admitted) j) (momentOf s j) (safe .reached j) i own
-
-  -- where no unit was released fewer than T slices ago, nothing is left
-  pub safe-none-left : (unitOf s i .released ≡ true → kindAt s i .separation ≤ gone s i) → unitOf s i .left ≡ 0
-  unfolding waitOf
-  safe-none-left h =
-      next-clear (setupOf (s .plan) j) (view-admitted (s .plan) (safe .admitted) j) (momentOf s j) (safe .reached j) i own
-      (omega (arith, go (unitOf s i .released) h))
-    where
-      go : (b : Bool) → (b ≡ true → kindAt s i .separation ≤ gone s i) → cond b (kindAt s i .separation - gone s i) 0 ≡ 0
-      go true r = omega (arith, r refl)
-      go false r = refl
 
 -- ---- what keeps it
 
@@ -85,14 +74,25 @@ start-admitted p good = good
 pub start-safe : (p : Plan) → startOf p .answer ≡ Good → Safe (startOf p .state)
 start-safe p good = rw (start-good p good) (fresh-safe p (start-admitted p good))
 
-pub advance-safe : (s : State) → Safe s → Advanceable s → Safe (advanced s)
+-- after a slice no unit with work left has reached its deadline
+none-late : (s : State) → Safe s → (i : ℕ) → InUse s i → 0 < unitAfter s i .left → unitAfter s i .gone < kindAt s i .deadline
+unfolding untilDue advanced
+none-late s safe i l w =
+    let j = kindAt s i .project in
+    let own : Own (setupOf (s .plan) j) i = record { below = l; mine = eq-eqb (kindAt s i .project) (kindAt s i .project) refl } in
+    let there = slice (served s) (safe .reached j) (slice-step s (safe .ready) (safe .places) j) in
+    let left = in-time (setupOf (s .plan) j) (view-admitted (s .plan) (safe .admitted) j) (momentOf (advanced s) j) there i own in
+    let v = unit-after s (safe .ready) (safe .places) i l in
+    omega (arith, left, ap (λ (x : Unit). x .left) v, ap (λ (x : Unit). x .gone) v)
+
+pub advance-safe : (s : State) → Safe s → Safe (advanced s)
 unfolding advanced
-advance-safe s safe may =
+advance-safe s safe =
     record {
       admitted = safe .admitted;
-      ready = advance-form s may (safe .places);
-      places = advance-places s may (safe .places);
-      reached = λ j. slice (served s) (safe .reached j) (slice-step s may (safe .places) j);
+      ready = advance-form s (safe .ready) (safe .places) (none-late s safe);
+      places = advance-places s (safe .ready) (safe .places);
+      reached = λ j. slice (served s) (safe .reached j) (slice-step s (safe .ready) (safe .places) j);
     }
 
 pub release-safe : (s : State) → Safe s → (k e : ℕ) → releaseAnswer s k e ≡ Good → Safe (released s k e)
@@ -109,7 +109,7 @@ release-safe s safe k e good =
 pub run-safe : (calls : List Call) (s : State) → Safe s → Safe (runFrom s calls)
 run-safe =
     along Keeps (λ s h. h)
-    (λ s end slices g h t. h (advance-safe s t (advance-says s g)))
+    (λ s end slices g h t. h (advance-safe s t))
     (λ s end i e slices g h t. h (release-safe s t i e g))
   where
     Keeps : Claim

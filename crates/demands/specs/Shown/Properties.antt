@@ -1,45 +1,50 @@
 -- Laws of what a run shows: a run is the events that it shows, one after the other, and they tell what is left of each unit.
 -- Assumes nothing.
 use mathlib.Core.Path.{_≡_, refl, sym, ap, _∙_}
-use mathlib.Core.Bool.{Bool, true, false, true≢false}
+use mathlib.Core.Bool.{true, false, true≢false}
 use mathlib.Core.List.{List, []}
-use Prim.Native.Nat.{ℕ, zero, suc, _+_, _-_, _≤_, _<_}
+use Prim.Native.Nat.{ℕ, zero, suc, _+_, _-_, _%_, _<_, min}
 use native.Mathlib.Decide.{ℕ-discrete}
+use native.Mathlib.Nat.{add-zero, add-assoc, mod-lt, mod-eq-of-lt, mod-add-mod}
+use native.Mathlib.Numerals.{one-add}
 use native.Mathlib.Omega.{arith}
 use lib.ListN.{length, getD}
 use borrow.Author.Tests.{eq-eqb, ne-eqb}
 use Rattle.answer.specs.declared.Answer.the-variants.{Good}
 use Rattle.unit.specs.declared.Unit.{Unit}
 use Rattle.rack.specs.declared.State.{State}
-use Rattle.rack.specs.State.{unitOf, InUse}
-use Rattle.rack.specs.Rank.{gone}
-use Rattle.rack.specs.Release.{Releasable, released, releaseAnswer}
+use Rattle.rack.specs.State.{unitOf, kindAt, InUse}
+use Rattle.rack.specs.Release.{released, releaseAnswer}
 use Rattle.rack.specs.Release.Properties.{release-says, release-unit, release-others}
 use Rattle.rack.specs.Row.{rowOf}
-use Rattle.rack.specs.Advance.{Advanceable, unitAfter, advanced, advanceAnswer}
-use Rattle.rack.specs.Advance.Properties.{advance-says, unit-after}
+use Rattle.rack.specs.Advance.{advanced, advanceAnswer}
 use Rattle.demands.specs.Run.{Call, runFrom, noSlice, slicesOf}
 use Rattle.demands.specs.Named.{namesKind, bytesNaming}
-use Rattle.demands.specs.View.Steps.{sliced-released}
+use Rattle.demands.specs.View.Steps.{sliced-released, sliced-gone}
 use Rattle.demands.specs.Served.{named-falls}
 use Rattle.demands.specs.Safe.{Safe}
-use Rattle.demands.specs.Safe.Properties.{advance-safe, release-safe}
+use Rattle.demands.specs.Safe.Properties.{safe-unit, advance-safe, release-safe}
 use Rattle.demands.specs.Shown.{started, ran, shown, upTo}
 use Rattle.demands.specs.Shown.Along.{Claim, WithSlice, WithRelease, along-shown}
 use Rattle.demands.specs.Shown.{Last, none, unit, lastAfter, lastFrom, leftOf, restarted}
 
--- the clock before slice x of a run
-pub clock-before : (calls : List Call) (s : State) (x : ℕ) → x < length (slicesOf s calls) →
-    getD (slicesOf s calls) x noSlice .before .clock ≡ s .clock + x
+-- the slice before slice x of a run
+pub slice-before : (calls : List Call) (s : State) → s .slice < s .plan .frame → (x : ℕ) → x < length (slicesOf s calls) →
+    getD (slicesOf s calls) x noSlice .before .slice ≡ (s .slice + x) % s .plan .frame
 unfolding advanced released
-clock-before = along-shown Rises (λ s x l. absurd (omega arith)) with-slice (λ s end i e events slices g f. f)
+slice-before = along-shown Turns (λ s f x l. absurd (omega arith)) with-slice (λ s end i e events slices g f. f)
   where
-    Rises : Claim
-    Rises s events slices end = (x : ℕ) → x < length slices → getD slices x noSlice .before .clock ≡ s .clock + x
+    Turns : Claim
+    Turns s events slices end = s .slice < s .plan .frame → (x : ℕ) → x < length slices →
+        getD slices x noSlice .before .slice ≡ (s .slice + x) % s .plan .frame
 
-    with-slice : WithSlice Rises
-    with-slice s end events slices g f zero l = omega arith
-    with-slice s end events slices g f (suc x) l = omega (arith, f x (omega arith))
+    with-slice : WithSlice Turns
+    with-slice s end events slices g f m zero l = sym (rw (add-zero (s .slice)) (mod-eq-of-lt m))
+    with-slice s end events slices g f m (suc x) l =
+        let some : 0 < s .plan .frame = omega arith in
+        f (mod-lt (s .slice + 1) some) x (omega arith)
+        ∙ mod-add-mod (s .slice + 1) (s .plan .frame) x
+        ∙ ap (λ (n : ℕ). n % s .plan .frame) (add-assoc (s .slice) 1 x ∙ ap (λ (n : ℕ). s .slice + n) (one-add x))
 
 -- ---- a kind along a run
 
@@ -48,19 +53,10 @@ pub record Its (i : ℕ) (s : State) : Type 0 where
   pub safe : Safe s
   pub its-kind : InUse s i
 
--- a release clock: later where the kind is released again, and else the same
-abbrev pub Moved : Bool → ℕ → ℕ → Type 0
-Moved true from to = from < to
-Moved false from to = to ≡ from
-
-moved-le : (b : Bool) (from to : ℕ) → Moved b from to → from ≤ to
-moved-le true from to h = omega arith
-moved-le false from to h = omega arith
-
 module _ (i : ℕ) where
   its-slice : (s : State) → advanceAnswer s ≡ Good → Its i s → Its i (advanced s)
   unfolding advanced
-  its-slice s good t = record { safe = advance-safe s (t .safe) (advance-says s good); its-kind = t .its-kind }
+  its-slice s good t = record { safe = advance-safe s (t .safe); its-kind = t .its-kind }
 
   its-release : (s : State) (k e : ℕ) → releaseAnswer s k e ≡ Good → Its i s → Its i (released s k e)
   unfolding released
@@ -148,43 +144,33 @@ module _ (i : ℕ) where
           other : (k ≡ i → ⊥) → restarted i events ≡ false → unitOf end i .left + bytesNaming (namesKind i) slices ≡ unitOf s i .left
           other q n = rw (others s k e g t q) at (f (its-release s k e g t) n)
 
-  -- ---- the release clock moves exactly where the kind is released again
+  -- and the slices gone rise by the slices, held at T
+  abbrev Counts : Claim
+  Counts s events slices end = Its i s → unitOf s i .released ≡ true → restarted i events ≡ false →
+      unitOf end i .gone ≡ min (kindAt s i .separation) (unitOf s i .gone + length slices)
 
-  same-clock : (s : State) → Advanceable s → Its i s → unitOf (advanced s) i .at ≡ unitOf s i .at
-  unfolding unitAfter
-  same-clock s may t = ap (λ (v : Unit). v .at) (unit-after s may (t .safe .places) i (t .its-kind))
-
-  abbrev Moves : Claim
-  Moves s events slices end = Its i s → unitOf s i .released ≡ true → Moved (restarted i events) (unitOf s i .at) (unitOf end i .at)
-
-  moves-slice : WithSlice Moves
-  unfolding restarted
-  moves-slice s end events slices g f t r =
-      let may = advance-says s g in
-      let still = sliced-released s may (t .safe .places) i (t .its-kind) in
-      rw (same-clock s may t) at (f (its-slice s g t) (still ∙ r))
-
-  moves-release : WithRelease Moves
-  unfolding restarted gone
-  moves-release s end k e events slices g f t r =
-      elim (ℕ-discrete k i) [ yes q ↦ rw (eq-eqb k i q) (same q) | no q ↦ rw (ne-eqb k i q) (other q) ]
+  pub gone-counts : (calls : List Call) (s : State) → Counts s (shown s calls) (slicesOf s calls) (runFrom s calls)
+  unfolding restarted advanced released
+  gone-counts = along-shown Counts none-yet with-slice with-release
     where
-      may : Releasable s k e
-      may = release-says s k e g
+      none-yet : (s : State) → Its i s → unitOf s i .released ≡ true → false ≡ false →
+          unitOf s i .gone ≡ min (kindAt s i .separation) (unitOf s i .gone + 0)
+      none-yet s t r h = omega (arith, safe-unit s (t .safe) i (t .its-kind) .gone-most)
 
-      same : k ≡ i → unitOf s i .at < unitOf end i .at
-      same q =
-          let here = ap (λ (x : ℕ). unitOf (released s k e) x) (sym q) in
-          let v = here ∙ release-unit s k e may (t .safe .places) in
-          let on = f (its-release s k e g t) (ap (λ (x : Unit). x .released) v) in
-          let m = moved-le (restarted i events) (unitOf (released s k e) i .at) (unitOf end i .at) on in
-          let d = t .safe .ready .order .kind-at i (t .its-kind) in
-          let apart = (rw q at (may .start .separated)) r in
-          omega (arith, m, ap (λ (x : Unit). x .at) v, d .some-length, d .length-most, d .deadline-most, apart)
+      with-slice : WithSlice Counts
+      with-slice s end events slices g f t r h =
+          let ready = t .safe .ready in
+          let still = sliced-released s ready (t .safe .places) i (t .its-kind) in
+          let one = sliced-gone s ready (t .safe .places) i (t .its-kind) r in
+          omega (arith, f (its-slice s g t) (still ∙ r) h, one)
 
-      other : (k ≡ i → ⊥) → Moved (restarted i events) (unitOf s i .at) (unitOf end i .at)
-      other q = let v = others s k e g t q in rw v at (f (its-release s k e g t) (ap (λ (x : Unit). x .released) v ∙ r))
-
-  pub clock-moves : (calls : List Call) (s : State) → Moves s (shown s calls) (slicesOf s calls) (runFrom s calls)
-  unfolding restarted
-  clock-moves = along-shown Moves (λ s t r. refl) moves-slice moves-release
+      with-release : WithRelease Counts
+      with-release s end k e events slices g f t r h =
+          elim (ℕ-discrete k i) [ yes q ↦ absurd (true≢false (sym (rw (eq-eqb k i q)) ∙ h)) | no q ↦ other q (rw (ne-eqb k i q) at h) ]
+        where
+          other : (k ≡ i → ⊥) → restarted i events ≡ false →
+              unitOf end i .gone ≡ min (kindAt s i .separation) (unitOf s i .gone + length slices)
+          other q n =
+              let v = others s k e g t q in
+              f (its-release s k e g t) (ap (λ (x : Unit). x .released) v ∙ r) n
+              ∙ ap (λ (x : Unit). min (kindAt s i .separation) (x .gone + length slices)) v

@@ -4,50 +4,60 @@ use mathlib.Core.Path.{_≡_, refl, sym, ap, _∙_}
 use mathlib.Core.Logic.{_≢_}
 use mathlib.Core.Bool.{true, false, cond}
 use mathlib.Core.List.{List, [], _∷_}
-use Prim.Native.Nat.{ℕ, _+_}
-use native.Mathlib.Decide.{ℕ-discrete}
+use Prim.Native.Nat.{ℕ, _+_, min}
+use native.Mathlib.Decide.{decLt, ℕ-discrete}
 use native.Mathlib.Omega.{arith}
-use lib.Dec.{eqb}
-use borrow.Author.Tests.{eq-eqb, ne-eqb}
+use lib.Dec.{ltb, eqb}
+use borrow.Author.Tests.{lt-ltb, le-ltb, eq-eqb, ne-eqb}
 use Rattle.answer.specs.declared.Answer.{Answer}
 use Rattle.answer.specs.declared.Answer.the-variants.{Good, No}
 use Rattle.answer.specs.Answer.{ifGood}
 use Rattle.unit.specs.declared.Unit.{Unit}
 use Rattle.rack.specs.declared.State.{State}
 use Rattle.rack.specs.State.{unitOf, kindAt, InUse}
-use Rattle.rack.specs.Rank.{gone}
 use Rattle.unit.specs.Start.{early}
 use Rattle.rack.specs.Release.{releaseAnswer, released, releaseOf, Releasable}
 use Rattle.rack.specs.Release.Properties.{release-says, release-unit, release-others}
 use Rattle.rack.specs.Advance.{advanced, advanceAnswer, advanceOf}
 use Rattle.rack.specs.Advance.Properties.{advance-says}
 use Rattle.demands.specs.Run.{Call, show, advance, release, nextAfter, runFrom}
-use Rattle.demands.specs.View.Steps.{sliced-released, sliced-gone, new-gone, kept-gone}
+use Rattle.demands.specs.View.Steps.{sliced-released, sliced-gone, new-gone}
 use Rattle.demands.specs.Safe.{Safe}
 use Rattle.demands.specs.Safe.Properties.{advance-safe, release-safe}
 use Rattle.demands.specs.Since.{Since, never, ago, later, sinceCall, sinceFrom, fewer}
 
--- the state counts the same of kind i
+-- the state counts the same of kind i, held at T
 abbrev pub Tells : State → ℕ → Since → Type 0
 Tells s i never = unitOf s i .released ≡ false
-Tells s i (ago slices) = (unitOf s i .released ≡ true) × (gone s i ≡ slices)
+Tells s i (ago slices) = (unitOf s i .released ≡ true) × (unitOf s i .gone ≡ min (kindAt s i .separation) slices)
+
+-- a number held at T is below T exactly when it was
+pub held-test : (separation slices : ℕ) → ltb (min separation slices) separation ≡ ltb slices separation
+held-test separation slices =
+    elim (decLt slices separation) [
+      | yes l ↦ lt-ltb (min separation slices) separation (omega arith) ∙ sym (lt-ltb slices separation l)
+      | no l ↦ le-ltb (min separation slices) separation (omega arith) ∙ sym (le-ltb slices separation (omega arith))
+    ]
 
 -- so 14 is told by the one as by the other
 pub tells-early : (s : State) (i : ℕ) (since : Since) → Tells s i since →
-    early (kindAt s i .separation) (unitOf s i) (gone s i) ≡ fewer (kindAt s i .separation) since
+    early (kindAt s i .separation) (unitOf s i) ≡ fewer (kindAt s i .separation) since
 unfolding early
 tells-early s i never t = rw t
-tells-early s i (ago slices) t = rw (t .0, t .1)
+tells-early s i (ago slices) t = rw (t .0, t .1) (held-test (kindAt s i .separation) slices)
 
-tells-later : (s next : State) (i : ℕ) (since : Since) → unitOf next i .released ≡ unitOf s i .released → gone next i ≡ gone s i + 1 →
+tells-later : (s next : State) (i : ℕ) (since : Since) → kindAt next i .separation ≡ kindAt s i .separation →
+    unitOf next i .released ≡ unitOf s i .released →
+    (unitOf s i .released ≡ true → unitOf next i .gone ≡ min (kindAt s i .separation) (unitOf s i .gone + 1)) →
     Tells s i since → Tells next i (later since)
-tells-later s next i never p q t = p ∙ t
-tells-later s next i (ago slices) p q t = (p ∙ t .0, omega (arith, t .1))
+tells-later s next i never k p q t = p ∙ t
+tells-later s next i (ago slices) k p q t = (p ∙ t .0, omega (arith, q (t .0), t .1))
 
-tells-kept : (s next : State) (i : ℕ) (since : Since) → unitOf next i .released ≡ unitOf s i .released → gone next i ≡ gone s i →
+tells-kept : (s next : State) (i : ℕ) (since : Since) → kindAt next i .separation ≡ kindAt s i .separation → unitOf next i ≡ unitOf s i →
     Tells s i since → Tells next i since
-tells-kept s next i never p q t = p ∙ t
-tells-kept s next i (ago slices) p q t = (p ∙ t .0, q ∙ t .1)
+tells-kept s next i never k v t = ap (λ (x : Unit). x .released) v ∙ t
+tells-kept s next i (ago slices) k v t =
+    (ap (λ (x : Unit). x .released) v ∙ t .0, ap (λ (x : Unit). x .gone) v ∙ t .1 ∙ ap (λ (x : ℕ). min x slices) (sym k))
 
 -- what a good answer moves, and a refusal keeps
 chosen : (P : State → Since → Type 0) (a : Answer) (new old : State) (more since : Since) →
@@ -67,10 +77,10 @@ module _ (i : ℕ) where
   told-slice s since t good =
       let may = advance-says s good in
       record {
-        safe = advance-safe s (t .safe) may;
+        safe = advance-safe s (t .safe);
         its-kind = t .its-kind;
         tells =
-            tells-later s (advanced s) i since (sliced-released s may (t .safe .places) i (t .its-kind))
+            tells-later s (advanced s) i since refl (sliced-released s may (t .safe .places) i (t .its-kind))
             (sliced-gone s may (t .safe .places) i (t .its-kind)) (t .tells);
       }
 
@@ -87,13 +97,16 @@ module _ (i : ℕ) where
       may = release-says s k e good
 
       same : k ≡ i → Tells (released s k e) i (ago 0)
-      same q = rw (← q) (ap (λ (v : Unit). v .released) (release-unit s k e may (t .safe .places)), new-gone s k e may (t .safe .places))
+      same q =
+          rw (← q) (
+            ap (λ (v : Unit). v .released) (release-unit s k e may (t .safe .places)),
+            omega (arith, new-gone s k e may (t .safe .places)),
+          )
 
       other : (k ≡ i → ⊥) → Tells (released s k e) i since
       other q =
           let d : i ≢ k = λ z. q (sym z) in
-          tells-kept s (released s k e) i since (ap (λ (v : Unit). v .released) (release-others s k e may (t .safe .places) i d))
-          (kept-gone s k e may (t .safe .places) i d) (t .tells)
+          tells-kept s (released s k e) i since refl (release-others s k e may (t .safe .places) i d) (t .tells)
 
   told-call : (s : State) (since : Since) (call : Call) → Told i s since → Told i (nextAfter s call .state) (sinceCall i s since call)
   unfolding advanceOf releaseOf sinceCall

@@ -40,18 +40,19 @@ use Rattle.verdict.specs.Verdict.{widthOf, excessOf, fitted, admitted, judged}
 use Rattle.verdict.specs.Admission.{asked, given}
 use Rattle.unit.specs.declared.Unit.{Unit}
 use Rattle.unit.specs.Unit.{noUnit}
-use Rattle.unit.specs.Form.{untouched, underway, unitInForm, emptyUnit}
+use Rattle.unit.specs.Form.{untouched, inTime, underway, unitInForm, emptyUnit}
+use Rattle.unit.specs.Step.{untilDue, goneAfter, leftAfter}
 use Rattle.unit.specs.Start.{early, startable}
 use Rattle.rack.specs.declared.State.{State}
-use Rattle.rack.specs.State.{lastClock, freshOf, unitOf}
+use Rattle.rack.specs.State.{freshOf, unitOf}
 use Rattle.rack.specs.Sums.{leftFor, projectLeft, sumsRight}
 use Rattle.rack.specs.Form.{sumFits, sumsInForm, inForm, sumsTold, ready}
 use Rattle.rack.specs.View.{hasCard, cardsHeld, rankOf, chosen, takesCard, byteOn}
-use Rattle.rack.specs.Rank.{gone, due, working, active, activeKinds, outranks, viewOf, rank, served}
+use Rattle.rack.specs.Rank.{working, active, activeKinds, outranks, viewOf, rank, served}
 use Rattle.rack.specs.Row.{holds, takes, byteBy, rowByte, rowOf, rowOver}
 use Rattle.rack.specs.Start.{startAnswer, startOf}
 use Rattle.rack.specs.Release.{releaseAnswer, released, releaseOf}
-use Rattle.rack.specs.Advance.{unitAfter, advanced, timeLeft, advanceAnswer, advanceOf, servedFor, sumAfter}
+use Rattle.rack.specs.Advance.{unitAfter, advanced, advanceAnswer, advanceOf, servedFor, sumAfter}
 use Rattle.rack.specs.Show.{roomFor, showAnswer, bufferShown, Shows}
 use Rattle.demands.specs.Run.{Call, show, advance, release, runFrom, after, Accepted, acceptedIn, slicesOf, noSlice}
 use Rattle.demands.specs.Run.{unshown, handedBack}
@@ -104,9 +105,9 @@ begun = releaseOf (after planA earlier) 1 2 .state
 abbrev pub fourRows : List Accepted
 fourRows = slicesOf begun later
 
--- plan A with nothing released, at the clock's end
-abbrev pub ended : State
-ended = record { plan = planA; clock = lastClock; unit = replicate 16 noUnit; sum = replicate 8 0 }
+-- plan A with nothing released, at a slice that its frame of four does not have
+abbrev pub past : State
+past = record { plan = planA; slice = 4; unit = replicate 16 noUnit; sum = replicate 8 0 }
 
 -- on the refused plan that runs well: a release beside another, and one slice
 abbrev pub oneSlice : List Accepted
@@ -120,7 +121,6 @@ pub record Running : Type 0 where
   pub kind-one : releaseOf (after planA earlier) 1 2 .answer ≡ Good
   -- four rows after it, in which the kind is not released again
   pub four-rows : length fourRows ≡ 4
-  pub still-last : unitOf (runFrom begun later) 1 .at ≡ after planA earlier .clock
   pub not-again : restarted 1 (shown begun later) ≡ false
   -- four rows in the example, of which the first names kind 0 on card 0
   pub rows-long : length rows ≡ 4
@@ -135,25 +135,23 @@ pub record Running : Type 0 where
   -- kind 2 is released, and its two slices are named in the third and the fourth row
   pub one-left : unitOf (after planA threeSlices) 2 .left ≡ 1
   -- project 0 has as many kinds with slices left as it holds cards, at each of the four slices
-  pub busy : (y : ℕ) → y < 4 → let s = getD rows (0 + y) noSlice .before in held planA 0 (s .clock) ≤ activeKinds s 0
+  pub busy : (y : ℕ) → y < 4 → let s = getD rows (0 + y) noSlice .before in held planA 0 (s .slice) ≤ activeKinds s 0
   pub busy-shown : (y : ℕ) → y < 4 → held planA 0 (0 + y) ≤ kindsLeft planA 0 (upTo (0 + y) (shown (startOf planA .state) example))
   pub one-active : activeKinds (getD rows 0 noSlice .before) 0 ≡ 1
   -- the slices since kind 1's release
   pub since-three : sinceFrom 1 (startOf planA .state) never threeSlices ≡ ago 3
   pub since-four : sinceFrom 1 (startOf planA .state) never fourSlices ≡ ago 4
   pub fits : within 2 2 ≡ true
-  -- a release at exactly its separation, one that is told 14, showings with a byte too many and one too few, and the clock's end
+  -- a release at exactly its separation, one that is told 14, showings with a byte too many and one too few, and a slice past the frame
   pub release-good : releaseOf (after planA fourSlices) 1 2 .answer ≡ Good
   pub release-early : number (releaseOf (after planA fourSlices) 2 1 .answer) ≡ 14
   pub shows : Shows (after planA releases) (7 ∷ 7 ∷ 7 ∷ []) Good (1 ∷ 2 ∷ 7 ∷ [])
-  pub first-clock : after planA releases .clock ≡ 0
   pub first-cards : after planA releases .plan .cards ≡ 2
-  pub advance-clock : advanceOf (after planA releases) .state .clock ≡ 1
-  pub advance-ended : number (advanceOf ended .answer) ≡ 11
+  pub advance-slice : advanceOf (after planA releases) .state .slice ≡ 1
+  pub advance-past : number (advanceOf past .answer) ≡ 10
   pub release-told : number (releaseAnswer (after planA fourSlices) 2 1) ≡ 14
   pub show-told : number (showAnswer (after planA releases) 1) ≡ 9
-  pub advance-told : number (advanceAnswer ended) ≡ 11
-  pub ended-short : Shows ended [] (bare 9) []
+  pub advance-told : number (advanceAnswer past) ≡ 10
   -- what was shown before kind 1's release, and after it
   pub shown-first : Shows (after planA earlier) (7 ∷ 7 ∷ []) Good (1 ∷ 0 ∷ [])
   pub shown-then : Shows begun (7 ∷ 7 ∷ []) Good (1 ∷ 2 ∷ [])
@@ -169,18 +167,15 @@ pub running : Running
 unfolding sumTo leastTo firstTo countTo allTo written rankIn firstIn sooner eachTo within sized emptyProject emptyKind tidyProjects
     tidyKinds inRange timed budgets sizes unused projectsInRange kindInRange kindsInRange budgetsFit ranges checked cellAt heldFrom
     firstCell owns slotOf held window supply workloadPart fitsAt leastWidth greatestTo allowedLength leastExcess besides partOf
-    workload widthOf excessOf fitted admitted untouched underway unitInForm emptyUnit early startable leftFor projectLeft
-    sumsRight sumFits sumsInForm inForm sumsTold ready gone due working
-    active activeKinds outranks hasCard cardsHeld rankOf chosen takesCard byteOn viewOf rank served holds byteBy rowByte rowOf
-    rowOver startAnswer startOf releaseAnswer released releaseOf unitAfter servedFor sumAfter
-    advanced timeLeft advanceAnswer advanceOf roomFor
-    showAnswer bufferShown runFrom acceptedIn slicesOf unshown handedBack sinceCall sinceFrom namesKind bytesIn shownBy shown upTo
-    lastFrom restarted kindsLeft
+    workload widthOf excessOf fitted admitted untouched inTime underway unitInForm emptyUnit early startable leftFor projectLeft
+    sumsRight sumFits sumsInForm inForm sumsTold ready untilDue goneAfter leftAfter working active activeKinds outranks hasCard
+    cardsHeld rankOf chosen takesCard byteOn viewOf rank served holds byteBy rowByte rowOf rowOver startAnswer startOf releaseAnswer
+    released releaseOf unitAfter servedFor sumAfter advanced advanceOf roomFor showAnswer bufferShown runFrom acceptedIn slicesOf
+    unshown handedBack sinceCall sinceFrom namesKind bytesIn shownBy shown upTo lastFrom restarted kindsLeft
 running = record {
   admitted-A = refl;
   kind-one = refl;
   four-rows = refl;
-  still-last = refl;
   not-again = refl;
   rows-long = refl;
   names-none = refl;
@@ -200,14 +195,12 @@ running = record {
   release-good = refl;
   release-early = refl;
   shows = record { result = refl; buffer = refl };
-  first-clock = refl;
   first-cards = refl;
-  advance-clock = refl;
-  advance-ended = refl;
+  advance-slice = refl;
+  advance-past = refl;
   release-told = refl;
   show-told = refl;
   advance-told = refl;
-  ended-short = record { result = refl; buffer = refl };
   shown-first = record { result = refl; buffer = refl };
   shown-then = record { result = refl; buffer = refl };
   cards-first = refl;
@@ -217,7 +210,7 @@ running = record {
   enough-rows = refl;
 }
   where
-    busy-at : (y : ℕ) → y < 4 → let s = getD rows (0 + y) noSlice .before in held planA 0 (s .clock) ≤ activeKinds s 0
+    busy-at : (y : ℕ) → y < 4 → let s = getD rows (0 + y) noSlice .before in held planA 0 (s .slice) ≤ activeKinds s 0
     busy-at zero l = omega arith
     busy-at (suc zero) l = omega arith
     busy-at (suc (suc zero)) l = omega arith
@@ -237,9 +230,9 @@ running = record {
 abbrev pub longer : Plan
 longer = likeA 3 5 (kind 0 8 8 7)
 
--- a unit of two slices, released at this clock
-abbrev justReleased : ℕ → Unit
-justReleased clock = record { released = true; at = clock; left = 2 }
+-- a unit of two slices, just released
+abbrev justReleased : Unit
+justReleased = record { released = true; gone = 0; left = 2 }
 
 -- the sums of two such units of project 1
 abbrev twoOpen : List ℕ
@@ -247,10 +240,10 @@ twoOpen = 0 ∷ 4 ∷ replicate 6 0
 
 -- the slice at which project 1 holds both cards, with kinds 1 and 2 just released; and the frame's first, at which it holds one
 abbrev pub both : State
-both = record { plan = planA; clock = 3; unit = noUnit ∷ justReleased 3 ∷ justReleased 3 ∷ replicate 13 noUnit; sum = twoOpen }
+both = record { plan = planA; slice = 3; unit = noUnit ∷ justReleased ∷ justReleased ∷ replicate 13 noUnit; sum = twoOpen }
 
 abbrev pub waiting : State
-waiting = record { plan = planA; clock = 0; unit = noUnit ∷ justReleased 0 ∷ justReleased 0 ∷ replicate 13 noUnit; sum = twoOpen }
+waiting = record { plan = planA; slice = 0; unit = noUnit ∷ justReleased ∷ justReleased ∷ replicate 13 noUnit; sum = twoOpen }
 
 pub record Judged : Type 0 where
   -- the verdicts
@@ -312,11 +305,11 @@ verdicts = record {
     room (suc (suc (suc i))) l = absurd (omega arith)
 
 pub ranks : Ranked
-unfolding sumTo firstTo countTo allTo rankIn firstIn sooner eachTo within sized emptyProject emptyKind tidyProjects tidyKinds inRange
-    timed budgets sizes unused projectsInRange kindInRange kindsInRange budgetsFit ranges checked cellAt heldFrom firstCell owns slotOf
-    held untouched underway unitInForm emptyUnit leftFor projectLeft sumsRight sumFits sumsInForm inForm sumsTold ready
-    due working active activeKinds outranks hasCard cardsHeld rankOf chosen
-    takesCard byteOn viewOf rank holds byteBy rowByte
+unfolding sumTo firstTo countTo allTo rankIn firstIn sooner eachTo within sized emptyProject emptyKind tidyProjects tidyKinds
+    inRange timed budgets sizes unused projectsInRange kindInRange kindsInRange budgetsFit ranges checked cellAt heldFrom firstCell
+    owns slotOf held untouched inTime underway unitInForm emptyUnit leftFor projectLeft sumsRight sumFits sumsInForm inForm sumsTold
+    ready untilDue working active activeKinds outranks hasCard cardsHeld rankOf chosen takesCard byteOn viewOf rank holds byteBy
+    rowByte
 ranks = record {
   ready-both = refl;
   ready-waiting = refl;

@@ -61,10 +61,10 @@ record Computed : Type 0 where
   budget : smallestBy (early 2) (workloadByFive (early 2)) 0 .budget ≡ 2
 
 computed : Computed
-unfolding sumTo leastTo firstTo countTo allTo written eachTo within sized emptyProject emptyKind tidyProjects tidyKinds inRange timed
-    budgets sizes unused projectsInRange kindInRange kindsInRange budgetsFit ranges checked cellAt heldFrom firstCell owns held
-    window supply fitsAt leastWidth greatestTo allowedLength leastExcess besides partByFive workloadByFive projectThere inRangeOpen projectsInRangeOpen
-    rangesOpen checkedOpen
+unfolding sumTo leastTo firstTo countTo allTo written eachTo within sized emptyProject emptyKind tidyProjects tidyKinds inRange
+    timed budgets sizes unused projectsInRange kindInRange kindsInRange budgetsFit ranges checked cellAt heldFrom firstCell owns
+    held window supply fitsAt leastWidth greatestTo allowedLength leastExcess besides partByFive workloadByFive projectThere
+    inRangeOpen projectsInRangeOpen rangesOpen checkedOpen
 computed =
     record { order = refl; six = refl; good = refl; widths = refl; eight = (refl, refl, refl); started = refl; budget = refl }
 

@@ -44,16 +44,17 @@ use Rattle.one_kind.specs.Divisor.{repeated, divisor, divisorTo}
 use Rattle.one_kind.specs.Wanted.{kindsIn, fieldAt, separationIn, lengthIn}
 use Rattle.one_kind.specs.Built.{roundedUp, offered, counts, frameFor, frameFits, timedAlone, kindsTimed, budgetFor, answerFor, builtOf}
 use Rattle.one_kind.specs.Built.{Timed, InLimits, Buildable}
-use Rattle.unit.specs.Form.{untouched, underway, unitInForm, emptyUnit}
+use Rattle.unit.specs.Form.{untouched, inTime, underway, unitInForm, emptyUnit}
+use Rattle.unit.specs.Step.{untilDue, goneAfter, leftAfter}
 use Rattle.unit.specs.Start.{early, startable}
 use Rattle.rack.specs.Sums.{leftFor, projectLeft, sumsRight}
 use Rattle.rack.specs.Form.{sumFits, sumsInForm, inForm, sumsTold, ready}
 use Rattle.rack.specs.View.{hasCard, cardsHeld, rankOf, chosen, takesCard, byteOn}
-use Rattle.rack.specs.Rank.{gone, due, working, active, activeKinds, outranks, viewOf, rank, served}
+use Rattle.rack.specs.Rank.{working, active, activeKinds, outranks, viewOf, rank, served}
 use Rattle.rack.specs.Row.{holds, byteBy, rowByte, rowOf, rowOver}
 use Rattle.rack.specs.Start.{startAnswer, startOf}
 use Rattle.rack.specs.Release.{releaseAnswer, released, releaseOf}
-use Rattle.rack.specs.Advance.{unitAfter, servedFor, sumAfter, advanced, timeLeft, advanceAnswer, advanceOf}
+use Rattle.rack.specs.Advance.{unitAfter, servedFor, sumAfter, advanced, advanceAnswer, advanceOf}
 use Rattle.demands.specs.Run.{Call, advance, after, runFrom, acceptedIn, slicesOf}
 use Rattle.demands.specs.Named.{namesKind, bytesNaming}
 use Rattle.demands.specs.Outcomes.{building, building-refused}
@@ -142,13 +143,11 @@ figures : Figures
 unfolding sumTo leastTo firstTo countTo allTo written rankIn firstIn sooner eachTo within sized emptyProject emptyKind tidyProjects
     tidyKinds inRange timed budgets sizes unused projectsInRange kindInRange kindsInRange budgetsFit ranges checked cellAt heldFrom
     firstCell owns slotOf held window supply workloadPart fitsAt leastWidth greatestTo allowedLength leastExcess besides partOf
-    workload widthOf excessOf fitted admitted untouched underway unitInForm emptyUnit early startable leftFor projectLeft
-    sumsRight sumFits sumsInForm inForm sumsTold ready gone due working
-    active activeKinds outranks hasCard cardsHeld rankOf chosen takesCard byteOn viewOf rank served holds byteBy rowByte rowOf
-    rowOver startAnswer startOf releaseAnswer released releaseOf unitAfter servedFor sumAfter
-    advanced timeLeft advanceAnswer advanceOf runFrom
-    acceptedIn slicesOf size among kindsIn fieldAt repeated divisor divisorTo roundedUp offered counts frameFits timedAlone
-    kindsTimed answerFor builtOf
+    workload widthOf excessOf fitted admitted untouched inTime underway unitInForm emptyUnit early startable leftFor projectLeft
+    sumsRight sumFits sumsInForm inForm sumsTold ready untilDue goneAfter leftAfter working active activeKinds outranks hasCard
+    cardsHeld rankOf chosen takesCard byteOn viewOf rank served holds byteBy rowByte rowOf rowOver startAnswer startOf releaseAnswer
+    released releaseOf unitAfter servedFor sumAfter advanced advanceOf runFrom acceptedIn slicesOf size among kindsIn fieldAt
+    repeated divisor divisorTo roundedUp offered counts frameFits timedAlone kindsTimed answerFor builtOf
 figures = record {
   three-kinds = refl;
   separations = (refl, refl, refl);

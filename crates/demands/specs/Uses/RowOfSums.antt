@@ -29,16 +29,17 @@ use Rattle.supply.specs.Greatest.{greatestTo}
 use Rattle.supply.specs.Fit.{fitsAt, leastWidth, allowedLength, leastExcess}
 use Rattle.workload.specs.Workload.{besides, partOf, workload}
 use Rattle.verdict.specs.Verdict.{widthOf, excessOf, fitted, admitted}
-use Rattle.unit.specs.Form.{untouched, underway, unitInForm, emptyUnit}
+use Rattle.unit.specs.Form.{untouched, inTime, underway, unitInForm, emptyUnit}
+use Rattle.unit.specs.Step.{untilDue, goneAfter, leftAfter}
 use Rattle.unit.specs.Start.{early, startable}
 use Rattle.rack.specs.Sums.{leftFor, projectLeft, sumsRight}
 use Rattle.rack.specs.Form.{sumFits, sumsInForm, inForm, sumsTold, ready}
 use Rattle.rack.specs.View.{hasCard, cardsHeld, rankOf, chosen, takesCard, byteOn}
-use Rattle.rack.specs.Rank.{gone, due, working, active, outranks, viewOf, rank, served}
+use Rattle.rack.specs.Rank.{working, active, outranks, viewOf, rank, served}
 use Rattle.rack.specs.Row.{byteBy, rowByte, rowOf, rowOver}
 use Rattle.rack.specs.Start.{startAnswer, startOf}
 use Rattle.rack.specs.Release.{releaseAnswer, released, releaseOf}
-use Rattle.rack.specs.Advance.{unitAfter, advanced, timeLeft, advanceAnswer, advanceOf, servedFor, sumAfter}
+use Rattle.rack.specs.Advance.{unitAfter, advanced, advanceAnswer, advanceOf, servedFor, sumAfter}
 use Rattle.rack.specs.declared.State.{State}
 use Rattle.rack.specs.State.{unitOf, sumAt, Places}
 use Rattle.rack.specs.Sums.{leftRow}
@@ -83,10 +84,10 @@ figures : Figures
 unfolding sumTo leastTo firstTo countTo allTo written rankIn firstIn sooner eachTo within sized emptyProject emptyKind tidyProjects
     tidyKinds inRange timed budgets sizes unused projectsInRange kindInRange kindsInRange budgetsFit ranges checked cellAt heldFrom
     firstCell owns slotOf held window supply workloadPart fitsAt leastWidth greatestTo allowedLength leastExcess besides partOf
-    workload widthOf excessOf fitted admitted untouched underway unitInForm emptyUnit early startable leftFor projectLeft sumsRight
-    sumFits sumsInForm inForm sumsTold ready gone due working active outranks hasCard cardsHeld rankOf chosen takesCard byteOn viewOf
-    rank served byteBy rowByte rowOf rowOver startAnswer startOf releaseAnswer released releaseOf unitAfter servedFor sumAfter advanced
-    timeLeft advanceAnswer advanceOf runFrom acceptedIn slicesOf namesProject bytesIn
+    workload widthOf excessOf fitted admitted untouched inTime underway unitInForm emptyUnit early startable leftFor projectLeft
+    sumsRight sumFits sumsInForm inForm sumsTold ready untilDue goneAfter leftAfter working active outranks hasCard cardsHeld rankOf
+    chosen takesCard byteOn viewOf rank served byteBy rowByte rowOf rowOver startAnswer startOf releaseAnswer released releaseOf
+    unitAfter servedFor sumAfter advanced advanceOf runFrom acceptedIn slicesOf namesProject bytesIn
 figures = record {
   left-open = refl;
   left-one = refl;

@@ -26,9 +26,8 @@ use Rattle.workload.specs.Workload.{besides, partOf}
 use Rattle.verdict.specs.Verdict.{judged}
 use Rattle.verdict.specs.Admission.Properties.{judged-in-order, given-fits}
 use Rattle.rack.specs.declared.State.{State}
-use Rattle.rack.specs.State.{unitOf, kindAt}
 use Rattle.rack.specs.View.{cardsHeld}
-use Rattle.rack.specs.Rank.{gone, due, until, viewOf}
+use Rattle.rack.specs.Rank.{viewOf}
 use Rattle.rack.specs.Release.{released}
 use Rattle.rack.specs.Advance.{advanced}
 use Rattle.analysis.specs.Setup.{Own, Timed, other}
@@ -78,13 +77,6 @@ module _ (p : Plan) (good : judged p .answer ≡ Good) where
           let run = supply-view p order j k (kindOf p i .deadline) (omega (arith, e, order .kind-at i (o .below) .its-project)) in
           omega (arith, given-fits p good i (o .below) .room, workload-view p i j e, its, run)
 
--- ---- the slices until a deadline
-
--- as many as D has more than are gone since the release
-pub until-gone : (s : State) (i : ℕ) → unitOf s i .at ≤ s .clock → until s i ≡ kindAt s i .deadline - gone s i
-unfolding until due gone
-until-gone s i l = omega arith
-
 -- ---- the cards from now on
 
 -- a slice's cards are those of its place in the frame
@@ -100,15 +92,14 @@ module _ (s : State) (j : ℕ) where
   -- "the cards a project holds": this slice's
   pub cards-now : cardsFrom s j 0 ≡ cardsHeld (viewOf s j)
   unfolding cardsFrom cardsHeld viewOf
-  cards-now = ap run (add-zero (s .clock % s .plan .frame))
+  cards-now = ap run (add-zero (s .slice))
 
   -- a slice later
   pub cards-later : (x : ℕ) → cardsFrom (advanced s) j x ≡ cardsFrom s j (1 + x)
   unfolding cardsFrom viewOf advanced
   cards-later x =
-      turned (firstCell (s .plan) j) (budgetOf (s .plan) j) (s .plan .frame) (s .clock + 1) x
-      ∙ ap run (add-assoc (s .clock) 1 x)
-      ∙ sym (turned (firstCell (s .plan) j) (budgetOf (s .plan) j) (s .plan .frame) (s .clock) (1 + x))
+      turned (firstCell (s .plan) j) (budgetOf (s .plan) j) (s .plan .frame) (s .slice + 1) x
+      ∙ ap run (add-assoc (s .slice) 1 x)
 
   -- a release takes no time
   pub cards-kept : (k e x : ℕ) → cardsFrom (released s k e) j x ≡ cardsFrom s j x
@@ -117,7 +108,7 @@ module _ (s : State) (j : ℕ) where
 
   module _ (some : 0 < s .plan .frame) where
     abbrev slice : ℕ
-    slice = s .clock % s .plan .frame
+    slice = s .slice
 
     later : (x y : ℕ) → run (slice + (x + y)) ≡ run (slice + x + y)
     later x y = ap run (sym (add-assoc slice x y))

@@ -12,9 +12,9 @@ use Rattle.rack.specs.declared.State.{State}
 use Rattle.rack.specs.State.{unitOf, kindAt, kindPlaces, InUse}
 use Rattle.rack.specs.View.{cardsHeld, rankOf, chosen}
 use Rattle.rack.specs.View.Properties.{chosen-active, chosen-above}
-use Rattle.rack.specs.Rank.{until, outranks, viewOf, rank, served}
+use Rattle.rack.specs.Rank.{outranks, viewOf, rank, served}
 use Rattle.rack.specs.Rank.Properties.{working-left, working-of, active-of, active-project}
-use Rattle.rack.specs.Rank.Properties.{ranked, outranks-due, served-working, unserved-rank}
+use Rattle.rack.specs.Rank.Properties.{ranked, outranks-until, served-working, unserved-rank}
 use Rattle.analysis.specs.Setup.{Own}
 use Rattle.analysis.specs.Setup.Properties.{other-of}
 use Rattle.analysis.specs.Step.{Serves}
@@ -37,11 +37,10 @@ module _ (s : State) (j : ℕ) where
 
   -- whom the project chooses is due no later than one that is outranked
   chosen-prior : (i k : ℕ) → InUse s k → chosen (viewOf s j) k ≡ true → outranks s k i ≡ true → prior k i ≡ true
-  unfolding until
   chosen-prior i k l e a =
       let own : Own (setupOf (s .plan) j) k = record { below = l; mine = eq-eqb (kindAt s k .project) j (chosen-project k e) } in
       let other = other-of (setupOf (s .plan) j) i k own (λ x. false≢true (sym (ranked s .never-itself i) ∙ (rw x at a))) in
-      later-of (setupOf (s .plan) j) (momentOf s j) i k other (omega (arith, outranks-due s k i a))
+      later-of (setupOf (s .plan) j) (momentOf s j) i k other (omega (arith, outranks-until s k i a))
 
   -- one that has slices left and is not served waits for as many of them as the project holds cards
   module _ (i : ℕ) (own : Own (setupOf (s .plan) j) i) (some : 0 < unitOf s i .left) (unserved : served s i ≡ false) where

@@ -34,6 +34,11 @@ once : (c x y : Answer) → (c andThen Good) andThen ((c andThen x) andThen y) �
 once Good x y = refl
 once (No r) x y = refl
 
+-- also where nothing else is asked
+once-alone : (a b : Answer) → ((a andThen Good) andThen (a andThen b)) ≡ (a andThen b)
+once-alone Good b = refl
+once-alone (No r) b = refl
+
 -- ---- one call on the image of a state
 
 module _ (s : State) (typed : StateTyped s) (rest : List ℕ) where
@@ -62,8 +67,8 @@ module _ (s : State) (typed : StateTyped s) (rest : List ℕ) where
   show-answer row = rw (found, stands) (once (checked (s .plan)) _ _)
 
   advance-answer : advancesAnswer image ≡ advanceAnswer s
-  unfolding advancesAnswer advanceAnswer ready
-  advance-answer = rw (found, stands) (once (checked (s .plan)) _ _)
+  unfolding advancesAnswer ready
+  advance-answer = rw (found, stands) (once-alone (checked (s .plan)) _)
 
   release-answer : (i e : ℕ) → releasesAnswer image i e ≡ releaseAnswer s i e
   unfolding releasesAnswer releaseAnswer ready

@@ -69,7 +69,7 @@ small-release = refl
 pub lent-shows : (s : State) → advanceAnswer s ≡ Good → take (s .plan .cards) (bufferShown s lent) ≡ rowOf s
 lent-shows s g =
     let may = advance-says s g in
-    show-first s lent (show-of s 8 (record { advance = may; enough = may .ready .order .counts .cards-most }))
+    show-first s lent (show-of s 8 (record { ready = may; enough = may .order .counts .cards-most }))
 
 pub events-shown : (cards : ℕ) (calls : List Call) (s : State) → s .plan .cards ≡ cards
     → eventsSeen cards calls (allSeen s calls) ≡ shown s calls

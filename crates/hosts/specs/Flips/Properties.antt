@@ -39,8 +39,8 @@ use Rattle.rack.specs.Form.{Ready, ready}
 use Rattle.rack.specs.Release.{releaseAnswer, releaseOf}
 use Rattle.rack.specs.Show.{showAnswer}
 use Rattle.rack.specs.Advance.{advanceAnswer, advanceOf}
-use Rattle.images.specs.Image.{countWidths, projectWidths, kindWidths, clockWidths, unitWidths, sumWidths, planSize, stateSize}
-use Rattle.images.specs.Image.{projectPlace, kindPlace, clockPlace, unitPlace, sumPlace, field, projectFrom, kindFrom, clockFrom, unitFrom}
+use Rattle.images.specs.Image.{countWidths, projectWidths, kindWidths, sliceWidths, unitWidths, sumWidths, planSize, stateSize}
+use Rattle.images.specs.Image.{projectPlace, kindPlace, slicePlace, unitPlace, sumPlace, field, projectFrom, kindFrom, sliceFrom, unitFrom}
 use Rattle.images.specs.Image.{sumFrom, unitsFrom, sumsFrom, planFrom, stateFrom, releasedAt, releasedTold}
 use Rattle.images.specs.Lent.{room}
 use Rattle.images.specs.Typed.Properties.{state-found-typed}
@@ -79,8 +79,8 @@ module _ (s : List ℕ) (x v : ℕ) where
   unfolding planFrom projectFrom kindFrom
   plan-kept l =
       let counts : fieldsOf countWidths t ≡ fieldsOf countWidths s = fields-before countWidths 0 (omega arith) in
-      let projects =
-      written-cong 8 (λ j. projectFrom (drop (projectPlace j) t)) (λ j. projectFrom (drop (projectPlace j) s)) (replicate 8 noProject)
+      let projects = written-cong 8 (λ j. projectFrom (drop (projectPlace j) t)) (λ j. projectFrom (drop (projectPlace j) s))
+      (replicate 8 noProject)
       (λ j m. project-kept j (fields-before projectWidths (projectPlace j) (omega arith))) in
       let kinds = written-cong 16 (λ i. kindFrom (drop (kindPlace i) t)) (λ i. kindFrom (drop (kindPlace i) s)) (replicate 16 noKind)
       (λ i m. kind-kept i (fields-before kindWidths (kindPlace i) (omega arith))) in
@@ -106,16 +106,16 @@ module _ (s : List ℕ) (x v : ℕ) where
         length = getD (e k) 3 0;
       }
 
-  -- the clock
-  clock-kept : clockPlace + 4 ≤ x → clockFrom (drop clockPlace t) ≡ clockFrom (drop clockPlace s)
-  unfolding clockFrom
-  clock-kept l = ap (λ (f : List ℕ). getD f 0 0) (fields-before clockWidths clockPlace l)
+  -- the slice
+  slice-kept : slicePlace + 1 ≤ x → sliceFrom (drop slicePlace t) ≡ sliceFrom (drop slicePlace s)
+  unfolding sliceFrom
+  slice-kept l = ap (λ (f : List ℕ). getD f 0 0) (fields-before sliceWidths slicePlace l)
 
   -- a unit
   unit-kept : (i : ℕ) → fieldsOf unitWidths (drop (unitPlace i) t) ≡ fieldsOf unitWidths (drop (unitPlace i) s) →
       unitFrom (drop (unitPlace i) t) ≡ unitFrom (drop (unitPlace i) s)
   unfolding unitFrom
-  unit-kept i e = λ k. record { released = eqb (getD (e k) 0 0) 1; at = getD (e k) 1 0; left = getD (e k) 2 0 }
+  unit-kept i e = λ k. record { released = eqb (getD (e k) 0 0) 1; gone = getD (e k) 1 0; left = getD (e k) 2 0 }
 
   -- a sum
   sum-kept : (j : ℕ) → fieldsOf sumWidths (drop (sumPlace j) t) ≡ fieldsOf sumWidths (drop (sumPlace j) s) →
@@ -154,25 +154,25 @@ sum-value : (u : List ℕ) → AreBytes u → sumFrom u ≡ lowTwo u 0
 unfolding sumFrom fieldsOf unpack numberTo
 sum-value u b = rw (div-one (numberTo 2 u)) (omega (arith, b 0, b 1))
 
--- a unit's slices left are its last two, and the rest of it the first five
+-- a unit's slices left are its last two, and the rest of it the first three
 unit-value : (u : List ℕ) → AreBytes u →
-    unitFrom u ≡ record { released = eqb (numberTo 5 u / 4294967296 % 256) 1; at = numberTo 5 u % 4294967296; left = lowTwo u 5 }
+    unitFrom u ≡ record { released = eqb (numberTo 3 u / 65536 % 256) 1; gone = numberTo 3 u % 65536; left = lowTwo u 3 }
 unfolding unitFrom fieldsOf unpack
 unit-value u b =
-    let n = numberTo 5 u in
-    let all : numberTo 7 u ≡ n * 65536 + lowTwo u 5 = omega (arith, number-suc 6 u, number-suc 5 u) in
-    let high : numberTo 7 u / 281474976710656 % 256 ≡ n / 4294967296 % 256 = omega (arith, all, b 5, b 6) in
-    let middle : numberTo 7 u / 65536 % 4294967296 ≡ n % 4294967296 = omega (arith, all, b 5, b 6) in
-    let low : numberTo 7 u / 1 % 65536 ≡ lowTwo u 5 = rw (div-one (numberTo 7 u)) (omega (arith, all, b 5, b 6)) in
-    λ k. record { released = eqb (high k) 1; at = middle k; left = low k }
+    let n = numberTo 3 u in
+    let all : numberTo 5 u ≡ n * 65536 + lowTwo u 3 = omega (arith, number-suc 4 u, number-suc 3 u) in
+    let high : numberTo 5 u / 4294967296 % 256 ≡ n / 65536 % 256 = omega (arith, all, b 3, b 4) in
+    let middle : numberTo 5 u / 65536 % 65536 ≡ n % 65536 = omega (arith, all, b 3, b 4) in
+    let low : numberTo 5 u / 1 % 65536 ≡ lowTwo u 3 = rw (div-one (numberTo 5 u)) (omega (arith, all, b 3, b 4)) in
+    λ k. record { released = eqb (high k) 1; gone = middle k; left = low k }
 
 -- and its released byte is one of these
-released-value : (u : List ℕ) → AreBytes u → field unitWidths u 0 ≡ numberTo 5 u / 4294967296 % 256
+released-value : (u : List ℕ) → AreBytes u → field unitWidths u 0 ≡ numberTo 3 u / 65536 % 256
 unfolding fieldsOf unpack
 released-value u b =
-    let n = numberTo 5 u in
-    let all : numberTo 7 u ≡ n * 65536 + lowTwo u 5 = omega (arith, number-suc 6 u, number-suc 5 u) in
-    omega (arith, all, b 5, b 6)
+    let n = numberTo 3 u in
+    let all : numberTo 5 u ≡ n * 65536 + lowTwo u 3 = omega (arith, number-suc 4 u, number-suc 3 u) in
+    omega (arith, all, b 3, b 4)
 
 -- ---- the changed image is the changed state
 
@@ -226,12 +226,12 @@ module _ (s : List ℕ) (bytes : AreBytes s) (whole : stateSize ≤ length s) (v
     unfolding stateFrom
     sum-changed-is =
         let plan = plan-kept s (sumByte j b) v (omega arith) in
-        let clock = clock-kept s (sumByte j b) v (omega arith) in
+        let slice = slice-kept s (sumByte j b) v (omega arith) in
         let units = written-cong 16 (λ i. unitFrom (drop (unitPlace i) y)) (λ i. unitFrom (drop (unitPlace i) s)) (replicate 16 noUnit)
         (λ i k. unit-kept s (sumByte j b) v i (fields-before s (sumByte j b) v unitWidths (unitPlace i) (omega arith))) in
-        let sums =
-        sym (written-changed 8 (λ k. sumFrom (drop (sumPlace k) s)) (λ k. sumFrom (drop (sumPlace k) y)) (replicate 8 0) j l others) in
-        λ k. record { plan = plan k; clock = clock k; unit = units k; sum = sums k }
+        let sums = sym (written-changed 8 (λ k. sumFrom (drop (sumPlace k) s)) (λ k. sumFrom (drop (sumPlace k) y))
+        (replicate 8 0) j l others) in
+        λ k. record { plan = plan k; slice = slice k; unit = units k; sum = sums k }
       where
         others : (k : ℕ) → k < 8 → k ≢ j → sumFrom (drop (sumPlace k) y) ≡ sumFrom (drop (sumPlace k) s)
         others k q z =
@@ -254,13 +254,13 @@ module _ (s : List ℕ) (bytes : AreBytes s) (whole : stateSize ≤ length s) (v
 
     -- what the image then says for the slices left
     abbrev pub new-left : ℕ
-    new-left = lowTwo (drop (unitPlace i) w) 5
+    new-left = lowTwo (drop (unitPlace i) w) 3
 
     behind : (c : ℕ) → getD (drop (unitPlace i) w) c 0 ≡ getD w (unitPlace i + c) 0
     behind c = getD-drop (unitPlace i) w c 0
 
     -- of a place's first bytes none is the changed one
-    first-kept : (c : ℕ) → c < 5 → getD (drop (unitPlace i) w) c 0 ≡ getD (drop (unitPlace i) s) c 0
+    first-kept : (c : ℕ) → c < 3 → getD (drop (unitPlace i) w) c 0 ≡ getD (drop (unitPlace i) s) c 0
     first-kept c k =
         behind c ∙ getD-set-other s (leftByte i b) (unitPlace i + c) v 0 (λ q. omega arith) ∙ sym (getD-drop (unitPlace i) s c 0)
 
@@ -274,37 +274,37 @@ module _ (s : List ℕ) (bytes : AreBytes s) (whole : stateSize ≤ length s) (v
     unfolding stateFrom
     unit-said = written-at 16 (λ k. unitFrom (drop (unitPlace k) s)) (replicate 16 noUnit) noUnit i l (omega arith)
 
-    left-said : unitOf (stateFrom s) i .left ≡ lowTwo (drop (unitPlace i) s) 5
+    left-said : unitOf (stateFrom s) i .left ≡ lowTwo (drop (unitPlace i) s) 3
     left-said = ap (λ (x : Unit). x .left) (unit-said ∙ unit-value (drop (unitPlace i) s) bytes-u)
 
     pub left-other-value : new-left ≢ unitOf (stateFrom s) i .left
     left-other-value e =
-        low-differs (drop (unitPlace i) s) (drop (unitPlace i) w) 5 b bytes-u bytes-w m
-        (λ q. other (sym (changed (5 + b) refl) ∙ q ∙ getD-drop (unitPlace i) s (5 + b) 0 ∙ place))
+        low-differs (drop (unitPlace i) s) (drop (unitPlace i) w) 3 b bytes-u bytes-w m
+        (λ q. other (sym (changed (3 + b) refl) ∙ q ∙ getD-drop (unitPlace i) s (3 + b) 0 ∙ place))
         (λ c k z.
-        behind (5 + c) ∙ getD-set-other s (leftByte i b) (unitPlace i + (5 + c)) v 0 (λ q. z (omega arith))
-        ∙ sym (getD-drop (unitPlace i) s (5 + c) 0))
+        behind (3 + c) ∙ getD-set-other s (leftByte i b) (unitPlace i + (3 + c)) v 0 (λ q. z (omega arith))
+        ∙ sym (getD-drop (unitPlace i) s (3 + c) 0))
         (e ∙ left-said)
       where
-        place : getD s (unitPlace i + (5 + b)) 0 ≡ getD s (leftByte i b) 0
-        place = let q : unitPlace i + (5 + b) ≡ leftByte i b = omega arith in ap (λ (k : ℕ). getD s k 0) q
+        place : getD s (unitPlace i + (3 + b)) 0 ≡ getD s (leftByte i b) 0
+        place = let q : unitPlace i + (3 + b) ≡ leftByte i b = omega arith in ap (λ (k : ℕ). getD s k 0) q
 
-        changed : (c : ℕ) → c ≡ 5 + b → getD (drop (unitPlace i) w) c 0 ≡ v
+        changed : (c : ℕ) → c ≡ 3 + b → getD (drop (unitPlace i) w) c 0 ≡ v
         changed c q =
             let at : unitPlace i + c ≡ leftByte i b = omega arith in
             behind c ∙ ap (λ (k : ℕ). getD w k 0) at ∙ getD-set-same s (leftByte i b) v 0 (omega arith)
 
     unit-changed : unitFrom (drop (unitPlace i) w) ≡ leftAs (unitOf (stateFrom s) i) new-left
     unit-changed =
-        let n : numberTo 5 (drop (unitPlace i) w) ≡ numberTo 5 (drop (unitPlace i) s) =
-        number-cong 5 (drop (unitPlace i) w) (drop (unitPlace i) s) first-kept in
+        let n : numberTo 3 (drop (unitPlace i) w) ≡ numberTo 3 (drop (unitPlace i) s) =
+        number-cong 3 (drop (unitPlace i) w) (drop (unitPlace i) s) first-kept in
         unit-value (drop (unitPlace i) w) bytes-w
         ∙ ap (λ (x : ℕ). record {
-          released = eqb (x / 4294967296 % 256) 1;
-          at = x % 4294967296;
-          left = lowTwo (drop (unitPlace i) w) 5;
+          released = eqb (x / 65536 % 256) 1;
+          gone = x % 65536;
+          left = lowTwo (drop (unitPlace i) w) 3;
         }) n
-        ∙ ap (λ (x : Unit). leftAs x (lowTwo (drop (unitPlace i) w) 5)) (sym (unit-said ∙ unit-value (drop (unitPlace i) s) bytes-u))
+        ∙ ap (λ (x : Unit). leftAs x (lowTwo (drop (unitPlace i) w) 3)) (sym (unit-said ∙ unit-value (drop (unitPlace i) s) bytes-u))
 
     fields-others : (k : ℕ) → k ≢ i → fieldsOf unitWidths (drop (unitPlace k) w) ≡ fieldsOf unitWidths (drop (unitPlace k) s)
     fields-others k z =
@@ -317,13 +317,14 @@ module _ (s : List ℕ) (bytes : AreBytes s) (whole : stateSize ≤ length s) (v
     unfolding stateFrom
     left-changed-is =
         let plan = plan-kept s (leftByte i b) v (omega arith) in
-        let clock = clock-kept s (leftByte i b) v (omega arith) in
+        let slice = slice-kept s (leftByte i b) v (omega arith) in
         let units =
         sym (ap (λ (x : Unit). set (unitsFrom 16 s) i x) (sym unit-changed)
-        ∙ written-changed 16 (λ k. unitFrom (drop (unitPlace k) s)) (λ k. unitFrom (drop (unitPlace k) w)) (replicate 16 noUnit) i l others) in
+        ∙ written-changed 16 (λ k. unitFrom (drop (unitPlace k) s)) (λ k. unitFrom (drop (unitPlace k) w))
+        (replicate 16 noUnit) i l others) in
         let sums = written-cong 8 (λ j. sumFrom (drop (sumPlace j) w)) (λ j. sumFrom (drop (sumPlace j) s)) (replicate 8 0)
         (λ j k. sum-kept s (leftByte i b) v j (fields-behind s (leftByte i b) v sumWidths (sumPlace j) (omega arith))) in
-        λ k. record { plan = plan k; clock = clock k; unit = units k; sum = sums k }
+        λ k. record { plan = plan k; slice = slice k; unit = units k; sum = sums k }
       where
         others : (k : ℕ) → k < 16 → k ≢ i → unitFrom (drop (unitPlace k) w) ≡ unitFrom (drop (unitPlace k) s)
         others k q z = unit-kept s (leftByte i b) v k (fields-others k z)
@@ -338,7 +339,7 @@ module _ (s : List ℕ) (bytes : AreBytes s) (whole : stateSize ≤ length s) (v
     released-kept : field unitWidths (drop (unitPlace i) w) 0 ≡ field unitWidths (drop (unitPlace i) s) 0
     released-kept =
         released-value (drop (unitPlace i) w) bytes-w
-        ∙ ap (λ (x : ℕ). x / 4294967296 % 256) (number-cong 5 (drop (unitPlace i) w) (drop (unitPlace i) s) first-kept)
+        ∙ ap (λ (x : ℕ). x / 65536 % 256) (number-cong 3 (drop (unitPlace i) w) (drop (unitPlace i) s) first-kept)
         ∙ sym (released-value (drop (unitPlace i) s) bytes-u)
 
     pub left-told-kept : releasedTold s ≡ true → releasedTold w ≡ true
@@ -421,7 +422,8 @@ module _ (s : List ℕ) (whole : stateSize ≤ length s) (call : Call) (seen : S
   unfolding among disjoint
   image-good = go (stateAnswer s) refl own-answer
     where
-      go : (a : Answer) → stateAnswer s ≡ a → among ownNumbers (number (stateAnswer s andThen nextAfter (stateFrom s) call .answer)) ≡ true →
+      go : (a : Answer) → stateAnswer s ≡ a →
+          among ownNumbers (number (stateAnswer s andThen nextAfter (stateFrom s) call .answer)) ≡ true →
           stateAnswer s ≡ Good
       go Good e o = e
       go (No w) e o =
@@ -430,7 +432,8 @@ module _ (s : List ℕ) (whole : stateSize ≤ length s) (call : Call) (seen : S
           absurd (true≢false (sym o ∙ ap (among ownNumbers) same ∙ out))
 
   pub state-taken : among ownNumbers (number (nextAfter (stateFrom s) call .answer)) ≡ true
-  state-taken = ap (λ (a : Answer). among ownNumbers (number (a andThen nextAfter (stateFrom s) call .answer))) (sym image-good) ∙ own-answer
+  state-taken =
+      ap (λ (a : Answer). among ownNumbers (number (a andThen nextAfter (stateFrom s) call .answer))) (sym image-good) ∙ own-answer
 
 -- ---- a flipped bit is another byte
 

@@ -11,8 +11,8 @@ flag-requires c κs = search needs
 mul-fields : tie.Need-mul-fields
 mul-fields c = search needs
 
-widest-requires : tie.Need-widest-requires
-widest-requires c κs = search needs
+wider-requires : tie.Need-wider-requires
+wider-requires c κs = search needs
 
 mul-fields-2 : tie.Need-mul-fields-2
 mul-fields-2 c = search needs
@@ -20,8 +20,8 @@ mul-fields-2 c = search needs
 add-fields : tie.Need-add-fields
 add-fields c = search needs
 
-wider-requires : tie.Need-wider-requires
-wider-requires c κs = search needs
+wider-requires-2 : tie.Need-wider-requires-2
+wider-requires-2 c κs = search needs
 
 add-fields-2 : tie.Need-add-fields-2
 add-fields-2 c = search needs
@@ -41,10 +41,10 @@ put-unit-spec =
     (tie.spec
     flag-requires
     mul-fields
-    widest-requires
+    wider-requires
     mul-fields-2
     add-fields
-    wider-requires
+    wider-requires-2
     add-fields-2
     put-fields-requires
     same-length

@@ -8,8 +8,8 @@ use Rattle.image_writer.proofs.store_state.Tie as tie
 store-plan-requires : tie.Need-store-plan-requires
 store-plan-requires c κs = search needs
 
-put-clock-requires : tie.Need-put-clock-requires
-put-clock-requires c κs = search needs
+put-slice-requires : tie.Need-put-slice-requires
+put-slice-requires c κs = search needs
 
 put-units-requires : tie.Need-put-units-requires
 put-units-requires c κs = search needs
@@ -26,4 +26,4 @@ returns c = search store-state
 pub store-state-spec : {M : Type 1} → statement M
 store-state-spec =
     tie.close
-    (tie.spec store-plan-requires put-clock-requires put-units-requires put-sums-requires same-length returns)
+    (tie.spec store-plan-requires put-slice-requires put-units-requires put-sums-requires same-length returns)

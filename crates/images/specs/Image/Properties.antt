@@ -24,13 +24,13 @@ use Rattle.plan.specs.declared.Plan.{Plan}
 use Rattle.unit.specs.declared.Unit.{Unit}
 use Rattle.rack.specs.declared.State.{State}
 use Rattle.rack.specs.State.{unitOf, sumAt}
-use Rattle.images.specs.Image.{countWidths, projectWidths, kindWidths, clockWidths, unitWidths, sumWidths, planRows, stateRows}
-use Rattle.images.specs.Image.{planSize, stateSize, projectPlace, kindPlace, clockPlace}
-use Rattle.images.specs.Image.{unitPlace, sumPlace, releasedAt, releasedTold, field}
-use Rattle.images.specs.Image.{projectFrom, kindFrom, clockFrom, unitFrom, sumFrom}
-use Rattle.images.specs.Image.{projectsFrom, kindsFrom, unitsFrom, sumsFrom, planFrom}
-use Rattle.images.specs.Image.{stateFrom, countFields, projectFields, kindFields}
-use Rattle.images.specs.Image.{unitFields, projectBytesAt, kindBytesAt, unitBytesAt, sumBytesAt}
+use Rattle.images.specs.Image.{countWidths, projectWidths, kindWidths, sliceWidths, unitWidths, sumWidths, planRows, stateRows}
+use Rattle.images.specs.Image.{planSize, stateSize, projectPlace, kindPlace, slicePlace, unitPlace, sumPlace, releasedAt}
+use Rattle.images.specs.Image.{releasedTold, field}
+use Rattle.images.specs.Image.{projectFrom, kindFrom, sliceFrom, unitFrom, sumFrom, projectsFrom, kindsFrom, unitsFrom, sumsFrom}
+use Rattle.images.specs.Image.{planFrom}
+use Rattle.images.specs.Image.{stateFrom, countFields, projectFields, kindFields, unitFields, projectBytesAt, kindBytesAt}
+use Rattle.images.specs.Image.{unitBytesAt, sumBytesAt}
 use Rattle.images.specs.Image.{planValues, stateValues, planImage, stateImage}
 
 -- ---- the fields of a place off its number n
@@ -46,16 +46,16 @@ pub kind-at : (s : List ℕ) (n : ℕ) → n ≡ numberTo (sizeOf kindWidths) s
 unfolding kindFrom fieldsOf unpack
 kind-at s n e = rw (← e, div-one n)
 
-pub clock-at : (s : List ℕ) (n : ℕ) → n ≡ numberTo (sizeOf clockWidths) s → n % 4294967296 ≡ clockFrom s
-unfolding clockFrom fieldsOf unpack
-clock-at s n e = rw (← e, div-one n)
+pub slice-at : (s : List ℕ) (n : ℕ) → n ≡ numberTo (sizeOf sliceWidths) s → n % 256 ≡ sliceFrom s
+unfolding sliceFrom fieldsOf unpack
+slice-at s n e = rw (← e, div-one n)
 
-pub released-at : (s : List ℕ) (n : ℕ) → n ≡ numberTo (sizeOf unitWidths) s → n / 281474976710656 % 256 ≡ field unitWidths s 0
+pub released-at : (s : List ℕ) (n : ℕ) → n ≡ numberTo (sizeOf unitWidths) s → n / 4294967296 % 256 ≡ field unitWidths s 0
 unfolding fieldsOf unpack
 released-at s n e = rw (← e)
 
 pub unit-at : (s : List ℕ) (n : ℕ) → n ≡ numberTo (sizeOf unitWidths) s
-    → record { at = n / 65536 % 4294967296; left = n % 65536; released = eqb (n / 281474976710656 % 256) 1 } ≡ unitFrom s
+    → record { gone = n / 65536 % 65536; left = n % 65536; released = eqb (n / 4294967296 % 256) 1 } ≡ unitFrom s
 unfolding unitFrom fieldsOf unpack
 unit-at s n e = rw (← e, div-one n)
 
@@ -91,12 +91,12 @@ pub plan-from : (s : List ℕ) (n : ℕ) (projects : List Project) (kinds : List
 unfolding planFrom fieldsOf unpack
 plan-from s n projects kinds e f g = rw (f, g, ← e, div-one n)
 
--- the plan, the clock, the units and the sums make the state
-pub state-from : (s : List ℕ) (p : Plan) (clock : ℕ) (units : List Unit) (sums : List ℕ) → p ≡ planFrom s
-    → clock ≡ clockFrom (drop clockPlace s) → units ≡ unitsFrom 16 s → sums ≡ sumsFrom 8 s
-    → record { plan = p; clock = clock; unit = units; sum = sums } ≡ stateFrom s
+-- the plan, the slice, the units and the sums make the state
+pub state-from : (s : List ℕ) (p : Plan) (slice : ℕ) (units : List Unit) (sums : List ℕ) → p ≡ planFrom s
+    → slice ≡ sliceFrom (drop slicePlace s) → units ≡ unitsFrom 16 s → sums ≡ sumsFrom 8 s
+    → record { plan = p; slice = slice; unit = units; sum = sums } ≡ stateFrom s
 unfolding stateFrom
-state-from s p clock units sums e f g h = λ i. record { plan = e i; clock = f i; unit = g i; sum = h i }
+state-from s p slice units sums e f g h = λ i. record { plan = e i; slice = f i; unit = g i; sum = h i }
 
 -- ---- the fields of a place as its number
 
@@ -125,19 +125,19 @@ put-kind v j t d c at l after e f g i h =
     (v .separation * 4294967296 + (v .deadline * 65536 + (v .length * 1 + 0))) = omega arith in
     h ∙ ap (λ (y : ℕ). sets l at (bytesOf 7 y)) x
 
-pub put-clock : (clock x at : ℕ) (l after : List ℕ) → x ≡ clock → after ≡ sets l at (bytesOf (sizeOf clockWidths) x)
-    → after ≡ sets l at (placed clockWidths (clock ∷ []))
+pub put-slice : (slice x at : ℕ) (l after : List ℕ) → x ≡ slice → after ≡ sets l at (bytesOf (sizeOf sliceWidths) x)
+    → after ≡ sets l at (placed sliceWidths (slice ∷ []))
 unfolding placed pack
-put-clock clock x at l after e h = let z : x ≡ clock * 1 + 0 = omega arith in h ∙ ap (λ (y : ℕ). sets l at (bytesOf 4 y)) z
+put-slice slice x at l after e h = let z : x ≡ slice * 1 + 0 = omega arith in h ∙ ap (λ (y : ℕ). sets l at (bytesOf 1 y)) z
 
-pub put-unit : (v : Unit) (z r w at : ℕ) (l after : List ℕ) → z ≡ cond (v .released) 1 0 → r ≡ v .at → w ≡ v .left
-    → after ≡ sets l at (bytesOf (sizeOf unitWidths) (z * 281474976710656 + r * 65536 + w))
+pub put-unit : (v : Unit) (z r w at : ℕ) (l after : List ℕ) → z ≡ cond (v .released) 1 0 → r ≡ v .gone → w ≡ v .left
+    → after ≡ sets l at (bytesOf (sizeOf unitWidths) (z * 4294967296 + r * 65536 + w))
     → after ≡ sets l at (placed unitWidths (unitFields v))
 unfolding placed pack
 put-unit v z r w at l after e f g h =
-    let x : z * 281474976710656 + r * 65536 + w ≡ cond (v .released) 1 0 * 281474976710656 + (v .at * 65536 + (v .left * 1 + 0)) =
+    let x : z * 4294967296 + r * 65536 + w ≡ cond (v .released) 1 0 * 4294967296 + (v .gone * 65536 + (v .left * 1 + 0)) =
     omega arith in
-    h ∙ ap (λ (y : ℕ). sets l at (bytesOf 7 y)) x
+    h ∙ ap (λ (y : ℕ). sets l at (bytesOf 5 y)) x
 
 pub put-sum : (sum x at : ℕ) (l after : List ℕ) → x ≡ sum → after ≡ sets l at (bytesOf (sizeOf sumWidths) x)
     → after ≡ sets l at (placed sumWidths (sum ∷ []))
@@ -159,7 +159,7 @@ unfolding planImage putRows putTo
 store-plan p out a b after l e f g = rw (g, f, e) (rows-stored planRows (planValues p) out refl l)
 
 pub store-state : (s : State) (out a b d after : List ℕ) → stateSize ≤ length out → a ≡ planImage (s .plan) ++ drop planSize out
-    → b ≡ sets a clockPlace (placed clockWidths (s .clock ∷ [])) → d ≡ putTo 16 (unitBytesAt s) (unitPlace 0) (sizeOf unitWidths) b
+    → b ≡ sets a slicePlace (placed sliceWidths (s .slice ∷ [])) → d ≡ putTo 16 (unitBytesAt s) (unitPlace 0) (sizeOf unitWidths) b
     → after ≡ putTo 8 (sumBytesAt s) (sumPlace 0) (sizeOf sumWidths) d
     → after ≡ stateImage s ++ drop stateSize out
 unfolding planImage stateImage putRows putTo

@@ -4,8 +4,8 @@
 use mathlib.Core.Path.{_≡_, refl, sym, _∙_}
 use mathlib.Core.Bool.{Bool, true, false, cond}
 use mathlib.Core.List.{List, [], _∷_}
-use Prim.Native.Nat.{ℕ, _*_, _≤_, _<_}
-use native.Mathlib.Nat.{mul-le-mul}
+use Prim.Native.Nat.{ℕ, _+_, _*_, _≤_, _<_}
+use native.Mathlib.Nat.{mul-le-mul, mod-lt}
 use native.Mathlib.Decide.{decLt, ℕ-discrete}
 use native.Mathlib.Omega.{arith}
 use lib.ListN.{drop, replicate, getD-replicate}
@@ -26,6 +26,7 @@ use Rattle.plan_bytes.specs.RoundTrip.Reads.{Passes, order-passes, empty-projec
 use Rattle.plan_bytes.specs.RoundTrip.Writes.{read-shaped, read-checked}
 use Rattle.rack.specs.declared.State.{State}
 use Rattle.unit.specs.Unit.{noUnit}
+use Rattle.unit.specs.Step.Properties.{gone-never, gone-more}
 use Rattle.rack.specs.State.{freshOf, unitOf, kindAt, kindPlaces, sumAt}
 use Rattle.rack.specs.Start.Properties.{fresh-places}
 use Rattle.rack.specs.Form.Properties.{places-most, place-most}
@@ -33,10 +34,10 @@ use Rattle.rack.specs.Release.{releaseAnswer, released, Releasable}
 use Rattle.rack.specs.Release.Properties.{release-says, release-unit, release-others, release-places, release-room, release-sum}
 use Rattle.rack.specs.Release.Properties.{release-sum-others}
 use Rattle.rack.specs.Advance.{unitAfter, advanced, advanceAnswer}
-use Rattle.rack.specs.Advance.Properties.{advance-says, advance-places, sum-falls}
-use Rattle.images.specs.Image.{countWidths, projectWidths, kindWidths, clockWidths, unitWidths, sumWidths, projectPlace, kindPlace}
-use Rattle.images.specs.Image.{clockPlace, unitPlace, sumPlace, sumFrom}
-use Rattle.images.specs.Image.{projectFrom, kindFrom, clockFrom, unitFrom, planFrom, stateFrom, projectFields, kindFields, unitFields}
+use Rattle.rack.specs.Advance.Properties.{advance-says, advance-places, sum-falls, after-released, after-gone, after-left}
+use Rattle.images.specs.Image.{countWidths, projectWidths, kindWidths, sliceWidths, unitWidths, sumWidths, projectPlace, kindPlace}
+use Rattle.images.specs.Image.{slicePlace, unitPlace, sumPlace, sumFrom}
+use Rattle.images.specs.Image.{projectFrom, kindFrom, sliceFrom, unitFrom, planFrom, stateFrom, projectFields, kindFields, unitFields}
 use Rattle.images.specs.Typed.{PlanTyped, StateTyped}
 
 -- ---- found in an image
@@ -81,11 +82,11 @@ plan-found-typed s =
 
 -- a state
 pub state-found-typed : (s : List ℕ) → StateTyped (stateFrom s)
-unfolding stateFrom clockFrom fieldsOf unpack
+unfolding stateFrom sliceFrom fieldsOf unpack
 state-found-typed s =
     record {
       plan-typed = plan-found-typed s;
-      clock-fits = fields-fit clockWidths (drop clockPlace s);
+      slice-fits = fields-fit sliceWidths (drop slicePlace s);
       places = record {
         sixteen = written-length 16 (λ i. unitFrom (drop (unitPlace i) s)) (replicate 16 noUnit);
         eight = written-length 8 (λ j. sumFrom (drop (sumPlace j) s)) (replicate 8 0);
@@ -170,7 +171,7 @@ pub start-typed : (p : Plan) → PlanTyped p → StateTyped (freshOf p)
 start-typed p t =
     record {
       plan-typed = t;
-      clock-fits = (omega arith, tt);
+      slice-fits = (omega arith, tt);
       places = fresh-places p;
       unit-fits = λ i l. rw (getD-replicate 16 i noUnit noUnit l) (omega arith, (omega arith, (omega arith, tt)));
       sum-fits = λ j l. (omega (arith, getD-replicate {A = ℕ} 8 j 0 0 l), tt);
@@ -184,7 +185,7 @@ module _ (s : State) (t : StateTyped s) where
 
     release-fits : (k : ℕ) → k < 16 → Dec (k ≡ i) → Fitting unitWidths (unitFields (unitOf (released s i e) k))
     release-fits k l (yes z) =
-        let clock = t .clock-fits in
+        let slice = t .slice-fits in
         let kind = t .plan-typed .kind-fits i (place-most s i (r .ready) (r .its-kind)) in
         let most = r .start .length-most in
         rw (z, release-unit s i e r (t .places)) (omega arith, (omega arith, (omega arith, tt)))
@@ -201,7 +202,7 @@ module _ (s : State) (t : StateTyped s) where
     release-typed =
         record {
           plan-typed = t .plan-typed;
-          clock-fits = t .clock-fits;
+          slice-fits = t .slice-fits;
           places = release-places s i e r (t .places);
           unit-fits = λ k l. release-fits k l (ℕ-discrete k i);
           sum-fits = λ j l. raised-fits j l (ℕ-discrete j (kindAt s i .project));
@@ -209,14 +210,27 @@ module _ (s : State) (t : StateTyped s) where
 
   -- by an advance
   module _ (good : advanceAnswer s ≡ Good) where
+    -- held at T, a number of 16 bits
+    gone-fits : (k : ℕ) → k < 16 → (b : Bool) → unitOf s k .released ≡ b → unitAfter s k .gone < 65536
+    gone-fits k l true e =
+        let separation = t .plan-typed .kind-fits k l .1 .0 in
+        omega (arith, after-gone s k, gone-more (kindAt s k .separation) (unitOf s k) e)
+    gone-fits k l false e =
+        let gone = t .unit-fits k l .1 .0 in
+        omega (arith, after-gone s k, gone-never (kindAt s k .separation) (unitOf s k) e)
+
     after-fits : (k : ℕ) → k < 16 → Fitting unitWidths (unitFields (unitAfter s k))
-    unfolding unitAfter
-    after-fits k l = let u = t .unit-fits k l in (u .0, (u .1 .0, (omega arith, tt)))
+    after-fits k l =
+        let u = t .unit-fits k l in
+        let left = u .1 .1 .0 in (
+          rw (after-released s k) (u .0),
+          (gone-fits k l (unitOf s k .released) refl, (omega (arith, after-left s k), tt)),
+        )
 
     advance-fits : (k : ℕ) → k < 16 → Dec (k < kindPlaces s) → Fitting unitWidths (unitFields (unitOf (advanced s) k))
     unfolding advanced
     advance-fits k l (yes z) =
-        let n = places-most s (kindPlaces s) (advance-says s good .ready) refl in
+        let n = places-most s (kindPlaces s) (advance-says s good) refl in
         rw (written-at (kindPlaces s) (unitAfter s) (s .unit) noUnit k z (omega (arith, t .places .sixteen))) (after-fits k l)
     advance-fits k l (no z) = rw (written-kept (kindPlaces s) (unitAfter s) (s .unit) noUnit k (omega arith)) (t .unit-fits k l)
 
@@ -224,10 +238,10 @@ module _ (s : State) (t : StateTyped s) where
     unfolding advanced
     advance-typed =
         let may = advance-says s good in
-        let time = may .time in
+        let next = mod-lt (s .slice + 1) (may .order .counts .some-slice) in
         record {
           plan-typed = t .plan-typed;
-          clock-fits = (omega arith, tt);
+          slice-fits = (omega (arith, next, may .order .counts .frame-most), tt);
           places = advance-places s may (t .places);
           unit-fits = λ k l. advance-fits k l (decLt k (kindPlaces s));
           sum-fits = λ j l. (omega (arith, t .sum-fits j l .0, sum-falls s may (t .places) j), tt);

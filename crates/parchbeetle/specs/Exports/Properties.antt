@@ -44,7 +44,6 @@ use Rattle.rack.specs.declared.State.{State}
 use Rattle.rack.specs.declared.Next.{Next}
 use Rattle.rack.specs.State.{freshOf, noState, nextOf, kindAt, unitOf}
 use Rattle.rack.specs.Form.{ready}
-use Rattle.rack.specs.Rank.{gone}
 use Rattle.rack.specs.Start.{startAnswer, startOf}
 use Rattle.unit.specs.Start.{startable}
 use Rattle.rack.specs.Release.{releaseAnswer, released, releaseOf}
@@ -396,6 +395,11 @@ again : (a b c : Answer) → (a andThen ((a andThen b) andThen c)) ≡ ((a andTh
 again Good b c = refl
 again (No w) b c = refl
 
+-- also where nothing else is asked
+again-alone : (a b : Answer) → (a andThen (a andThen b)) ≡ (a andThen b)
+again-alone Good b = refl
+again-alone (No w) b = refl
+
 -- the same behind 9, and before the 10 of a released byte
 once-of : (short order x : Answer) (told : Bool) → (order andThen x) ≡ x →
     ((short andThen (order andThen refuse (not told) (bare 10))) andThen x) ≡
@@ -419,7 +423,7 @@ no-next Good w x y s = refl
 no-next (No v) w x y s = refl
 
 too-long : (s : State) (k e : ℕ) → InOrder (s .plan) → k < s .plan .kinds → 4095 < e →
-    startable (kindAt s k) (unitOf s k) (gone s k) e ≡ bare 13
+    startable (kindAt s k) (unitOf s k) e ≡ bare 13
 unfolding startable within
 too-long s k e o l m =
     let r = o .kind-at k l in
@@ -540,8 +544,8 @@ show-told state row after f a r h g t u =
 -- ---- `parchbeetle_advance`: v is what the advance handed back
 
 advance-once : (s : List ℕ) → advancesAnswer s ≡ (foundAnswer s andThen advanceAnswer (stateFrom s))
-unfolding advancesAnswer advanceAnswer ready stateFrom
-advance-once s = once s (advanceAnswer (stateFrom s)) (again (checked (planFrom s)) _ _)
+unfolding advancesAnswer ready stateFrom
+advance-once s = once s (advanceAnswer (stateFrom s)) (again-alone (checked (planFrom s)) _)
 
 advance-answer : (s : State) (v : Next) → v ≡ advanceOf s → v .answer ≡ advanceAnswer s
 unfolding advanceOf

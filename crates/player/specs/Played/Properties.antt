@@ -13,7 +13,7 @@ use Rattle.player.specs.Turn.{lineOf, after}
 use Rattle.player.specs.Played.{onward, turns}
 
 -- nothing left
-pub turns-end : (s : State) (bytes : List ℕ) → length bytes ≡ 0 → turns s bytes ≡ endLine (s .clock)
+pub turns-end : (s : State) (bytes : List ℕ) → length bytes ≡ 0 → turns s bytes ≡ endLine (s .slice)
 unfolding turns
 turns-end s [] l = refl
 turns-end s (a ∷ bytes) l = absurd (omega arith)
@@ -21,7 +21,7 @@ turns-end s (a ∷ bytes) l = absurd (omega arith)
 -- something left: the command at its front, and then what follows
 pub turns-command : (s : State) (bytes : List ℕ) → 0 < length bytes
     → turns s bytes ≡ lineOf s (commandOf bytes) ++ onward (commandOf bytes) (turns (after s (commandOf bytes)) (drop 3 bytes))
-    (endLine (s .clock))
+    (endLine (s .slice))
 unfolding turns lineOf
 turns-command s [] l = absurd (omega arith)
 turns-command s (a ∷ []) l = rw (← command-short (a ∷ []) (omega arith))

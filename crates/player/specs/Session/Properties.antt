@@ -139,10 +139,10 @@ module _ (step : Step) (s : State) (k : Command) where
   unfolding commandMove
   obey-release t kind n e p = rw e (turned t (commandMove s (Release kind n)) (ap running (sym (p .state))) refl (sym (p .line)))
 
-  pub obey-bad : (v : Session) → k ≡ Bad → v ≡ over s → step .session ≡ v → step .taken ≡ 0 → step .line ≡ line.Bad (s .clock)
+  pub obey-bad : (v : Session) → k ≡ Bad → v ≡ over s → step .session ≡ v → step .taken ≡ 0 → step .line ≡ line.Bad (s .slice)
       → Makes (commandMove s k) step
   unfolding commandMove lineText
-  obey-bad v e g a b c = rw e (made step v 0 (line.Bad (s .clock)) a b c (commandMove s Bad) g refl refl)
+  obey-bad v e g a b c = rw e (made step v 0 (line.Bad (s .slice)) a b c (commandMove s Bad) g refl refl)
 
 -- neither the last line nor a wait
 commanded : (last none few : Bool) (a b m : Move) → (last && none) ≡ false → (not last && few) ≡ false →
@@ -153,12 +153,12 @@ commanded false none few a b m e f = rw f
 module _ (step : Step) (x : Session) (last : Bool) (bytes : List ℕ) where
   module _ (ends : Bool) (ends-is : ends ≡ (last && eqb (length bytes) 0)) where
     pub run-ends : (v : Session) → ends ≡ true → v ≡ over (x .state) → step .session ≡ v → step .taken ≡ 0
-        → step .line ≡ line.End (x .state .clock) → Makes (runOf x last bytes) step
+        → step .line ≡ line.End (x .state .slice) → Makes (runOf x last bytes) step
     unfolding runOf lineText
     run-ends v t g a b c =
         let e = and-left last (eqb (length bytes) 0) (sym ends-is ∙ t) in
         let n = and-right last (eqb (length bytes) 0) (sym ends-is ∙ t) in
-        rw (e, n) (made step v 0 (line.End (x .state .clock)) a b c (lastLine (x .state)) g refl refl)
+        rw (e, n) (made step v 0 (line.End (x .state .slice)) a b c (lastLine (x .state)) g refl refl)
 
     module _ (short : Bool) (short-is : short ≡ (not last && ltb (length bytes) 3)) where
       pub run-waits : short ≡ true → Makes (stay x) step → Makes (runOf x last bytes) step
@@ -429,7 +429,7 @@ line-some : (s : State) (k : Command) → 0 < length (commandMove s k .text)
 unfolding commandMove lineOf releaseLine sliceLine
 line-some s Slice = go (showAnswer s rowRoom)
   where
-    go : (a : Answer) → 0 < length (sliceLine a (s .clock) (s .plan .cards) (rowByte s))
+    go : (a : Answer) → 0 < length (sliceLine a (s .slice) (s .plan .cards) (rowByte s))
     go Good = omega arith
     go (No w) = omega arith
 line-some s (Release kind e) = omega arith
@@ -493,7 +493,7 @@ unfolding runOf
 run-some x bytes = go (eqb (length bytes) 0)
   where
     go : (b : Bool) → 0 < length (cond b (lastLine (x .state)) (commandMove (x .state) (commandOf bytes)) .text)
-    go true = end-some (x .state .clock)
+    go true = end-some (x .state .slice)
     go false = line-some (x .state) (commandOf bytes)
 
 pub idle-over : (x : Session) (bytes : List ℕ) → length (stepOf x true bytes .text) ≡ 0 → x .stage ≡ Over

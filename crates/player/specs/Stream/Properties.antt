@@ -93,7 +93,7 @@ command-whole : (s : State) (bytes rest : List ℕ) → 0 < length bytes → com
 unfolding commandMove remaining lineOf
 command-whole s bytes rest l e =
     turns-command s (bytes ++ rest) (omega (arith, length-append bytes rest))
-    ∙ ap (λ (k : Command). lineOf s k ++ onward k (turns (after s k) (drop 3 (bytes ++ rest))) (endLine (s .clock))) e
+    ∙ ap (λ (k : Command). lineOf s k ++ onward k (turns (after s k) (drop 3 (bytes ++ rest))) (endLine (s .slice))) e
     ∙ go (commandOf bytes) refl
   where
     three : (k : Command) → commandOf bytes ≡ k → (k ≡ Bad → ⊥) → drop 3 (bytes ++ rest) ≡ drop 3 bytes ++ rest
@@ -105,13 +105,13 @@ command-whole s bytes rest l e =
         ]
 
     go : (k : Command) → commandOf bytes ≡ k
-        → lineOf s k ++ onward k (turns (after s k) (drop 3 (bytes ++ rest))) (endLine (s .clock)) ≡ whole (commandMove s k) bytes rest
+        → lineOf s k ++ onward k (turns (after s k) (drop 3 (bytes ++ rest))) (endLine (s .slice)) ≡ whole (commandMove s k) bytes rest
     go Slice q =
         ap (λ (u : List ℕ). lineOf s Slice ++ turns (after s Slice) u) (three Slice q (λ z. let y : _≡_ {A = ℕ} 0 1 = cc in omega arith))
     go (Release kind n) q =
         ap (λ (u : List ℕ). lineOf s (Release kind n) ++ turns (after s (Release kind n)) u)
         (three (Release kind n) q (λ z. let y : _≡_ {A = ℕ} 0 1 = cc in omega arith))
-    go Bad q = sym (append-nil (badLine ++ endLine (s .clock)))
+    go Bad q = sym (append-nil (badLine ++ endLine (s .slice)))
 
 -- a command's line, the last line, or none yet
 run-whole : (x : Session) (last : Bool) (bytes rest : List ℕ) → (last ≡ true → rest ≡ []) → x .stage ≡ Running
@@ -126,7 +126,7 @@ run-whole x true bytes rest h o = go (eqb (length bytes) 0) refl
         → turns (x .state) (bytes ++ rest) ≡ whole (cond b (lastLine (x .state)) (commandMove (x .state) (commandOf bytes))) bytes rest
     go true e =
         ap (turns (x .state)) nothing ∙ turns-end (x .state) bytes (eqb-true (length bytes) 0 e)
-        ∙ sym (append-nil (endLine (x .state .clock)))
+        ∙ sym (append-nil (endLine (x .state .slice)))
     go false e = command-whole (x .state) bytes rest (let n = eqb-false (length bytes) 0 e in omega arith) (ap commandOf nothing)
 run-whole x false bytes rest h o = go (ltb (length bytes) 3) refl
   where

@@ -44,8 +44,8 @@ module _ (s : State) (answer : Answer) (row : List ℕ) (shows : Shows s (replic
       let a : row ≡ rowOver s (replicate 8 0) = shows .buffer ∙ rw (good-is e) in
       ap (λ (x : List ℕ). getD x card 0) a ∙ over-at s (replicate 8 0) card l
 
-  told : (a : Answer) → answer ≡ a → sliceLine a (s .clock) (min (s .plan .cards) 8) (λ (card : ℕ). getD row card 0)
-      ≡ sliceLine a (s .clock) (s .plan .cards) (rowByte s)
+  told : (a : Answer) → answer ≡ a → sliceLine a (s .slice) (min (s .plan .cards) 8) (λ (card : ℕ). getD row card 0)
+      ≡ sliceLine a (s .slice) (s .plan .cards) (rowByte s)
   unfolding sliceLine
   told Good e =
       let fit : min (s .plan .cards) 8 ≡ s .plan .cards = omega (arith, cards-fit e) in
@@ -53,7 +53,7 @@ module _ (s : State) (answer : Answer) (row : List ℕ) (shows : Shows s (replic
   told (No w) e = refl
 
   pub slice-told : (next : Next) → next ≡ advanceOf s →
-      Turns s Slice (record { state = next .state; line = line.Slice answer (s .clock) (s .plan .cards); row = row })
+      Turns s Slice (record { state = next .state; line = line.Slice answer (s .slice) (s .plan .cards); row = row })
   unfolding lineOf lineText after
   slice-told next moves =
       record { state = ap (λ (n : Next). n .state) moves; line = rw (← (shows .result)) (told answer refl) }

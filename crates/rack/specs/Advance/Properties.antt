@@ -1,17 +1,16 @@
--- Laws of advancing: what an accepted one says and that nothing less is asked; of the state that follows, the steps of the loop that
--- lowers what is left, and that it is in form.
+-- Laws of advancing: of the state that follows, the steps of the loop that makes it, and that it is in form where no unit is late.
 -- Assumes nothing.
 use mathlib.Core.Path.{_≡_, refl, sym, ap, ap₂, _∙_}
 use mathlib.Core.Logic.{_≢_}
-use mathlib.Core.Bool.{Bool, true, false, cond, _&&_}
+use mathlib.Core.Bool.{Bool, true, false, not, cond, _&&_}
 use mathlib.Core.List.{List}
-use Prim.Native.Nat.{ℕ, _+_, _-_, _≤_, _<_}
+use Prim.Native.Nat.{ℕ, _+_, _-_, _%_, _≤_, _<_, min}
 use native.Mathlib.Decide.{decLt, ℕ-discrete}
+use native.Mathlib.Nat.{mod-lt, mod-self, mod-eq-of-lt}
 use native.Mathlib.Omega.{arith}
 use lib.Dec.{eqb}
 use lib.ListN.{length, getD, set, List·getD-eq-default}
-use borrow.Author.Tests.{eq-eqb, ne-eqb, eqb-true, eqb-false}
-use Rattle.laws.specs.Tests.{and-left, and-right}
+use borrow.Author.Tests.{eq-eqb, ne-eqb}
 use Rattle.laws.specs.Sum.{sumTo}
 use Rattle.laws.specs.Sum.Properties.{sum-le, sum-cong, sum-add}
 use Rattle.laws.specs.Count.{countTo}
@@ -22,49 +21,37 @@ use Rattle.laws.specs.Written.Properties.{written-same, written-cong}
 use Rattle.answer.specs.declared.Answer.{Answer}
 use Rattle.answer.specs.declared.Answer.the-variants.{Good, No}
 use Rattle.answer.specs.declared.Refusal.{Refusal}
-use Rattle.answer.specs.Answer.Properties.{andThen-left, andThen-right, refuse-good}
-use Rattle.plan.specs.declared.Plan.{Plan}
-use Rattle.plan.specs.Order.{kindOf}
 use Rattle.unit.specs.declared.Unit.{Unit}
 use Rattle.unit.specs.Unit.{noUnit}
 use Rattle.unit.specs.Form.{UnitInForm}
+use Rattle.unit.specs.Step as Step
+use Rattle.unit.specs.Step.{goneAfter}
+use Rattle.unit.specs.Step.Properties.{gone-never}
+use Rattle.plan.specs.declared.Kind.{Kind}
+use Rattle.plan.specs.declared.Plan.{Plan}
+use Rattle.plan.specs.Order.{kindOf}
 use Rattle.rack.specs.declared.State.{State}
-use Rattle.rack.specs.State.{lastClock, unitOf, kindAt, kindPlaces, InUse, projectPlaces, ProjectInUse, sumAt, Places}
+use Rattle.rack.specs.State.{unitOf, kindAt, kindPlaces, InUse, projectPlaces, ProjectInUse, sumAt, Places}
 use Rattle.rack.specs.State.Properties.{refused-keeps, good-moves}
 use Rattle.rack.specs.Sums.{leftFor, projectLeft, SumsRight}
 use Rattle.rack.specs.Sums.Properties.{written-there, written-changed, written-here}
-use Rattle.rack.specs.Form.{ready, Ready}
-use Rattle.rack.specs.Form.Properties.{ready-says, ready-of, not-used}
+use Rattle.rack.specs.Form.{Ready}
+use Rattle.rack.specs.Form.Properties.{ready-says, not-used}
 use Rattle.rack.specs.Rank.{served}
 use Rattle.rack.specs.Rank.Properties.{served-working, working-left}
 use Rattle.seats.specs.Seats.{at}
 use Rattle.rack.specs.Seat.{seatsOf, seatOf}
 use Rattle.rack.specs.Seat.Properties.{seat-served, seat-unserved, seats-at}
-use Rattle.rack.specs.Advance.{Advanceable, unitAfter, servedFor, sumAfter, advanced, timeLeft}
-use Rattle.rack.specs.Advance.{advanceAnswer, advanceOf}
+use Rattle.rack.specs.Advance.{unitAfter, servedFor, sumAfter, advanced, advanceAnswer, advanceOf}
 
 -- ---- the answer
 
-pub advance-says : (s : State) → advanceAnswer s ≡ Good → Advanceable s
-unfolding advanceAnswer timeLeft
-advance-says s h =
-    let r = ready-says s (andThen-left (ready s) (timeLeft s) h) in
-    let eleven = refuse-good (eqb (s .clock) lastClock) _ (andThen-right (ready s) (timeLeft s) h) in
-    let z = eqb-false (s .clock) lastClock eleven in
-    record { ready = r; time = omega (arith, r .form .clock-most) }
-
-pub advance-of : (s : State) → Advanceable s → advanceAnswer s ≡ Good
-unfolding advanceAnswer timeLeft
-advance-of s may =
-    let earlier = ne-eqb (s .clock) lastClock (λ e. omega (arith, may .time)) in
-    rw (ready-of s (may .ready), earlier)
+pub advance-says : (s : State) → advanceAnswer s ≡ Good → Ready s
+advance-says s good = ready-says s good
 
 -- what the tests answered, opened
-pub advance-opened : (s : State) (r : Answer) → r ≡ Good → r ≡ advanceAnswer s → Advanceable s
+pub advance-opened : (s : State) (r : Answer) → r ≡ Good → r ≡ advanceAnswer s → Ready s
 advance-opened s r good is = advance-says s (sym is ∙ good)
-
-pub advance-ready : (s : State) (r : Answer) → r ≡ Good → r ≡ advanceAnswer s → Ready s
-advance-ready s r good is = advance-opened s r good is .ready
 
 -- an accepted one hands back the state that follows, and a refusal changes nothing
 pub advance-moves : (s : State) → advanceOf s .answer ≡ Good → advanceOf s .state ≡ advanced s
@@ -77,20 +64,25 @@ advance-refused s w e = refused-keeps (advanceAnswer s) w (advanced s) s e
 
 -- ---- a kind's unit after it
 
--- one slice less
-abbrev pub lowered : Unit → Unit
-lowered v = record { released = v .released; at = v .at; left = v .left - 1 }
-
-pub after-served : (s : State) (i : ℕ) → served s i ≡ true → unitAfter s i ≡ lowered (unitOf s i)
+pub after-released : (s : State) (i : ℕ) → unitAfter s i .released ≡ unitOf s i .released
 unfolding unitAfter
-after-served s i e = rw e
+after-released s i = refl
 
-pub after-unserved : (s : State) (i : ℕ) → served s i ≡ false → unitAfter s i ≡ unitOf s i
+pub after-gone : (s : State) (i : ℕ) → unitAfter s i .gone ≡ goneAfter (kindAt s i .separation) (unitOf s i)
 unfolding unitAfter
-after-unserved s i e = rw e (λ k. record { released = unitOf s i .released; at = unitOf s i .at; left = none k })
-  where
-    none : unitOf s i .left - 0 ≡ unitOf s i .left
-    none = omega arith
+after-gone s i = refl
+
+pub after-left : (s : State) (i : ℕ) → unitAfter s i .left ≡ unitOf s i .left - cond (served s i) 1 0
+unfolding unitAfter Step.leftAfter
+after-left s i = refl
+
+-- ---- the slice after it
+
+pub slice-turns : (slice frame : ℕ) → slice < frame → slice + 1 ≡ frame → 0 ≡ (slice + 1) % frame
+slice-turns slice frame l e = rw e (sym (mod-self frame))
+
+pub slice-next : (slice frame : ℕ) → slice < frame → (slice + 1 ≡ frame → ⊥) → slice + 1 ≡ (slice + 1) % frame
+slice-next slice frame l h = let m : slice + 1 < frame = omega (arith, h) in sym (mod-eq-of-lt m)
 
 -- ---- the steps of a loop that lowers what is left, by the seats
 
@@ -112,23 +104,26 @@ module _ (s : State) (r : Ready s) (seat : List ℕ) (es : seat ≡ seatsOf s) (
       go true e = e
       go false e = absurd (z (omega (arith, here, seat-unserved s i e)))
 
+  -- whether it sits is whether it is served
+  seat-tells : not (eqb (at seat i) 0) ≡ served s i
+  seat-tells =
+      elim (ℕ-discrete (at seat i) 0) [
+        | yes z ↦ rw (eq-eqb (at seat i) 0 z) (sym (not-seated z))
+        | no z ↦ rw (ne-eqb (at seat i) 0 z) (sym (is-seated z))
+      ]
+
 module _ (s : State) (r : Ready s) (seat : List ℕ) (es : seat ≡ seatsOf s) (units : List Unit) (i : ℕ)
     (so-far : units ≡ written i (unitAfter s) (s .unit)) (n : ℕ) (en : n ≡ kindPlaces s) (l : i < n) where
   unit-here : getD units i noUnit ≡ unitOf s i
   unit-here = ap (λ (m : List Unit). getD m i noUnit) so-far ∙ written-kept i (unitAfter s) (s .unit) noUnit i (omega arith)
 
-  pub lowered-not : at seat i ≡ 0 → units ≡ written (i + 1) (unitAfter s) (s .unit)
-  lowered-not z = written-same i (unitAfter s) (s .unit) units noUnit so-far (after-unserved s i (not-seated s r seat es i n en l z))
-
-  pub lowered-some : (at seat i ≡ 0 → ⊥) → 0 < getD units i noUnit .left
-  lowered-some z =
-      let left = working-left s i (served-working s i (is-seated s r seat es i n en l z)) in
-      omega (arith, ap (λ (v : Unit). v .left) unit-here, left)
-
-  pub lowered-one : (at seat i ≡ 0 → ⊥) → set units i (lowered (getD units i noUnit)) ≡ written (i + 1) (unitAfter s) (s .unit)
-  lowered-one z =
-      let here = ap (λ (v : Unit). lowered v) unit-here ∙ sym (after-served s i (is-seated s r seat es i n en l z)) in
-      written-again i (unitAfter s) (s .unit) units (lowered (getD units i noUnit)) so-far here
+  -- one unit more: b is whether the kind sits
+  pub unit-more : (b : Bool) (k : Kind) (v : Unit) → b ≡ not (eqb (at seat i) 0) → k ≡ kindAt s i →
+      v ≡ Step.unitAfter b (k .separation) (getD units i noUnit) → set units i v ≡ written (i + 1) (unitAfter s) (s .unit)
+  unfolding unitAfter
+  unit-more b k v eb ek ev =
+      let told : b ≡ served s i = eb ∙ seat-tells s r seat es i n en l in
+      written-again i (unitAfter s) (s .unit) units v so-far (ev ∙ rw (told, ek, unit-here))
 
 -- ---- whom a project has served
 
@@ -188,8 +183,8 @@ module _ (s : State) (r : Ready s) (seat : List ℕ) (es : seat ≡ seatsOf s) (
   pub sums-same : at seat i ≡ 0 → sums ≡ sumsBelow s (i + 1)
   sums-same z =
       so-far
-      ∙ written-cong (projectPlaces s) (λ j. sumAt s j - countTo i (servedFor s j)) (λ j. sumAt s j - countTo (i + 1) (servedFor s j))
-      (s .sum)
+      ∙ written-cong (projectPlaces s) (λ j. sumAt s j - countTo i (servedFor s j))
+      (λ j. sumAt s j - countTo (i + 1) (servedFor s j)) (s .sum)
       (λ j m. ap (λ (x : ℕ). sumAt s j - x)
       (count-no (countTo i (servedFor s j)) i (servedFor s j) refl (served-none s j i (not-seated s r seat es i n en l z))))
 
@@ -244,85 +239,89 @@ module _ (s : State) (r : Ready s) (seat : List ℕ) (es : seat ≡ seatsOf s) (
         (λ j m q. ap (λ (x : ℕ). sumAt s j - x)
         (sym (count-no (countTo i (servedFor s j)) i (servedFor s j) refl (served-other s j i (λ w. q (sym (ec ∙ w)))))))
 
--- ---- the loop on both
+-- ---- the loop: s is the state as it was, plan, seat and n what was laid down before it, and t the state so far
 
--- what it goes by: the plan, the seats and the number of places of a state that may be advanced
 pub record Laid (s : State) (plan : Plan) (seat : List ℕ) (n : ℕ) : Type 0 where
-  pub may : Advanceable s
+  pub ready : Ready s
   pub plan-is : plan ≡ s .plan
   pub seats : seat ≡ seatsOf s
   pub places : n ≡ kindPlaces s
 
--- the state t when i places are done
+-- the kinds below i are done
 pub record Ran (s : State) (i : ℕ) (t : State) : Type 0 where
   pub plan : t .plan ≡ s .plan
-  pub clock : t .clock ≡ s .clock
+  pub slice : t .slice ≡ s .slice
   pub unit : t .unit ≡ written i (unitAfter s) (s .unit)
   pub sum : t .sum ≡ sumsBelow s i
 
 pub ran-none : (s : State) → Ran s 0 s
-ran-none s = record { plan = refl; clock = refl; unit = written-none (unitAfter s) (s .unit); sum = sums-start s }
+ran-none s = record { plan = refl; slice = refl; unit = written-none (unitAfter s) (s .unit); sum = sums-start s }
 
-module _ (s : State) (plan : Plan) (seat : List ℕ) (n : ℕ) (laid : Laid s plan seat n) (i : ℕ) (t : State) (ran : Ran s i t) (l : i < n) where
+module _ (s : State) (plan : Plan) (seat : List ℕ) (n : ℕ) (laid : Laid s plan seat n) (i : ℕ) (l : i < n) (t : State)
+    (ran : Ran s i t) where
+  kind-is : kindOf plan i ≡ kindAt s i
+  kind-is = ap (λ (p : Plan). kindOf p i) (laid .plan-is)
+
   pub ran-project : kindOf plan i .project < 8
   ran-project =
-      rw (laid .plan-is) (lowered-project s (laid .may .ready) seat (laid .seats) (t .sum) i (ran .sum) n (laid .places) l)
+      let most = lowered-project s (laid .ready) seat (laid .seats) (t .sum) i (ran .sum) n (laid .places) l in
+      omega (arith, most, ap (λ (k : Kind). k .project) kind-is)
 
-  pub ran-same : at seat i ≡ 0 → Ran s (i + 1) t
-  ran-same z = record {
+  -- the unit that is stored: b is whether the kind sits
+  unit-stored : (b : Bool) (k : Kind) (v : Unit) → b ≡ not (eqb (at seat i) 0) → k ≡ kindOf plan i →
+      v ≡ Step.unitAfter b (k .separation) (unitOf t i) → set (t .unit) i v ≡ written (i + 1) (unitAfter s) (s .unit)
+  unit-stored b k v eb ek ev =
+      unit-more s (laid .ready) seat (laid .seats) (t .unit) i (ran .unit) n (laid .places) l b k v eb (ek ∙ kind-is) ev
+
+  pub ran-same : (b : Bool) (k : Kind) (v : Unit) → b ≡ not (eqb (at seat i) 0) → k ≡ kindOf plan i →
+      v ≡ Step.unitAfter b (k .separation) (unitOf t i) → at seat i ≡ 0 →
+      Ran s (i + 1) (record { plan = t .plan; slice = t .slice; unit = set (t .unit) i v; sum = t .sum })
+  ran-same b k v eb ek ev z = record {
     plan = ran .plan;
-    clock = ran .clock;
-    unit = lowered-not s (laid .may .ready) seat (laid .seats) (t .unit) i (ran .unit) n (laid .places) l z;
-    sum = sums-same s (laid .may .ready) seat (laid .seats) (t .sum) i (ran .sum) n (laid .places) l z;
+    slice = ran .slice;
+    unit = unit-stored b k v eb ek ev;
+    sum = sums-same s (laid .ready) seat (laid .seats) (t .sum) i (ran .sum) n (laid .places) l z;
   }
 
-  module _ (z : at seat i ≡ 0 → ⊥) where
-    pub ran-left : 0 < getD (t .unit) i noUnit .left
-    ran-left = lowered-some s (laid .may .ready) seat (laid .seats) (t .unit) i (ran .unit) n (laid .places) l z
+  module _ (z : at seat i ≡ 0 → ⊥) (c : ℕ) (k : Kind) (ek : k ≡ kindOf plan i) (ec : c ≡ k .project) where
+    its : c ≡ kindAt s i .project
+    its = ec ∙ ap (λ (x : Kind). x .project) (ek ∙ kind-is)
 
-    module _ (c : ℕ) (e : c ≡ kindOf plan i .project) where
-      its : c ≡ kindAt s i .project
-      its = e ∙ ap (λ (p : Plan). kindOf p i .project) (laid .plan-is)
+    pub ran-sum : 0 < getD (t .sum) c 0
+    ran-sum = sums-some s (laid .ready) seat (laid .seats) (t .sum) i (ran .sum) n (laid .places) l z c its
 
-      pub ran-sum : 0 < getD (t .sum) c 0
-      ran-sum = sums-some s (laid .may .ready) seat (laid .seats) (t .sum) i (ran .sum) n (laid .places) l z c its
+    pub ran-one : (b : Bool) (v : Unit) → b ≡ not (eqb (at seat i) 0) → v ≡ Step.unitAfter b (k .separation) (unitOf t i) →
+        Ran s (i + 1) (record { plan = t .plan; slice = t .slice; unit = set (t .unit) i v; sum = set (t .sum) c (getD (t .sum) c 0 - 1) })
+    ran-one b v eb ev = record {
+      plan = ran .plan;
+      slice = ran .slice;
+      unit = unit-stored b k v eb ek ev;
+      sum = sums-one s (laid .ready) seat (laid .seats) (t .sum) i (ran .sum) n (laid .places) l z c its;
+    }
 
-      pub ran-one : Ran s (i + 1) (record {
-        plan = t .plan;
-        clock = t .clock;
-        unit = set (t .unit) i (lowered (getD (t .unit) i noUnit));
-        sum = set (t .sum) c (getD (t .sum) c 0 - 1);
-      })
-      ran-one = record {
-        plan = ran .plan;
-        clock = ran .clock;
-        unit = lowered-one s (laid .may .ready) seat (laid .seats) (t .unit) i (ran .unit) n (laid .places) l z;
-        sum = sums-one s (laid .may .ready) seat (laid .seats) (t .sum) i (ran .sum) n (laid .places) l z c its;
-      }
-
--- and the clock: i of n places are done
+-- all are done
 module _ (s : State) (plan : Plan) (seat : List ℕ) (n : ℕ) (laid : Laid s plan seat n) (i : ℕ) (t : State) (ran : Ran s i t) where
-  pub ran-early : t .clock + 1 < 4294967296
-  ran-early = omega (arith, ran .clock, laid .may .time)
+  pub ran-slice : t .slice < plan .frame
+  ran-slice = omega (arith, ran .slice, laid .ready .form .slice-below, ap (λ (p : Plan). p .frame) (laid .plan-is))
 
-  pub ran-all : i ≤ n → n ≤ i → record { plan = t .plan; clock = t .clock + 1; unit = t .unit; sum = t .sum } ≡ advanced s
+  pub ran-all : (x : ℕ) → i ≤ n → n ≤ i → x ≡ (t .slice + 1) % plan .frame →
+      record { plan = t .plan; slice = x; unit = t .unit; sum = t .sum } ≡ advanced s
   unfolding advanced sumAfter
-  ran-all a b =
-      let e = laid .places in
-      let done : i ≡ kindPlaces s = omega arith in
+  ran-all x a b ex =
+      let done : i ≡ kindPlaces s = omega (arith, laid .places) in
       let all = written-stop i (kindPlaces s) (unitAfter s) (s .unit) (t .unit) (ran .unit) (omega arith) (omega arith) in
-      let sums = ran .sum ∙ ap (λ (x : ℕ). sumsBelow s x) done in
-      let p = ran .plan in
-      let q = ran .clock in
-      λ k. record { plan = p k; clock = q k + 1; unit = all k; sum = sums k }
+      let sums = ran .sum ∙ ap (λ (y : ℕ). sumsBelow s y) done in
+      let turned : x ≡ (s .slice + 1) % s .plan .frame = ex ∙ ap₂ (λ (y : ℕ) (p : Plan). (y + 1) % p .frame) (ran .slice) (laid .plan-is) in
+      let same = ran .plan in
+      λ k. record { plan = same k; slice = turned k; unit = all k; sum = sums k }
 
 -- ---- it is in form
 
-module _ (s : State) (may : Advanceable s) (places : Places s) where
+module _ (s : State) (r : Ready s) (places : Places s) where
   pub unit-after : (i : ℕ) → InUse s i → unitOf (advanced s) i ≡ unitAfter s i
   unfolding advanced
   unit-after i l =
-      written-at (kindPlaces s) (unitAfter s) (s .unit) noUnit i l (omega (arith, places .sixteen, may .ready .order .counts .kinds-most))
+      written-at (kindPlaces s) (unitAfter s) (s .unit) noUnit i l (omega (arith, places .sixteen, r .order .counts .kinds-most))
 
   unit-unused : (i : ℕ) → (InUse s i → ⊥) → unitOf (advanced s) i ≡ unitOf s i
   unfolding advanced
@@ -340,7 +339,7 @@ module _ (s : State) (may : Advanceable s) (places : Places s) where
   pub sum-after : (j : ℕ) → ProjectInUse s j → sumAt (advanced s) j ≡ sumAfter s j
   unfolding advanced
   sum-after j l =
-      written-at (projectPlaces s) (sumAfter s) (s .sum) 0 j l (omega (arith, places .eight, may .ready .order .counts .projects-most))
+      written-at (projectPlaces s) (sumAfter s) (s .sum) 0 j l (omega (arith, places .eight, r .order .counts .projects-most))
 
   sum-unused : (j : ℕ) → projectPlaces s ≤ j → sumAt (advanced s) j ≡ sumAt s j
   unfolding advanced
@@ -357,7 +356,7 @@ module _ (s : State) (may : Advanceable s) (places : Places s) where
 
   -- what a kind adds falls by one where it is served
   falls : (j i : ℕ) → InUse s i → leftFor (advanced s) j i + cond (servedFor s j i) 1 0 ≡ leftFor s j i
-  unfolding leftFor servedFor advanced unitAfter
+  unfolding leftFor servedFor advanced unitAfter Step.leftAfter
   falls j i l =
       rw (unit-after i l) (go (eqb (kindAt s i .project) j) (served s i) refl)
     where
@@ -379,29 +378,45 @@ module _ (s : State) (may : Advanceable s) (places : Places s) where
 
   advance-sums : SumsRight (advanced s)
   unfolding sumAfter advanced
-  advance-sums j l = sum-after j l ∙ omega (arith, may .ready .sums j l, advance-left j)
+  advance-sums j l = sum-after j l ∙ omega (arith, r .sums j l, advance-left j)
 
-  in-form-after : (i : ℕ) → UnitInForm (s .clock) (kindAt s i .length) (unitOf s i) →
-      UnitInForm (s .clock + 1) (kindAt s i .length) (unitAfter s i)
-  unfolding unitAfter
-  in-form-after i u = record {
-    release-clock = omega (arith, u .release-clock);
-    left-most = omega (arith, u .left-most);
-    never = λ n. (u .never n .0, omega (arith, u .never n .1));
-  }
+  -- a unit that is in form is so a slice later, where it is not late
+  in-form-after : (i : ℕ) → UnitInForm (kindAt s i) (unitOf s i) → (0 < unitAfter s i .left → unitAfter s i .gone < kindAt s i .deadline) →
+      UnitInForm (kindAt s i) (unitAfter s i)
+  unfolding unitAfter Step.leftAfter goneAfter
+  in-form-after i u h = go (unitOf s i .released) refl
+    where
+      T : ℕ
+      T = kindAt s i .separation
+
+      held : (b : Bool) → unitOf s i .released ≡ b → cond b (min T (unitOf s i .gone + 1)) (unitOf s i .gone) ≤ T
+      held true e = omega arith
+      held false e = omega (arith, u .gone-most)
+
+      go : (b : Bool) → unitOf s i .released ≡ b → UnitInForm (kindAt s i) (unitAfter s i)
+      go b e = record {
+        gone-most = held (unitOf s i .released) refl;
+        left-most = omega (arith, u .left-most);
+        in-time = h;
+        never = λ n. (gone-never T (unitOf s i) n ∙ u .never n .0, omega (arith, u .never n .1));
+      }
 
   beyond : (j : ℕ) → (ProjectInUse s j → ⊥) → projectPlaces s ≤ j
   beyond j m = elim (decLt j (projectPlaces s)) [ yes q ↦ absurd (m q) | no q ↦ omega arith ]
 
-  pub advance-form : Ready (advanced s)
+  -- no unit is late after it: reading 19 has a state on a plan that is not admitted of which that is not so
+  abbrev pub NoneLate : Type 0
+  NoneLate = (i : ℕ) → InUse s i → 0 < unitAfter s i .left → unitAfter s i .gone < kindAt s i .deadline
+
+  pub advance-form : NoneLate → Ready (advanced s)
   unfolding advanced
-  advance-form = record {
-    order = may .ready .order;
+  advance-form in-time = record {
+    order = r .order;
     form = record {
-      clock-most = omega (arith, may .time);
-      unit-at = λ i l m. rw (unit-after i m) (in-form-after i (may .ready .form .unit-at i l m));
-      unused = λ i l m. unit-unused i m ∙ may .ready .form .unused i l m;
-      sums-unused = λ j l m. sum-unused j (beyond j m) ∙ may .ready .form .sums-unused j l m;
+      slice-below = mod-lt (s .slice + 1) (r .order .counts .some-slice);
+      unit-at = λ i l m. rw (unit-after i m) (in-form-after i (r .form .unit-at i l m) (in-time i m));
+      unused = λ i l m. unit-unused i m ∙ r .form .unused i l m;
+      sums-unused = λ j l m. sum-unused j (beyond j m) ∙ r .form .sums-unused j l m;
     };
     sums = advance-sums;
   }

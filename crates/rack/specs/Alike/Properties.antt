@@ -4,28 +4,25 @@
 use mathlib.Core.Path.{_≡_, refl, sym, ap, ap₂, _∙_}
 use mathlib.Core.Logic.{_≢_}
 use mathlib.Core.Bool.{Bool, true, false}
-use Prim.Native.Nat.{ℕ, _+_, _-_, _%_}
+use Prim.Native.Nat.{ℕ, _+_, _%_}
 use native.Mathlib.Decide.{ℕ-discrete}
-use native.Mathlib.Nat.{mod-add-mod}
 use native.Mathlib.Omega.{arith}
 use lib.Dec.{eqb}
 use borrow.Author.Tests.{eqb-true}
-use Rattle.unit.specs.declared.Unit.{Unit}
 use Rattle.plan.specs.declared.Kind.{Kind}
 use Rattle.rack.specs.declared.State.{State}
 use Rattle.rack.specs.State.{unitOf, kindAt, InUse, ProjectInUse, Places}
 use Rattle.rack.specs.Form.{Ready}
-use Rattle.rack.specs.Form.Properties.{ready-of, used-of, unit-form}
+use Rattle.rack.specs.Form.Properties.{ready-of, used-of}
 use Rattle.rack.specs.View.{Same, hasCard, rankOf, chosen, byteOn}
 use Rattle.rack.specs.View.Properties.{same-has, same-rank, same-chosen, same-byte}
-use Rattle.rack.specs.Rank.{due, working, active, outranks, viewOf, rank, served}
-use Rattle.rack.specs.Rank
+use Rattle.rack.specs.Rank.{until, working, active, outranks, viewOf, rank, served}
 use Rattle.rack.specs.Rank.Properties.{active-of, active-project, sooner-agree}
 use Rattle.rack.specs.Row.{holds, rowByte}
 use Rattle.rack.specs.Row.Properties.{holds-has, row-own}
 use Rattle.rack.specs.Release.{Releasable, releaseAnswer, released}
 use Rattle.rack.specs.Release.Properties.{release-unit, release-others}
-use Rattle.rack.specs.Advance.{Advanceable, unitAfter, advanced}
+use Rattle.rack.specs.Advance.{unitAfter, advanced}
 use Rattle.rack.specs.Advance.Properties.{unit-after}
 use Rattle.rack.specs.Alike.{Mine, Alike}
 
@@ -38,13 +35,12 @@ module _ (j : ℕ) (s t : State) (alike : Alike j s t) where
       go true e = rw (← alike .mine i l, e, alike .unit i (record { its-kind = l; its-project = eqb-true (kindAt s i .project) j e }))
       go false e = rw (← alike .mine i l, e)
 
-  same-due : (i : ℕ) → Mine j s i → due s i ≡ due t i
-  unfolding due
-  same-due i m = rw (alike .unit i m, alike .kind i m)
+  same-until : (i : ℕ) → Mine j s i → until s i ≡ until t i
+  same-until i m = rw (alike .unit i m, alike .kind i m)
 
   same-order : (k i : ℕ) → Mine j s k → Mine j s i → outranks s k i ≡ outranks t k i
   unfolding outranks
-  same-order k i a b = sooner-agree (due s) (due t) k i (same-due k a) (same-due i b)
+  same-order k i a b = sooner-agree (until s) (until t) k i (same-until k a) (same-until i b)
 
   pub same-view : Same (viewOf s j) (viewOf t j)
   unfolding viewOf
@@ -90,14 +86,14 @@ module _ (j : ℕ) (s t : State) (alike : Alike j s t) where
     alike-release r q e =
         let here = used-of s i (mine .its-kind) in
         let there = used-of t i (theirs .its-kind) in
-        rw (ready-of s r, ready-of t q, here, there, alike .kind i mine, alike .unit i mine, alike .gone i mine)
+        rw (ready-of s r, ready-of t q, here, there, alike .kind i mine, alike .unit i mine)
 
   -- ---- on a card that the project holds
 
   pub alike-byte : (card : ℕ) → byteOn (viewOf s j) card ≡ byteOn (viewOf t j) card
   alike-byte card = same-byte (viewOf s j) (viewOf t j) same-view card
 
-  pub alike-row : (card : ℕ) → ProjectInUse s j → ProjectInUse t j → holds (s .plan) j (s .clock) card ≡ true →
+  pub alike-row : (card : ℕ) → ProjectInUse s j → ProjectInUse t j → holds (s .plan) j (s .slice) card ≡ true →
       rowByte s card ≡ rowByte t card
   alike-row card l m h =
       let here : hasCard (viewOf s j) card ≡ true = sym (holds-has s j card) ∙ h in
@@ -106,29 +102,18 @@ module _ (j : ℕ) (s t : State) (alike : Alike j s t) where
 
 -- ---- after an advance of both
 
-next-slice : (a b m n : ℕ) → m ≡ n → a % m ≡ b % n → (a + 1) % m ≡ (b + 1) % n
-next-slice a b m n e h = sym (mod-add-mod a m 1) ∙ rw (h, e) (mod-add-mod b n 1)
-
-gone-after : (s : State) → Advanceable s → Places s → (i : ℕ) → InUse s i → Rank.gone (advanced s) i ≡ Rank.gone s i + 1
-unfolding Rank.gone advanced unitAfter
-gone-after s may places i l =
-    omega (arith, ap (λ (v : Unit). v .at) (unit-after s may places i l), unit-form s i (may .ready) l .release-clock)
-
 module _ (j : ℕ) (s t : State) (alike : Alike j s t) where
-  pub alike-advanced : Advanceable s → Advanceable t → Places s → Places t → Alike j (advanced s) (advanced t)
+  pub alike-advanced : Ready s → Ready t → Places s → Places t → Alike j (advanced s) (advanced t)
   unfolding advanced unitAfter
   alike-advanced a b p q = record {
     places = alike .places;
     mine = alike .mine;
     kind = λ i m. alike .kind i (before i m);
     unit = λ i m. unit-after s a p i (m .its-kind) ∙ after i (before i m) ∙ sym (unit-after t b q i (there i (before i m)));
-    gone = λ i m.
-        gone-after s a p i (m .its-kind) ∙ ap (λ (n : ℕ). n + 1) (alike .gone i (before i m))
-        ∙ sym (gone-after t b q i (there i (before i m)));
     first = alike .first;
     budget = alike .budget;
     frame = alike .frame;
-    slice = next-slice (s .clock) (t .clock) (s .plan .frame) (t .plan .frame) (alike .frame) (alike .slice);
+    slice = ap₂ (λ (x f : ℕ). (x + 1) % f) (alike .slice) (alike .frame);
   }
     where
       before : (i : ℕ) → Mine j (advanced s) i → Mine j s i
@@ -138,20 +123,18 @@ module _ (j : ℕ) (s t : State) (alike : Alike j s t) where
       there i m = theirs j s t alike i m .its-kind
 
       after : (i : ℕ) → Mine j s i → unitAfter s i ≡ unitAfter t i
-      after i m = rw (alike .unit i m, alike-served j s t alike i m)
+      after i m = rw (alike .unit i m, alike .kind i m, alike-served j s t alike i m)
 
   -- ---- after releases
 
-  -- of a kind of the project, in both at one clock
-  pub alike-own : (k e : ℕ) → s .clock ≡ t .clock → Releasable s k e → Releasable t k e → Places s → Places t →
-      Alike j (released s k e) (released t k e)
-  unfolding released Rank.gone
-  alike-own k e c a b p q = record {
+  -- of a kind of the project, in both
+  pub alike-own : (k e : ℕ) → Releasable s k e → Releasable t k e → Places s → Places t → Alike j (released s k e) (released t k e)
+  unfolding released
+  alike-own k e a b p q = record {
     places = alike .places;
     mine = alike .mine;
     kind = λ i m. alike .kind i (before i m);
     unit = λ i m. after i (before i m);
-    gone = λ i m. ap₂ (λ (x : ℕ) (v : Unit). x - v .at) c (after i (before i m));
     first = alike .first;
     budget = alike .budget;
     frame = alike .frame;
@@ -161,25 +144,21 @@ module _ (j : ℕ) (s t : State) (alike : Alike j s t) where
       before : (i : ℕ) → Mine j (released s k e) i → Mine j s i
       before i m = record { its-kind = m .its-kind; its-project = m .its-project }
 
-      started : unitOf (released s k e) k ≡ unitOf (released t k e) k
-      started = release-unit s k e a p ∙ ap (λ (x : ℕ). record { released = true; at = x; left = e }) c ∙ sym (release-unit t k e b q)
-
       after : (i : ℕ) → Mine j s i → unitOf (released s k e) i ≡ unitOf (released t k e) i
       after i m =
           elim (ℕ-discrete i k) [
-            | yes z ↦ rw z started
+            | yes z ↦ rw z (release-unit s k e a p ∙ sym (release-unit t k e b q))
             | no z ↦ release-others s k e a p i z ∙ alike .unit i m ∙ sym (release-others t k e b q i z)
           ]
 
   -- of a kind of another project, in one
   pub alike-other : (k e : ℕ) → kindAt s k .project ≢ j → Releasable s k e → Places s → Alike j (released s k e) t
-  unfolding released Rank.gone
+  unfolding released
   alike-other k e other a p = record {
     places = alike .places;
     mine = alike .mine;
     kind = λ i m. alike .kind i (before i m);
     unit = λ i m. kept i m ∙ alike .unit i (before i m);
-    gone = λ i m. ap (λ (v : Unit). s .clock - v .at) (kept i m) ∙ alike .gone i (before i m);
     first = alike .first;
     budget = alike .budget;
     frame = alike .frame;

@@ -7,9 +7,9 @@ use mathlib.Core.List.{List}
 use Prim.Native.Nat.{ℕ, zero, suc, _+_, _-_, _*_, _≤_, _<_}
 use native.Mathlib.Decide.{decLt}
 use native.Mathlib.Omega.{arith}
-use lib.Dec.{leb, eqb}
+use lib.Dec.{ltb, eqb}
 use lib.ListN.{getD, replicate}
-use borrow.Author.Tests.{lt-ltb, le-ltb, le-leb, lt-leb, ltb-true, leb-true, eq-eqb, ne-eqb, eqb-true, not-false}
+use borrow.Author.Tests.{lt-ltb, le-ltb, ltb-true, eq-eqb, ne-eqb, eqb-true, not-false}
 use Rattle.laws.specs.Tests.{and-left, and-right, and-both, told-yes, told-no, second-no}
 use Rattle.laws.specs.Sum.{sumTo}
 use Rattle.laws.specs.Sum.Properties.{sum-more}
@@ -26,7 +26,7 @@ use Rattle.unit.specs.declared.Unit.{Unit}
 use Rattle.unit.specs.Form.{UnitInForm, fitsPlace}
 use Rattle.unit.specs.Form.Properties.{unit-says, unit-of, empty-says, empty-of}
 use Rattle.rack.specs.declared.State.{State}
-use Rattle.rack.specs.State.{lastClock, unitOf, kindAt, kindPlaces, InUse, used, ProjectInUse, projectPlaces, projectUsed, sumAt}
+use Rattle.rack.specs.State.{unitOf, kindAt, kindPlaces, InUse, used, ProjectInUse, projectPlaces, projectUsed, sumAt}
 use Rattle.rack.specs.Sums.{leftFor, projectLeft, sumRight, sumsRight, leftBelow, leftRow}
 use Rattle.rack.specs.Sums.Properties.{sums-say, sums-of, left-none, below-at, below-all, sum-most}
 use Rattle.rack.specs.Form.{InForm, Ready, placeInForm, sumFits, sumInForm, sumsInForm, inForm, sumsTold, ready, sumsFit, sumsAgree}
@@ -50,8 +50,8 @@ used-says s i e = ltb-true i (kindPlaces s) e
 
 -- what the code found of a place: u is whether it is in use, and b whether its unit may stand there
 pub place-found : (s : State) (i : ℕ) (u b : Bool) → u ≡ used s i →
-    b ≡ fitsPlace u (s .clock) (kindAt s i .length) (unitOf s i) → b ≡ placeInForm s i
-place-found s i u b e q = q ∙ ap (λ (x : Bool). fitsPlace x (s .clock) (kindAt s i .length) (unitOf s i)) e
+    b ≡ fitsPlace u (kindAt s i) (unitOf s i) → b ≡ placeInForm s i
+place-found s i u b e q = q ∙ ap (λ (x : Bool). fitsPlace x (kindAt s i) (unitOf s i)) e
 
 -- and the places so far with it
 pub place-more : (s : State) (i : ℕ) (b : Bool) → true ≡ allTo i (placeInForm s) → b ≡ placeInForm s i → not b ≡ false →
@@ -95,12 +95,12 @@ pub form-says : (s : State) → inForm s ≡ true → InForm s
 unfolding inForm sumsInForm
 form-says s e =
     let rest = allTo 16 (placeInForm s) && sumsInForm s in
-    let both = and-right (leb (s .clock) lastClock) rest e in
+    let both = and-right (ltb (s .slice) (s .plan .frame)) rest e in
     let places = all-at 16 (placeInForm s) (and-left (allTo 16 (placeInForm s)) (sumsInForm s) both) in
     let sums = all-at 8 (sumInForm s) (and-right (allTo 16 (placeInForm s)) (sumsInForm s) both) in
     record {
-      clock-most = leb-true (s .clock) lastClock (and-left (leb (s .clock) lastClock) rest e);
-      unit-at = λ i l m. unit-says (s .clock) (kindAt s i .length) (unitOf s i) (rw (used-of s i m) at (places i l));
+      slice-below = ltb-true (s .slice) (s .plan .frame) (and-left (ltb (s .slice) (s .plan .frame)) rest e);
+      unit-at = λ i l m. unit-says (kindAt s i) (unitOf s i) (rw (used-of s i m) at (places i l));
       unused = λ i l m. empty-says (unitOf s i) (rw (used-not s i m) at (places i l));
       sums-unused = λ j l m. sum-says s j m (sums j l);
     }
@@ -109,16 +109,16 @@ form-says s e =
 pub form-of : (s : State) → InForm s → inForm s ≡ true
 unfolding inForm sumsInForm
 form-of s f =
-    let range = le-leb (s .clock) lastClock (f .clock-most) in
+    let range = lt-ltb (s .slice) (s .plan .frame) (f .slice-below) in
     let places = all-of 16 (placeInForm s) place in
     let sums = all-of 8 (sumInForm s) (λ j l. sum-of s j (f .sums-unused j l)) in
-    and-both (leb (s .clock) lastClock) (allTo 16 (placeInForm s) && sumsInForm s) range
+    and-both (ltb (s .slice) (s .plan .frame)) (allTo 16 (placeInForm s) && sumsInForm s) range
     (and-both (allTo 16 (placeInForm s)) (sumsInForm s) places sums)
   where
     place : (i : ℕ) → i < 16 → placeInForm s i ≡ true
     place i l =
         elim (in-use s i) [
-          | yes m ↦ rw (used-of s i m) (unit-of (s .clock) (kindAt s i .length) (unitOf s i) (f .unit-at i l m))
+          | yes m ↦ rw (used-of s i m) (unit-of (kindAt s i) (unitOf s i) (f .unit-at i l m))
           | no m ↦ rw (used-not s i m) (empty-of (unitOf s i) (f .unused i l m))
         ]
 
@@ -147,7 +147,7 @@ places-most s n r e = omega (arith, r .order .counts .kinds-most)
 pub place-most : (s : State) (i : ℕ) → Ready s → InUse s i → i < 16
 place-most s i r l = omega (arith, r .order .counts .kinds-most)
 
-pub unit-form : (s : State) (i : ℕ) → Ready s → InUse s i → UnitInForm (s .clock) (kindAt s i .length) (unitOf s i)
+pub unit-form : (s : State) (i : ℕ) → Ready s → InUse s i → UnitInForm (kindAt s i) (unitOf s i)
 unit-form s i r l = r .form .unit-at i (place-most s i r l) l
 
 -- ---- what the check answered, opened: u is whether place i is in use
@@ -160,21 +160,17 @@ module _ (s : State) (i : ℕ) (r : Answer) (u : Bool) (good : r ≡ Good) (is :
   pub ready-place : i < 16
   ready-place = place-most s i (ready-says s (sym is ∙ good)) kind-opened
 
-  -- and its release clock is not ahead of the clock
-  pub ready-clock : unitOf s i .at ≤ s .clock
-  ready-clock = unit-form s i (ready-says s (sym is ∙ good)) kind-opened .release-clock
-
 -- ---- the pass over the kinds, which goes through places in form: i is how far it is, and l what is left so far
 
 -- at most 4095 is left at a place in form
 place-left : (s : State) → InOrder (s .plan) → (i : ℕ) → i < 16 → placeInForm s i ≡ true → unitOf s i .left ≤ 4095
 place-left s o i l e =
     elim (in-use s i) [
-      | yes m ↦ used-left m (unit-says (s .clock) (kindAt s i .length) (unitOf s i) (rw (used-of s i m) at e))
+      | yes m ↦ used-left m (unit-says (kindAt s i) (unitOf s i) (rw (used-of s i m) at e))
       | no m ↦ omega (arith, ap (λ (v : Unit). v .left) (empty-says (unitOf s i) (rw (used-not s i m) at e)))
     ]
   where
-    used-left : InUse s i → UnitInForm (s .clock) (kindAt s i .length) (unitOf s i) → unitOf s i .left ≤ 4095
+    used-left : InUse s i → UnitInForm (kindAt s i) (unitOf s i) → unitOf s i .left ≤ 4095
     used-left m u =
         let v = o .kind-at i m in
         omega (arith, u .left-most, v .length-most, v .deadline-most, v .separation-most)
@@ -225,35 +221,35 @@ module _ (s : State) (a : Answer) where
   in-form-told : inForm s ≡ true → a ≡ sumsTold s → a ≡ (refuse (not (inForm s)) (bare 10) andThen sumsTold s)
   in-form-told e q = q ∙ rw e
 
--- the clock has run past its end
-late : (s : State) → lastClock < s .clock → inForm s ≡ false
+-- the frame has no such slice
+past : (s : State) → s .plan .frame ≤ s .slice → inForm s ≡ false
 unfolding inForm
-late s l = rw (lt-leb (s .clock) lastClock l)
+past s l = rw (le-ltb (s .slice) (s .plan .frame) l)
 
-pub formed-late : (s : State) (a : Answer) → a ≡ bare 10 → lastClock < s .clock →
+pub formed-past : (s : State) (a : Answer) → a ≡ bare 10 → s .plan .frame ≤ s .slice →
     a ≡ (refuse (not (inForm s)) (bare 10) andThen sumsTold s)
-formed-late s a q l = not-in-form s a (late s l) q
+formed-past s a q l = not-in-form s a (past s l) q
 
 -- a place is not in form
 place-out : (s : State) (i : ℕ) → i < 16 → placeInForm s i ≡ false → inForm s ≡ false
 unfolding inForm
 place-out s i l f =
     let some : allTo 16 (placeInForm s) ≡ false = sym (all-fails 16 i (placeInForm s) f l) in
-    sym (second-no (leb (s .clock) lastClock) _ (rw some))
+    sym (second-no (ltb (s .slice) (s .plan .frame)) _ (rw some))
 
 pub formed-place : (s : State) (a : Answer) (i : ℕ) (b : Bool) → a ≡ bare 10 → i < 16 → b ≡ placeInForm s i → not b ≡ true →
     a ≡ (refuse (not (inForm s)) (bare 10) andThen sumsTold s)
 formed-place s a i b q l e t = not-in-form s a (place-out s i l (told-no (placeInForm s i) b e t)) q
 
 -- every place is: what is left is left in the plan's kinds
-module _ (s : State) (i : ℕ) (left : List ℕ) (o : InOrder (s .plan)) (c : s .clock ≤ lastClock) (all : true ≡ allTo i (placeInForm s))
+module _ (s : State) (i : ℕ) (left : List ℕ) (o : InOrder (s .plan)) (c : s .slice < s .plan .frame) (all : true ≡ allTo i (placeInForm s))
     (p : i ≤ 16) (q : 16 ≤ i) (so-far : left ≡ leftBelow s i) where
   every : allTo 16 (placeInForm s) ≡ true
   every = let end : i ≡ 16 = omega arith in sym (all ∙ ap (λ (x : ℕ). allTo x (placeInForm s)) end)
 
   form-is : inForm s ≡ sumsFit (s .sum) (projectPlaces s)
   unfolding inForm sumsInForm sumsFit
-  form-is = rw (le-leb (s .clock) lastClock c, every)
+  form-is = rw (lt-ltb (s .slice) (s .plan .frame) c, every)
 
   row : left ≡ leftRow s
   row =

@@ -2,25 +2,22 @@
 -- Assumes nothing.
 use mathlib.Core.Path.{_≡_, refl, sym, ap, _∙_}
 use mathlib.Core.Bool.{Bool, true, false, _&&_, false≢true}
-use Prim.Native.Nat.{ℕ, _+_, _%_, _≤_, _<_}
-use native.Mathlib.Nat.{mod-lt, mod-mod}
+use Prim.Native.Nat.{ℕ, _+_, _≤_, _<_}
+use native.Mathlib.Nat.{mod-eq-of-lt}
 use native.Mathlib.Omega.{arith}
 use lib.Dec.{eqb}
 use borrow.Author.Tests.{eq-eqb, ne-eqb, eqb-true, eqb-false, not-true, not-false}
 use Rattle.laws.specs.Tests.{and-left, and-right, and-both}
-use Rattle.laws.specs.Count.{countTo}
 use Rattle.laws.specs.Ranking.{Order, sooner}
 use Rattle.laws.specs.Ranking.Properties.{sooner-le, sooner-tie, sooner-order}
-use Rattle.plan.specs.Order.{budgetOf}
-use Rattle.layout.specs.Cards.{heldFrom}
-use Rattle.layout.specs.Layout.{firstCell, held}
+use Rattle.layout.specs.Layout.{held}
 use Rattle.layout.specs.Layout.Properties.{first-next, below-cards, held-from}
 use Rattle.rack.specs.declared.State.{State}
 use Rattle.rack.specs.State.{unitOf, kindAt, InUse, ProjectInUse}
 use Rattle.rack.specs.Form.{Ready}
 use Rattle.rack.specs.View.{cardsHeld, endCard, rankOf, chosen}
 use Rattle.rack.specs.View.Properties.{chosen-active, chosen-rank, not-chosen, chosen-first, rank-above}
-use Rattle.rack.specs.Rank.{due, working, active, outranks, viewOf, ownView, rank, served}
+use Rattle.rack.specs.Rank.{until, working, active, outranks, viewOf, ownView, rank, served}
 
 -- the order sees only the two keys
 pub sooner-agree : (f g : ℕ → ℕ) (k i : ℕ) → f k ≡ g k → f i ≡ g i → sooner f k i ≡ sooner g k i
@@ -74,16 +71,16 @@ module _ (s : State) where
 
   pub ranked : Order (outranks s)
   unfolding outranks
-  ranked = sooner-order (due s)
+  ranked = sooner-order (until s)
 
   -- who outranks another is due no later, and if not sooner has the lower number
-  pub outranks-due : (k i : ℕ) → outranks s k i ≡ true → due s k ≤ due s i
+  pub outranks-until : (k i : ℕ) → outranks s k i ≡ true → until s k ≤ until s i
   unfolding outranks
-  outranks-due k i e = sooner-le (due s) k i e
+  outranks-until k i e = sooner-le (until s) k i e
 
-  pub outranks-tie : (k i : ℕ) → outranks s k i ≡ true → due s i ≤ due s k → k < i
+  pub outranks-tie : (k i : ℕ) → outranks s k i ≡ true → until s i ≤ until s k → k < i
   unfolding outranks
-  outranks-tie k i e = sooner-tie (due s) k i e
+  outranks-tie k i e = sooner-tie (until s) k i e
 
   -- ---- who is served
 
@@ -129,19 +126,19 @@ module _ (s : State) where
 -- ---- of a state that is not refused
 
 module _ (s : State) (r : Ready s) (j : ℕ) where
-  -- "clock mod F" is a slice of the frame
+  -- the slice is one of the frame
   pub in-frame : viewOf s j .slice < viewOf s j .frame
   unfolding viewOf
-  in-frame = mod-lt (s .clock) (r .order .counts .some-slice)
+  in-frame = r .form .slice-below
 
   -- "Let h(s) be the cards a project holds at slice s, taken modulo F"
-  pub view-held : ProjectInUse s j → cardsHeld (viewOf s j) ≡ held (s .plan) j (s .clock)
-  unfolding cardsHeld viewOf heldFrom
-  view-held l =
-      let cells : ℕ → ℕ = λ x. countTo (budgetOf (s .plan) j) (λ y. eqb ((firstCell (s .plan) j + y) % s .plan .frame) x) in
-      ap cells (mod-mod (s .clock) (s .plan .frame)) ∙ sym (held-from (s .plan) (r .order) j l (s .clock))
+  pub view-held : ProjectInUse s j → cardsHeld (viewOf s j) ≡ held (s .plan) j (s .slice)
+  unfolding cardsHeld viewOf
+  view-held l = sym (held-from (s .plan) (r .order) j l (s .slice))
 
   -- its cards are cards of the rack
   pub end-most : ProjectInUse s j → endCard (viewOf s j) ≤ s .plan .cards
   unfolding endCard viewOf
-  end-most l = rw (first-next (s .plan) j) at (below-cards (s .plan) (r .order) (s .clock) (j + 1) (omega arith))
+  end-most l =
+      rw (mod-eq-of-lt (r .form .slice-below), first-next (s .plan) j) at
+      (below-cards (s .plan) (r .order) (s .slice) (j + 1) (omega arith))

@@ -18,7 +18,7 @@ use Rattle.answer.specs.Answer.{bare, refuse, _andThen_}
 use Rattle.answer.specs.Answer.Properties.{andThen-left, andThen-right, refuse-good}
 use Rattle.unit.specs.declared.Unit.{Unit}
 use Rattle.unit.specs.Start.{startable}
-use Rattle.unit.specs.Start.Properties.{start-says, start-of}
+use Rattle.unit.specs.Start.Properties.{start-says, start-of, start-none-left}
 use Rattle.rack.specs.declared.State.{State}
 use Rattle.unit.specs.Unit.{noUnit}
 use Rattle.rack.specs.State.{unitOf, kindAt, kindPlaces, InUse, used, projectPlaces, sumAt, Places}
@@ -28,7 +28,6 @@ use Rattle.rack.specs.Sums.Properties.{sum-changed, left-own, left-other
 use Rattle.rack.specs.Form.{ready, Ready}
 use Rattle.unit.specs.Form.{UnitInForm}
 use Rattle.rack.specs.Form.Properties.{ready-says, ready-of, used-of, used-says, place-most, unit-form}
-use Rattle.rack.specs.Rank.{gone}
 use Rattle.rack.specs.Release.{Releasable, releaseAnswer, startedUnit, released, releaseOf}
 
 -- ---- the whole answer
@@ -37,17 +36,17 @@ pub release-says : (s : State) (i e : ℕ) → releaseAnswer s i e ≡ Good → 
 unfolding releaseAnswer
 release-says s i e h =
     let twelve = refuse (not (used s i)) (bare 12) in
-    let rest = startable (kindAt s i) (unitOf s i) (gone s i) e in
+    let rest = startable (kindAt s i) (unitOf s i) e in
     let r = andThen-right (ready s) (twelve andThen rest) h in
     record {
       ready = ready-says s (andThen-left (ready s) (twelve andThen rest) h);
       its-kind = used-says s i (not-false (used s i) (refuse-good (not (used s i)) _ (andThen-left twelve rest r)));
-      start = start-says (kindAt s i) (unitOf s i) (gone s i) e (andThen-right twelve rest r);
+      start = start-says (kindAt s i) (unitOf s i) e (andThen-right twelve rest r);
     }
 
 pub release-of : (s : State) (i e : ℕ) → Releasable s i e → releaseAnswer s i e ≡ Good
 unfolding releaseAnswer
-release-of s i e r = rw (ready-of s (r .ready), used-of s i (r .its-kind), start-of (kindAt s i) (unitOf s i) (gone s i) e (r .start))
+release-of s i e r = rw (ready-of s (r .ready), used-of s i (r .its-kind), start-of (kindAt s i) (unitOf s i) e (r .start))
 
 -- ---- what the tests answered, opened
 
@@ -75,6 +74,12 @@ module _ (s : State) (i e : ℕ) (r : Releasable s i e) where
   its-project : c < projectPlaces s
   its-project = r .ready .order .kind-at i (r .its-kind) .its-project
 
+  -- "15 can then never occur": nothing is left of the kind's last unit
+  pub release-none-left : unitOf s i .left ≡ 0
+  release-none-left =
+      start-none-left (kindAt s i) (unitOf s i) e (unit-form s i (r .ready) (r .its-kind))
+      (r .ready .order .kind-at i (r .its-kind) .deadline-most) (r .start)
+
   below : (k : ℕ) → InUse s k → kindAt s k .length ≤ 4095
   below k l =
       let v = r .ready .order .kind-at k l in
@@ -97,9 +102,9 @@ module _ (s : State) (i e : ℕ) (r : Releasable s i e) where
   room =
       let own : with-new i ≡ e = rw (eq-eqb i i refl) in
       let changed = sum-changed n (leftFor s c) with-new i (r .its-kind) (λ k l z. rw (ne-eqb k i z)) in
-      let none = left-none s c i (r .start .nothing-left) in
-      let most = sum-bound n 4095 with-new new-most in
-      omega (arith, r .ready .sums c its-project, changed, none, own, most, r .ready .order .counts .kinds-most)
+      let none = left-none s c i release-none-left in
+      let most = r .ready .order .counts .kinds-most in
+      omega (arith, r .ready .sums c its-project, changed, none, own, sum-bound n 4095 with-new new-most, most)
 
 pub release-project : (s : State) (i e : ℕ) (r : Answer) → r ≡ Good → r ≡ releaseAnswer s i e → kindAt s i .project < 8
 release-project s i e r g q =
@@ -111,7 +116,7 @@ release-room s i e j r g q z = omega (arith, room s i e (release-opened s i e r 
 
 -- the state as the code makes it: j is its project
 pub released-is : (s : State) (i e j : ℕ) → j ≡ kindAt s i .project →
-    record { plan = s .plan; clock = s .clock; unit = set (s .unit) i (startedUnit s e); sum = set (s .sum) j (sumAt s j + e) }
+    record { plan = s .plan; slice = s .slice; unit = set (s .unit) i (startedUnit e); sum = set (s .sum) j (sumAt s j + e) }
     ≡ released s i e
 unfolding released
 released-is s i e j z = rw z
@@ -125,30 +130,31 @@ release-refused s i e w h = refused-keeps (releaseAnswer s i e) w (released s i 
 -- ---- the state that it leaves is in form
 
 module _ (s : State) (i e : ℕ) (r : Releasable s i e) (places : Places s) where
-  pub release-unit : unitOf (released s i e) i ≡ startedUnit s e
+  pub release-unit : unitOf (released s i e) i ≡ startedUnit e
   unfolding released
-  release-unit =
-      getD-set-same (s .unit) i (startedUnit s e) noUnit (omega (arith, places .sixteen, place-most s i (r .ready) (r .its-kind)))
+  release-unit = getD-set-same (s .unit) i (startedUnit e) noUnit (omega (arith, places .sixteen, place-most s i (r .ready) (r .its-kind)))
 
   pub release-others : (k : ℕ) → k ≢ i → unitOf (released s i e) k ≡ unitOf s k
   unfolding released
-  release-others k z = getD-set-other (s .unit) i k (startedUnit s e) noUnit z
+  release-others k z = getD-set-other (s .unit) i k (startedUnit e) noUnit z
 
   pub release-places : Places (released s i e)
   unfolding released
   release-places = record {
-    sixteen = length-set (s .unit) i (startedUnit s e) ∙ places .sixteen;
+    sixteen = length-set (s .unit) i (startedUnit e) ∙ places .sixteen;
     eight = length-set (s .sum) (kindAt s i .project) (sumAt s (kindAt s i .project) + e) ∙ places .eight;
   }
 
-  form-at : (k : ℕ) → UnitInForm (s .clock) (kindAt s k .length) (unitOf s k) → Dec (k ≡ i) →
-      UnitInForm (s .clock) (kindAt s k .length) (unitOf (released s i e) k)
+  form-at : (k : ℕ) → UnitInForm (kindAt s k) (unitOf s k) → Dec (k ≡ i) →
+      UnitInForm (kindAt s k) (unitOf (released s i e) k)
   form-at k u (yes z) =
-      let v : unitOf (released s i e) k ≡ startedUnit s e = ap (λ (x : ℕ). unitOf (released s i e) x) z ∙ release-unit in
-      let c : kindAt s k .length ≡ kindAt s i .length = ap (λ (x : ℕ). kindAt s x .length) z in
-      rw v (record {
-        release-clock = omega arith;
-        left-most = omega (arith, r .start .length-most);
+      let v : unitOf (released s i e) k ≡ startedUnit e = ap (λ (x : ℕ). unitOf (released s i e) x) z ∙ release-unit in
+      let c : kindAt s k ≡ kindAt s i = ap (λ (x : ℕ). kindAt s x) z in
+      let order = r .ready .order .kind-at i (r .its-kind) in
+      rw (v, c) (record {
+        gone-most = omega arith;
+        left-most = r .start .length-most;
+        in-time = λ l. omega (arith, order .some-length, order .length-most);
         never = λ n. absurd (true≢false n);
       })
   form-at k u (no z) = rw (release-others k z) u
@@ -163,7 +169,7 @@ module _ (s : State) (i e : ℕ) (r : Releasable s i e) (places : Places s) wher
       let new : ℕ → ℕ = λ k. cond (eqb (kindAt s k .project) j) (unitOf (released s i e) k .left) 0 in
       let others : (k : ℕ) → k < kindPlaces s → k ≢ i → new k ≡ old k = λ k l z.
       ap (λ (v : Unit). cond (eqb (kindAt s k .project) j) (v .left) 0) (release-others k z) in
-      omega (arith, sum-changed (kindPlaces s) old new i (r .its-kind) others, left-none s j i (r .start .nothing-left))
+      omega (arith, sum-changed (kindPlaces s) old new i (r .its-kind) others, left-none s j i (release-none-left s i e r))
 
   pub release-left : projectLeft (released s i e) (kindAt s i .project) ≡ projectLeft s (kindAt s i .project) + e
   unfolding released
@@ -201,7 +207,7 @@ module _ (s : State) (i e : ℕ) (r : Releasable s i e) (places : Places s) wher
   release-form = record {
     order = r .ready .order;
     form = record {
-      clock-most = r .ready .form .clock-most;
+      slice-below = r .ready .form .slice-below;
       unit-at = λ k l m. form-at k (r .ready .form .unit-at k l m) (ℕ-discrete k i);
       unused = λ k l m. release-others k (λ z. m (omega (arith, r .its-kind))) ∙ r .ready .form .unused k l m;
       sums-unused = λ j l m. release-sum-others j (λ z. m (omega (arith, its-project s i e r))) ∙ r .ready .form .sums-unused j l m;

@@ -34,13 +34,13 @@ use Rattle.rack.specs.Row.{holds, takes, byteBy, rowByte, rowOf, rowOver
 
 module _ (s : State) where
   abbrev cell : ℕ → ℕ
-  cell card = cellAt (s .plan .frame) card (s .clock % s .plan .frame)
+  cell card = cellAt (s .plan .frame) card (s .slice)
 
   abbrev project : ℕ → ℕ
   project i = kindAt s i .project
 
   -- a card is held as the project's view says
-  pub holds-has : (j card : ℕ) → holds (s .plan) j (s .clock) card ≡ hasCard (viewOf s j) card
+  pub holds-has : (j card : ℕ) → holds (s .plan) j (s .slice) card ≡ hasCard (viewOf s j) card
   unfolding holds hasCard viewOf owns
   holds-has j card = refl
 
@@ -49,7 +49,7 @@ module _ (s : State) where
   takes-working i card e = active-working s (project i) i (takes-active (ownView s i) i card e)
 
   -- a card goes to a kind of the project that holds it, and to nobody else
-  pub takes-holds : (i card : ℕ) → takes s i card ≡ true → holds (s .plan) (kindAt s i .project) (s .clock) card ≡ true
+  pub takes-holds : (i card : ℕ) → takes s i card ≡ true → holds (s .plan) (kindAt s i .project) (s .slice) card ≡ true
   takes-holds i card e = holds-has (project i) card ∙ takes-has (ownView s i) i card e
 
   -- who takes a card by a project's view is the project's
@@ -204,7 +204,7 @@ module _ (s : State) (r : Ready s) where
   pub stands-served : (card i : ℕ) → rowByte s card ≡ suc i → served s i ≡ true
   stands-served card i e = takes-served i card (row-takes s card i e)
 
-  pub stands-held : (card i : ℕ) → rowByte s card ≡ suc i → holds (s .plan) (of i) (s .clock) card ≡ true
+  pub stands-held : (card i : ℕ) → rowByte s card ≡ suc i → holds (s .plan) (of i) (s .slice) card ≡ true
   stands-held card i e = takes-holds s i card (row-takes s card i e)
 
   -- no kind stands twice
@@ -239,7 +239,7 @@ module _ (s : State) (r : Ready s) where
     abbrev most : ℕ
     most = min (cardsHeld (viewOf s j)) (activeIn (viewOf s j))
 
-    most-is : most ≡ min (held (s .plan) j (s .clock)) (activeKinds s j)
+    most-is : most ≡ min (held (s .plan) j (s .slice)) (activeKinds s j)
     unfolding activeIn activeKinds viewOf
     most-is = ap (λ (n : ℕ). min n (activeKinds s j)) (view-held s r j l)
 
@@ -297,8 +297,8 @@ module _ (s : State) (r : Ready s) where
             ]
 
   -- every card of a project with enough work is used
-  pub cards-used : (j card : ℕ) → ProjectInUse s j → holds (s .plan) j (s .clock) card ≡ true →
-      held (s .plan) j (s .clock) ≤ activeKinds s j → 0 < rowByte s card
+  pub cards-used : (j card : ℕ) → ProjectInUse s j → holds (s .plan) j (s .slice) card ≡ true →
+      held (s .plan) j (s .slice) ≤ activeKinds s j → 0 < rowByte s card
   cards-used j card l h q =
       let v = viewOf s j in
       let has : hasCard v card ≡ true = sym (holds-has s j card) ∙ h in
@@ -307,7 +307,7 @@ module _ (s : State) (r : Ready s) where
       used-here j l card (has-from v (in-frame s r j) card has) (omega (arith, below, all, most-is j l, view-held s r j l))
 
   -- a project has as many cards of the row as it holds, or as it has kinds with slices left
-  pub taken-cards : (j : ℕ) → ProjectInUse s j → cardsTaken s j ≡ min (held (s .plan) j (s .clock)) (activeKinds s j)
+  pub taken-cards : (j : ℕ) → ProjectInUse s j → cardsTaken s j ≡ min (held (s .plan) j (s .slice)) (activeKinds s j)
   unfolding cardsTaken
   taken-cards j l =
       let mine : ℕ → Bool = λ card. ofProject s j (rowByte s card) in

@@ -3,9 +3,9 @@
 use mathlib.Core.Path.{_≡_, refl, sym, ap, _∙_}
 use mathlib.Core.Bool.{Bool, true, false, cond, true≢false}
 use mathlib.Core.List.{List}
-use Prim.Native.Nat.{ℕ, zero, suc, pred, _+_, _-_, _%_, _≤_, _<_}
+use Prim.Native.Nat.{ℕ, zero, suc, pred, _+_, _-_, _≤_, _<_}
 use native.Mathlib.Decide.{decLt}
-use native.Mathlib.Nat.{mod-lt}
+use native.Mathlib.Nat.{mod-eq-of-lt}
 use native.Mathlib.Numerals.{add-one}
 use native.Mathlib.Omega.{arith}
 use lib.Dec.{ltb, eqb}
@@ -28,12 +28,12 @@ use Rattle.unit.specs.declared.Unit.{Unit}
 use Rattle.seats.specs.Seats.{at, rankBy, seatAt, seatBy, seatsBy}
 use Rattle.seats.specs.Seats.Properties.{seats-found}
 use Rattle.rack.specs.declared.State.{State}
-use Rattle.rack.specs.State.{lastClock, unitOf, kindAt, kindPlaces, projectPlaces, InUse, ProjectInUse}
+use Rattle.rack.specs.State.{unitOf, kindAt, kindPlaces, projectPlaces, InUse, ProjectInUse}
 use Rattle.rack.specs.Form.{Ready}
-use Rattle.rack.specs.Form.Properties.{unit-form, look-project}
+use Rattle.rack.specs.Form.Properties.{look-project}
 use Rattle.rack.specs.View.{cardsHeld, lowestCard, endCard, rankOf}
 use Rattle.rack.specs.View.Properties.{lowest-held}
-use Rattle.rack.specs.Rank.{due, working, active, outranks, viewOf, ownView, rank, served}
+use Rattle.rack.specs.Rank.{until, working, active, outranks, viewOf, ownView, rank, served}
 use Rattle.rack.specs.Rank.Properties.{sooner-agree, working-left, idle-left, active-is, active-idle}
 use Rattle.rack.specs.Rank.Properties.{served-rank, idle-unserved, unserved-rank, in-frame}
 use Rattle.rack.specs.Row.{takes, rowByte, rowOver}
@@ -42,14 +42,11 @@ use Rattle.rack.specs.Seat.{idle, seated, worksFor, worksOf, lowestAt, e
 
 -- ---- the walk over the projects of a plan in order: cell is the first cell of project j, and r how many cards stand below its end
 
-module _ (p : Plan) (o : InOrder p) (clock : ℕ) where
-  pub slice-small : clock % p .frame < 256
-  slice-small = omega (arith, mod-lt clock (o .counts .some-slice), o .counts .frame-most)
-
+module _ (p : Plan) (o : InOrder p) (slice : ℕ) (in-frame : slice < p .frame) where
   -- the first project's cards go on from card 0
-  pub cards-start : 0 ≡ lowestAt p clock 0
+  pub cards-start : 0 ≡ lowestAt p slice 0
   unfolding lowestAt
-  cards-start = sym (rw (first-start p) (below-start (p .frame) (clock % p .frame) (mod-lt clock (o .counts .some-slice))))
+  cards-start = sym (rw (first-start p) (below-start (p .frame) slice in-frame))
 
   module _ (cell j : ℕ) (is : cell ≡ firstCell p j) where
     pub cell-next : cell + budgetOf p j ≡ firstCell p (j + 1)
@@ -58,27 +55,29 @@ module _ (p : Plan) (o : InOrder p) (clock : ℕ) where
     pub cell-small : j < p .projects → cell + budgetOf p j < 65536
     cell-small l = omega (arith, last-most p o j l, cells-most p o)
 
-    module _ (r : ℕ) (below : r ≡ cardsBelow (p .frame) (cell + budgetOf p j) (clock % p .frame)) where
-      pub card-ends : r ≡ endAt p clock j
+    module _ (r : ℕ) (below : r ≡ cardsBelow (p .frame) (cell + budgetOf p j) slice) where
+      pub card-ends : r ≡ endAt p slice j
       unfolding endAt
-      card-ends = below ∙ ap (λ (x : ℕ). cardsBelow (p .frame) (x + budgetOf p j) (clock % p .frame)) is
+      card-ends = below ∙ ap (λ (x : ℕ). cardsBelow (p .frame) (x + budgetOf p j) slice) is
 
       -- the next project's cards go on from there
-      pub card-next : r ≡ lowestAt p clock (j + 1)
+      pub card-next : r ≡ lowestAt p slice (j + 1)
       unfolding lowestAt
-      card-next = below ∙ ap (λ (x : ℕ). cardsBelow (p .frame) x (clock % p .frame)) cell-next
+      card-next = below ∙ ap (λ (x : ℕ). cardsBelow (p .frame) x slice) cell-next
 
       pub card-small : j < p .projects → r < 256
       unfolding lowestAt
-      card-small l = omega (arith, card-next, below-cards p o clock (j + 1) (omega arith), o .counts .cards-most)
+      card-small l =
+          let most = rw (mod-eq-of-lt in-frame) at (below-cards p o slice (j + 1) (omega arith)) in
+          omega (arith, card-next, most, o .counts .cards-most)
 
 -- they are those of the projects' views
 
-lowest-view : (s : State) (j : ℕ) → lowestAt (s .plan) (s .clock) j ≡ lowestCard (viewOf s j)
+lowest-view : (s : State) (j : ℕ) → lowestAt (s .plan) (s .slice) j ≡ lowestCard (viewOf s j)
 unfolding lowestAt lowestCard viewOf
 lowest-view s j = refl
 
-end-view : (s : State) (j : ℕ) → endAt (s .plan) (s .clock) j ≡ endCard (viewOf s j)
+end-view : (s : State) (j : ℕ) → endAt (s .plan) (s .slice) j ≡ endCard (viewOf s j)
 unfolding endAt endCard viewOf
 end-view s j = refl
 
@@ -142,9 +141,9 @@ module _ (s : State) (r : Ready s) where
   its-project i l = r .order .kind-at i l .its-project
 
   -- the arrays hold what the state says
-  module _ (works dues low end : List ℕ)
+  module _ (works untils low end : List ℕ)
       (ew : (k : ℕ) → k < kinds → at works k ≡ worksOf s k)
-      (ed : (k : ℕ) → k < kinds → at dues k ≡ due s k)
+      (ed : (k : ℕ) → k < kinds → at untils k ≡ until s k)
       (el : (j : ℕ) → j < projectPlaces s → at low j ≡ lowestCard (viewOf s j))
       (ee : (j : ℕ) → j < projectPlaces s → at end j ≡ endCard (viewOf s j)) where
     works-working : (k : ℕ) → k < kinds → working s k ≡ true → at works k ≡ project k + 1
@@ -162,18 +161,18 @@ module _ (s : State) (r : Ready s) where
         go false e =
             rw (works-idle k m e, works-working i l w) (ne-eqb 0 (project i + 1) (λ z. omega arith) ∙ sym (active-idle s (project i) k e))
 
-    ranks-agree : (i : ℕ) → i < kinds → working s i ≡ true → rankBy works dues kinds i ≡ rank s i
+    ranks-agree : (i : ℕ) → i < kinds → working s i ≡ true → rankBy works untils kinds i ≡ rank s i
     unfolding rankBy rank rankOf viewOf outranks
     ranks-agree i l w =
         let mine : ℕ → Bool = λ k. eqb (at works k) (at works i) in
-        rank-cong kinds mine (active s (project i)) (sooner (at dues)) (sooner (due s)) i
-        (λ k m. same-project i k l m w) (λ k m e. sooner-agree (at dues) (due s) k i (ed k m) (ed i l))
+        rank-cong kinds mine (active s (project i)) (sooner (at untils)) (sooner (until s)) i
+        (λ k m. same-project i k l m w) (λ k m e. sooner-agree (at untils) (until s) k i (ed k m) (ed i l))
 
-    seat-found : (i : ℕ) → i < kinds → seatBy works dues low end kinds i ≡ seatOf s i
+    seat-found : (i : ℕ) → i < kinds → seatBy works untils low end kinds i ≡ seatOf s i
     unfolding seatBy
     seat-found i l = go (working s i) refl
       where
-        go : (b : Bool) → working s i ≡ b → seatBy works dues low end kinds i ≡ seatOf s i
+        go : (b : Bool) → working s i ≡ b → seatBy works untils low end kinds i ≡ seatOf s i
         go true w =
             let p = its-project i l in
             let some = ne-eqb (project i + 1) 0 (λ z. omega arith) in
@@ -187,22 +186,18 @@ module _ (s : State) (r : Ready s) where
   pub project-small : (i : ℕ) → i < 16 → project i < 8
   project-small i l = look-project s i (r .order) l
 
-  pub clock-small : (i : ℕ) → i < 16 → unitOf s i .at ≤ lastClock
-  clock-small i l =
-      elim (decLt i kinds) [
-        | yes m ↦ omega (arith, unit-form s i r m .release-clock, r .form .clock-most)
-        | no m ↦ omega (arith, ap (λ (v : Unit). v .at) (r .form .unused i l m))
-      ]
+  pub slice-in-frame : s .slice < s .plan .frame
+  slice-in-frame = r .form .slice-below
 
-  pub seats-are : (works dues low end seats : List ℕ) (n m : ℕ) → m ≡ kinds → 16 ≤ n → n ≤ 16 →
-      works ≡ written n (worksOf s) (replicate 16 0) → dues ≡ written n (due s) (replicate 16 0) →
-      low ≡ written (projectPlaces s) (lowestAt (s .plan) (s .clock)) (replicate 8 0) →
-      end ≡ written (projectPlaces s) (endAt (s .plan) (s .clock)) (replicate 8 0) →
-      seats ≡ seatsBy works dues low end m → seats ≡ seatsOf s
+  pub seats-are : (works untils low end seats : List ℕ) (n m : ℕ) → m ≡ kinds → 16 ≤ n → n ≤ 16 →
+      works ≡ written n (worksOf s) (replicate 16 0) → untils ≡ written n (until s) (replicate 16 0) →
+      low ≡ written (projectPlaces s) (lowestAt (s .plan) (s .slice)) (replicate 8 0) →
+      end ≡ written (projectPlaces s) (endAt (s .plan) (s .slice)) (replicate 8 0) →
+      seats ≡ seatsBy works untils low end m → seats ≡ seatsOf s
   unfolding seatsOf
-  seats-are works dues low end seats n m em a b ew ed el ee es =
-      seats-found works dues low end kinds seats (r .order .counts .kinds-most) (es ∙ ap (seatsBy works dues low end) em)
-      ∙ written-cong kinds (seatBy works dues low end kinds) (seatOf s) (replicate 16 0) each
+  seats-are works untils low end seats n m em a b ew ed el ee es =
+      seats-found works untils low end kinds seats (r .order .counts .kinds-most) (es ∙ ap (seatsBy works untils low end) em)
+      ∙ written-cong kinds (seatBy works untils low end kinds) (seatOf s) (replicate 16 0) each
     where
       stored : (l : List ℕ) (f : ℕ → ℕ) → l ≡ written n f (replicate 16 0) → (k : ℕ) → k < kinds → at l k ≡ f k
       stored l f e k q = ap (λ (x : List ℕ). at x k) e ∙ stored-at n 16 f k (omega (arith, r .order .counts .kinds-most)) b
@@ -210,11 +205,11 @@ module _ (s : State) (r : Ready s) where
       found : (l : List ℕ) (f : ℕ → ℕ) → l ≡ written (projectPlaces s) f (replicate 8 0) → (j : ℕ) → j < projectPlaces s → at l j ≡ f j
       found l f e j q = ap (λ (x : List ℕ). at x j) e ∙ stored-at (projectPlaces s) 8 f j q (r .order .counts .projects-most)
 
-      each : (i : ℕ) → i < kinds → seatBy works dues low end kinds i ≡ seatOf s i
+      each : (i : ℕ) → i < kinds → seatBy works untils low end kinds i ≡ seatOf s i
       each =
-          seat-found works dues low end (stored works (worksOf s) ew) (stored dues (due s) ed)
-          (λ j l. found low (lowestAt (s .plan) (s .clock)) el j l ∙ lowest-view s j)
-          (λ j l. found end (endAt (s .plan) (s .clock)) ee j l ∙ end-view s j)
+          seat-found works untils low end (stored works (worksOf s) ew) (stored untils (until s) ed)
+          (λ j l. found low (lowestAt (s .plan) (s .slice)) el j l ∙ lowest-view s j)
+          (λ j l. found end (endAt (s .plan) (s .slice)) ee j l ∙ end-view s j)
 
   pub seats-at : (i : ℕ) → InUse s i → at (seatsOf s) i ≡ seatOf s i
   unfolding seatsOf

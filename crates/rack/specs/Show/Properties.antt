@@ -5,44 +5,32 @@ use mathlib.Core.Path.{_≡_, refl, sym, ap, _∙_}
 use mathlib.Core.List.{List, _++_}
 use Prim.Native.Nat.{ℕ, _+_, _-_, _≤_}
 use native.Mathlib.Omega.{arith}
-use lib.Dec.{ltb, eqb}
+use lib.Dec.{ltb}
 use lib.ListN.{length, take, drop, length-append, length-drop}
 use lib.Seq.{drop-at}
-use borrow.Author.Tests.{le-ltb, ne-eqb, ltb-false, eqb-false}
+use borrow.Author.Tests.{le-ltb, ltb-false}
 use Rattle.answer.specs.declared.Answer.{Answer}
 use Rattle.answer.specs.declared.Answer.the-variants.{Good, No}
 use Rattle.answer.specs.declared.Refusal.{Refusal}
-use Rattle.answer.specs.Answer.{_andThen_}
 use Rattle.answer.specs.Answer.Properties.{andThen-left, andThen-right, refuse-good}
 use Rattle.rack.specs.declared.State.{State}
-use Rattle.rack.specs.State.{lastClock}
 use Rattle.rack.specs.Form.{ready, Ready}
 use Rattle.rack.specs.Form.Properties.{ready-says, ready-of}
 use Rattle.rack.specs.Row.{rowOf, rowOver}
 use Rattle.rack.specs.Row.Properties.{row-size, over-take}
-use Rattle.rack.specs.Advance.{timeLeft}
 use Rattle.rack.specs.Show.{Showable, roomFor, showAnswer, bufferShown, Shows}
 
 -- ---- the answer
 
 pub show-says : (s : State) (room : ℕ) → showAnswer s room ≡ Good → Showable s room
-unfolding showAnswer roomFor timeLeft
+unfolding showAnswer roomFor
 show-says s room h =
-    let r = ready-says s (andThen-left (ready s) (roomFor s room andThen timeLeft s) h) in
-    let t = andThen-right (ready s) (roomFor s room andThen timeLeft s) h in
-    let nine = refuse-good (ltb room (s .plan .cards)) _ (andThen-left (roomFor s room) (timeLeft s) t) in
-    let eleven = refuse-good (eqb (s .clock) lastClock) _ (andThen-right (roomFor s room) (timeLeft s) t) in
-    let z = eqb-false (s .clock) lastClock eleven in
-    record {
-      advance = record { ready = r; time = omega (arith, r .form .clock-most) };
-      enough = ltb-false room (s .plan .cards) nine;
-    }
+    let nine = refuse-good (ltb room (s .plan .cards)) _ (andThen-right (ready s) (roomFor s room) h) in
+    record { ready = ready-says s (andThen-left (ready s) (roomFor s room) h); enough = ltb-false room (s .plan .cards) nine }
 
 pub show-of : (s : State) (room : ℕ) → Showable s room → showAnswer s room ≡ Good
-unfolding showAnswer roomFor timeLeft
-show-of s room r =
-    let earlier = ne-eqb (s .clock) lastClock (λ e. omega (arith, r .advance .time)) in
-    rw (ready-of s (r .advance .ready), le-ltb room (s .plan .cards) (r .enough), earlier)
+unfolding showAnswer roomFor
+show-of s room r = rw (ready-of s (r .ready), le-ltb room (s .plan .cards) (r .enough))
 
 -- ---- what the tests answered, opened
 
@@ -51,7 +39,7 @@ module _ (s : State) (room : ℕ) (r : Answer) (good : r ≡ Good) (is : r ≡ s
   show-opened = show-says s room (sym is ∙ good)
 
   pub show-ready : Ready s
-  show-ready = show-opened .advance .ready
+  show-ready = show-opened .ready
 
   pub show-room : s .plan .cards ≤ room
   show-room = show-opened .enough

@@ -13,7 +13,7 @@ use Rattle.answer.specs.Answer.{bare, number, refuse, _andThen_}
 use Rattle.rack.specs.declared.State.{State}
 use Rattle.rack.specs.State.{nextOf}
 use Rattle.rack.specs.Form.{ready}
-use Rattle.rack.specs.Advance.{advanced, timeLeft, advanceAnswer, advanceOf}
+use Rattle.rack.specs.Advance.{advanced, advanceAnswer, advanceOf}
 use Rattle.rack.specs.Show.{roomFor, showAnswer, bufferShown}
 use Rattle.rack.specs.Slice.{sliceAnswer, sliceOf, bufferAfter}
 
@@ -31,11 +31,10 @@ shown-is-sliced s bytes = refl
 
 -- where showing does not say 9, advancing answers as it does
 pub advance-alike : (s : State) (room : ℕ) → number (showAnswer s room) ≢ 9 → advanceAnswer s ≡ showAnswer s room
-unfolding advanceAnswer showAnswer roomFor
+unfolding showAnswer roomFor
 advance-alike s room = go (ready s) (ltb room (s .plan .cards))
   where
-    go : (a : Answer) (short : Bool) → number (a andThen (refuse short (bare 9) andThen timeLeft s)) ≢ 9 →
-        (a andThen timeLeft s) ≡ (a andThen (refuse short (bare 9) andThen timeLeft s))
+    go : (a : Answer) (short : Bool) → number (a andThen refuse short (bare 9)) ≢ 9 → a ≡ (a andThen refuse short (bare 9))
     go (No w) short h = refl
     go Good true h = absurd (h refl)
     go Good false h = refl
@@ -46,11 +45,11 @@ unfolding advanceOf sliceOf
 advance-is-slice s room h =
     ap (λ (a : Answer). nextOf a (advanced s) s) (advance-alike s room h ∙ show-is-slice s room)
 
--- where the state itself has no 9 to say and showing says 9, only the clock is left to ask
-pub advance-short : (s : State) (room : ℕ) → number (ready s) ≢ 9 → number (showAnswer s room) ≡ 9 → advanceAnswer s ≡ timeLeft s
-unfolding advanceAnswer showAnswer
+-- where the state itself has no 9 to say and showing says 9, nothing is left to ask
+pub advance-short : (s : State) (room : ℕ) → number (ready s) ≢ 9 → number (showAnswer s room) ≡ 9 → advanceAnswer s ≡ Good
+unfolding showAnswer
 advance-short s room = go (ready s)
   where
-    go : (a : Answer) → number a ≢ 9 → number (a andThen (roomFor s room andThen timeLeft s)) ≡ 9 → (a andThen timeLeft s) ≡ timeLeft s
+    go : (a : Answer) → number a ≢ 9 → number (a andThen roomFor s room) ≡ 9 → a ≡ Good
     go (No w) h e = absurd (h e)
     go Good h e = refl

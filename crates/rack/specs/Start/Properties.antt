@@ -5,6 +5,7 @@ use Prim.Native.Nat.{ℕ}
 use native.Mathlib.Omega.{arith}
 use lib.ListN.{length-replicate, getD-replicate}
 use Rattle.plan.specs.declared.Plan.{Plan}
+use Rattle.plan.specs.declared.Kind.{Kind}
 use Rattle.answer.specs.declared.Answer.the-variants.{Good, No}
 use Rattle.answer.specs.declared.Refusal.{Refusal}
 use Rattle.plan.specs.Order.{InOrder}
@@ -53,8 +54,8 @@ pub fresh-form : (p : Plan) → InOrder p → Ready (freshOf p)
 fresh-form p o = record {
   order = o;
   form = record {
-    clock-most = omega arith;
-    unit-at = λ i l m. rw (getD-replicate 16 i noUnit noUnit l) (never (kindAt (freshOf p) i .length));
+    slice-below = o .counts .some-slice;
+    unit-at = λ i l m. rw (getD-replicate 16 i noUnit noUnit l) (never (kindAt (freshOf p) i));
     unused = λ i l m. getD-replicate 16 i noUnit noUnit l;
     sums-unused = λ j l m. getD-replicate 8 j 0 0 l;
   };
@@ -64,8 +65,8 @@ fresh-form p o = record {
       ap (λ (v : Unit). v .left) (getD-replicate 16 i noUnit noUnit (omega (arith, o .counts .kinds-most)))) j);
 }
   where
-    never : (n : ℕ) → UnitInForm 0 n noUnit
-    never n = record { release-clock = omega arith; left-most = omega arith; never = λ e. (refl, refl) }
+    never : (k : Kind) → UnitInForm k noUnit
+    never k = record { gone-most = omega arith; left-most = omega arith; in-time = λ l. absurd (omega arith); never = λ e. (refl, refl) }
 
 pub fresh-places : (p : Plan) → Places (freshOf p)
 fresh-places p = record { sixteen = length-replicate 16 noUnit; eight = length-replicate {A = ℕ} 8 0 }

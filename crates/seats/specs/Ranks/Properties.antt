@@ -1,229 +1,205 @@
--- Laws of ranks counted pair by pair: the steps of the two loops, and that at the end they are the ranks.
+-- Laws of ranks counted among standings: the steps of the loops, and that the count is the rank.
 -- Assumes nothing.
 use mathlib.Core.Path.{_≡_, refl, sym, ap, _∙_}
 use mathlib.Core.Logic.{_≢_}
-use mathlib.Core.Bool.{Bool, true, false, cond, _&&_, _||_}
+use mathlib.Core.Bool.{Bool, true, false, _&&_, _||_}
 use mathlib.Core.List.{List}
-use Prim.Native.Nat.{ℕ, _+_, _≤_, _<_}
+use Prim.Native.Nat.{ℕ, _+_, _-_, _*_, _%_, _≤_, _<_}
 use native.Mathlib.Decide.{decLt, ℕ-discrete}
 use native.Mathlib.Omega.{arith}
 use lib.Dec.{ltb, eqb}
-use lib.ListN.{length, set, length-replicate, replicate}
+use mir.Val.{boolByte}
+use lib.ListN.{set, replicate}
 use borrow.Author.Tests.{lt-ltb, le-ltb, eq-eqb, ne-eqb}
-use Rattle.laws.specs.Loops.{stop}
 use Rattle.laws.specs.Count.{countTo}
-use Rattle.laws.specs.Count.Properties.{count-none, count-no, count-yes, count-le}
+use Rattle.laws.specs.Count.Properties.{count-cong, count-split, count-never, count-yes, count-no, count-stop}
 use Rattle.laws.specs.Ranking.{rankIn, sooner}
 use Rattle.laws.specs.Written.{written}
-use Rattle.laws.specs.Written.Properties.{written-none, written-again, written-same, written-cong, written-set, written-length}
-use Rattle.laws.specs.Written.Properties.{stored-at, stored-past}
-use Rattle.seats.specs.Seats.{at, rankBy, aheadBy}
-use Rattle.seats.specs.Ranks.{rankTo, rankPast, ranksTo, ranksPast}
+use Rattle.laws.specs.Written.Properties.{written-none, written-again, stored-at, stored-past}
+use Rattle.seats.specs.Seats.{at, rankBy}
+use Rattle.seats.specs.Ranks.{leastOf, standingOf, countedFrom, smaller, rankAmong, Standing, Standings}
 
-module _ (works due : List ℕ) where
-  abbrev ahead : ℕ → ℕ → Bool
-  ahead = aheadBy works due
+-- ---- one standing
 
-  -- ---- two kinds compared
+-- it has 28 bits
+pub standing-most : (works until number : ℕ) → works < 256 → until < 65536 → number < 16 → standingOf works until number < 268435456
+unfolding standingOf leastOf
+standing-most works until number w u n = omega arith
 
-  pub apart-ahead : (i k : ℕ) → (at works k ≡ at works i → ⊥) → ahead i k ≡ false
-  unfolding aheadBy
-  apart-ahead i k h = rw (ne-eqb (at works k) (at works i) h)
+-- how far it is from its project's least
+pub standing-far : (works until number : ℕ) → standingOf works until number - leastOf works ≡ until * 16 + number
+unfolding standingOf leastOf
+standing-far works until number = omega arith
 
-  -- kind k goes before kind i
-  pub first-ahead : (i k : ℕ) → k < i → at works k ≡ at works i → at due k ≤ at due i → ahead i k ≡ true
-  unfolding aheadBy sooner
-  first-ahead i k l e d =
-      rw (eq-eqb (at works k) (at works i) e)
-      (elim (decLt (at due k) (at due i)) [ yes p ↦ rw (lt-ltb (at due k) (at due i) p) | no p ↦ tied (omega arith) ])
-    where
-      tied : at due k ≡ at due i → (ltb (at due k) (at due i) || (eqb (at due k) (at due i) && ltb k i)) ≡ true
-      tied q = rw (le-ltb (at due k) (at due i) (omega arith), eq-eqb (at due k) (at due i) q, lt-ltb k i l)
+-- ---- two compared
 
-  first-not : (i k : ℕ) → k < i → at due k ≤ at due i → ahead k i ≡ false
-  unfolding aheadBy sooner
-  first-not i k l d = go (eqb (at works i) (at works k))
-    where
-      later : (ltb (at due i) (at due k) || (eqb (at due i) (at due k) && ltb i k)) ≡ false
-      later = rw (le-ltb (at due i) (at due k) d, le-ltb i k (omega arith)) (none (eqb (at due i) (at due k)))
-        where
-          none : (b : Bool) → (b && false) ≡ false
-          none true = refl
-          none false = refl
+-- of one project: by the slices until they are due, then by number
+same-project : (w u k : ℕ) → w < 256 → u < 65536 → k < 16 → countedFrom (leastOf w) (standingOf w u k) ≡ u * 16 + k
+unfolding countedFrom standingOf leastOf
+same-project w u k a b c = omega arith
 
-      go : (b : Bool) → (b && (ltb (at due i) (at due k) || (eqb (at due i) (at due k) && ltb i k))) ≡ false
-      go true = later
-      go false = refl
+-- of two projects: never before
+other-project : (w x far : ℕ) → w < 256 → 0 < w → far < 1048576 → x < leastOf w → far ≤ countedFrom (leastOf w) x
+unfolding countedFrom leastOf
+other-project w x far a b c d = omega arith
 
-  -- kind i goes before kind k
-  pub second-ahead : (i k : ℕ) → at works k ≡ at works i → at due i < at due k → ahead k i ≡ true
-  unfolding aheadBy sooner
-  second-ahead i k e d = rw (eq-eqb (at works i) (at works k) (sym e), lt-ltb (at due i) (at due k) d)
+past-project : (w x far : ℕ) → w < 256 → far < 1048576 → x < 268435456 → leastOf (w + 1) ≤ x → far ≤ countedFrom (leastOf w) x
+unfolding countedFrom leastOf
+past-project w x far a c d e = omega arith
 
-  pub second-not : (i k : ℕ) → at due i < at due k → ahead i k ≡ false
-  unfolding aheadBy sooner
-  second-not i k d = go (eqb (at works k) (at works i))
-    where
-      later : (ltb (at due k) (at due i) || (eqb (at due k) (at due i) && ltb k i)) ≡ false
-      later = rw (le-ltb (at due k) (at due i) (omega arith), ne-eqb (at due k) (at due i) (λ z. omega arith))
+other-far : (w x v k far : ℕ) → w < 256 → x < 256 → v < 65536 → k < 16 → 0 < w → far < 1048576 → (x ≡ w → ⊥) →
+    far ≤ countedFrom (leastOf w) (standingOf x v k)
+unfolding standingOf leastOf
+other-far w x v k far a d e c z f q =
+    elim (decLt x w) [
+      | yes l ↦ other-project w (standingOf x v k) far a z f (omega arith)
+      | no l ↦ past-project w (standingOf x v k) far a f (standing-most x v k d e c) (omega arith)
+    ]
 
-      go : (b : Bool) → (b && (ltb (at due k) (at due i) || (eqb (at due k) (at due i) && ltb k i))) ≡ false
-      go true = later
-      go false = refl
+-- so a smaller one is one of the project that goes before
+smaller-is : (w u k v x i : ℕ) → w < 256 → u < 65536 → k < 16 → x < 256 → v < 65536 → i < 16 → 0 < w →
+    ltb (countedFrom (leastOf w) (standingOf x v k)) (u * 16 + i) ≡ (eqb x w && (ltb v u || (eqb v u && ltb k i)))
+smaller-is w u k v x i a b c d e f z = elim (ℕ-discrete x w) [ yes q ↦ same q | no q ↦ apart q ]
+  where
+    below : (t : Bool) → (t && false) ≡ false
+    below true = refl
+    below false = refl
 
-  never-itself : (i : ℕ) → ahead i i ≡ false
-  unfolding aheadBy sooner
-  never-itself i = rw (eq-eqb (at works i) (at works i) refl, le-ltb (at due i) (at due i) (omega arith), le-ltb i i (omega arith))
-      (none (eqb (at due i) (at due i)))
-    where
-      none : (b : Bool) → (b && false) ≡ false
-      none true = refl
-      none false = refl
+    first : Dec (v < u) → ltb (v * 16 + k) (u * 16 + i) ≡ (ltb v u || (eqb v u && ltb k i))
+    first (yes l) = lt-ltb (v * 16 + k) (u * 16 + i) (omega arith) ∙ sym (rw (lt-ltb v u l))
+    first (no l) =
+        elim (ℕ-discrete v u) [
+          | yes q ↦ tied q (decLt k i)
+          | no q ↦ le-ltb (v * 16 + k) (u * 16 + i) (omega arith) ∙ sym (rw (le-ltb v u (omega arith), ne-eqb v u q))
+        ]
+      where
+        tied : v ≡ u → Dec (k < i) → ltb (v * 16 + k) (u * 16 + i) ≡ (ltb v u || (eqb v u && ltb k i))
+        tied q (yes m) = lt-ltb (v * 16 + k) (u * 16 + i) (omega arith) ∙ sym (rw (le-ltb v u (omega arith), eq-eqb v u q, lt-ltb k i m))
+        tied q (no m) =
+            le-ltb (v * 16 + k) (u * 16 + i) (omega arith) ∙ sym (rw (le-ltb v u (omega arith), eq-eqb v u q, le-ltb k i (omega arith)))
 
-  -- ---- one kind more to compare with
+    same : x ≡ w → ltb (countedFrom (leastOf w) (standingOf x v k)) (u * 16 + i) ≡ (eqb x w && (ltb v u || (eqb v u && ltb k i)))
+    same q = rw (q, eq-eqb w w refl, same-project w v k a e c) (first (decLt v u))
 
-  rank-idle : (m j : ℕ) → at works j ≡ 0 → rankTo works due m j ≡ 0
-  unfolding rankTo
-  rank-idle m j z = rw (eq-eqb (at works j) 0 z)
+    apart : (x ≡ w → ⊥) → ltb (countedFrom (leastOf w) (standingOf x v k)) (u * 16 + i) ≡ (eqb x w && (ltb v u || (eqb v u && ltb k i)))
+    apart q =
+        rw (ne-eqb x w q)
+        (le-ltb (countedFrom (leastOf w) (standingOf x v k)) (u * 16 + i) (other-far w x v k (u * 16 + i) a d e c z (omega arith) q))
 
-  rank-count : (m j : ℕ) → (at works j ≡ 0 → ⊥) → rankTo works due m j ≡ countTo m (ahead j)
-  unfolding rankTo
-  rank-count m j z = rw (ne-eqb (at works j) 0 z)
+-- ---- the standings as they are filled
 
-  rank-same : (m j : ℕ) → ahead j m ≡ false → rankTo works due (m + 1) j ≡ rankTo works due m j
-  rank-same m j e =
-      elim (ℕ-discrete (at works j) 0) [
-        | yes z ↦ rank-idle (m + 1) j z ∙ sym (rank-idle m j z)
-        | no z ↦ rank-count (m + 1) j z ∙ sym (count-no (countTo m (ahead j)) m (ahead j) refl e) ∙ sym (rank-count m j z)
+pub standings-none : (works until : List ℕ) → Standings works until 0 (replicate 16 0)
+standings-none works until = record {
+  stored = written-none (λ k. standingOf (at works k) (at until k) k) (replicate 16 0);
+  works-small = λ k l. absurd (omega arith);
+  until-small = λ k l. absurd (omega arith);
+}
+
+pub standings-again : (works until r : List ℕ) (i v : ℕ) → Standings works until i r → Standing (at works i) (at until i) i v →
+    Standings works until (i + 1) (set r i v)
+standings-again works until r i v s t = record {
+  stored = written-again i (λ k. standingOf (at works k) (at until k) k) (replicate 16 0) r v (s .stored) (t .value);
+  works-small = λ k l. elim (ℕ-discrete k i) [ yes q ↦ rw q (t .works-small) | no q ↦ s .works-small k (omega arith) ];
+  until-small = λ k l. elim (ℕ-discrete k i) [ yes q ↦ rw q (t .until-small) | no q ↦ s .until-small k (omega arith) ];
+}
+
+pub standings-stop : (works until r : List ℕ) (i n : ℕ) → Standings works until i r → i ≤ n → n ≤ i → Standings works until n r
+standings-stop works until r i n s a b = let e : i ≡ n = omega arith in rw (← e) s
+
+-- ---- the count is the rank
+
+module _ (works until : List ℕ) (n : ℕ) (r : List ℕ) (st : Standings works until n r) where
+  here : (k : ℕ) → k < n → n ≤ 16 → at r k ≡ standingOf (at works k) (at until k) k
+  here k l b = ap (λ (x : List ℕ). at x k) (st .stored) ∙ stored-at n 16 (λ k. standingOf (at works k) (at until k) k) k l b
+
+  past : (k : ℕ) → n ≤ k → at r k ≡ 0
+  past k l = ap (λ (x : List ℕ). at x k) (st .stored) ∙ stored-past n 16 (λ k. standingOf (at works k) (at until k) k) k l
+
+  -- every standing has 28 bits
+  pub standings-most : n ≤ 16 → (k : ℕ) → at r k < 268435456
+  standings-most b k =
+      elim (decLt k n) [
+        | yes l ↦ rw (here k l b) (standing-most (at works k) (at until k) k (st .works-small k l) (st .until-small k l) (omega arith))
+        | no l ↦ omega (arith, past k (omega arith))
       ]
 
-  rank-more : (m j : ℕ) → (at works j ≡ 0 → ⊥) → ahead j m ≡ true → rankTo works due (m + 1) j ≡ rankTo works due m j + 1
-  rank-more m j z e =
-      rank-count (m + 1) j z ∙ sym (count-yes (countTo m (ahead j)) m (ahead j) refl e)
-      ∙ ap (λ (n : ℕ). n + 1) (sym (rank-count m j z))
+module _ (works until : List ℕ) (n i w : ℕ) (is : w ≡ at works i) (r : List ℕ) (st : Standings works until n r) where
+  own : (k : ℕ) → k < n → n ≤ 16 → at r k ≡ standingOf (at works k) (at until k) k
+  own = here works until n r st
 
-  rank-most : (m j : ℕ) → rankTo works due m j ≤ m
-  rank-most m j =
-      elim (ℕ-discrete (at works j) 0) [
-        | yes z ↦ omega (arith, rank-idle m j z)
-        | no z ↦ omega (arith, rank-count m j z, count-le m (ahead j))
-      ]
+  pub project-fits : i < n → w < 4294967296
+  project-fits l = omega (arith, st .works-small i l)
 
-  past-below : (m k j : ℕ) → j < k → rankPast works due m k j ≡ rankTo works due (m + 1) j
-  unfolding rankPast
-  past-below m k j l = rw (lt-ltb j k l)
+  -- kind i's is not below its project's least
+  pub own-least : n ≤ 16 → i < n → w * 1048576 ≤ at r i
+  unfolding standingOf leastOf
+  own-least b l = omega (arith, own i l b)
 
-  past-above : (m k j : ℕ) → k ≤ j → rankPast works due m k j ≡ rankTo works due m j
-  unfolding rankPast
-  past-above m k j l = rw (le-ltb j k l)
+  pub least-fits : i < n → w * 1048576 < 4294967296
+  least-fits l = omega (arith, st .works-small i l)
 
-  -- ---- the loop that compares kind i with those before it
+  pub least-most : i < n → w * 1048576 ≤ 268435456
+  least-most l = omega (arith, st .works-small i l)
 
-  pub past-none : (m : List ℕ) (i : ℕ) → m ≡ ranksTo works due i → m ≡ ranksPast works due i 0
-  unfolding ranksTo ranksPast
-  past-none m i e =
-      e ∙ written-cong i (rankTo works due i) (rankPast works due i 0) (replicate 16 0) (λ j l. sym (past-above i 0 j (omega arith)))
+  module _ (l : i < n) (b : n ≤ 16) (h : w ≡ 0 → ⊥) where
+    abbrev far : ℕ
+    far = at r i - w * 1048576
 
-  -- one step on: another place but k is as it was
-  past-other : (i k j : ℕ) → j ≢ k → rankPast works due i (k + 1) j ≡ rankPast works due i k j
-  past-other i k j z =
-      elim (decLt j k) [
-        | yes l ↦ past-below i (k + 1) j (omega arith) ∙ sym (past-below i k j l)
-        | no l ↦ past-above i (k + 1) j (omega arith) ∙ sym (past-above i k j (omega arith))
-      ]
+    far-is : far ≡ at until i * 16 + i
+    unfolding standingOf leastOf
+    far-is = omega (arith, own i l b)
 
-  stays : (m : List ℕ) (i k : ℕ) → m ≡ ranksPast works due i k → ahead k i ≡ false → m ≡ ranksPast works due i (k + 1)
-  unfolding ranksPast
-  stays m i k e a = e ∙ written-cong i (rankPast works due i k) (rankPast works due i (k + 1)) (replicate 16 0) (λ j l. same j)
-    where
-      same : (j : ℕ) → rankPast works due i k j ≡ rankPast works due i (k + 1) j
-      same j =
-          elim (ℕ-discrete j k) [
-            | yes z ↦ rw z (past-above i k k (omega arith) ∙ sym (rank-same i k a) ∙ sym (past-below i (k + 1) k (omega arith)))
-            | no z ↦ sym (past-other i k j z)
-          ]
+    goes-before : ℕ → Bool
+    goes-before k = eqb (at works k) (at works i) && sooner (at until) k i
 
-  -- another project
-  pub past-apart : (m : List ℕ) (i k : ℕ) → m ≡ ranksPast works due i k → (at works k ≡ at works i → ⊥) → m ≡ ranksPast works due i (k + 1)
-  past-apart m i k e h = stays m i k e (apart-ahead k i (λ z. h (sym z)))
+    each : (k : ℕ) → k < n → smaller r (w * 1048576) far k ≡ goes-before k
+    unfolding smaller leastOf sooner goes-before
+    each k m =
+        rw (far-is, own k m b)
+        (smaller-is w (at until i) k (at until k) (at works k) i (omega (arith, st .works-small i l)) (st .until-small i l) (omega arith)
+        (st .works-small k m) (st .until-small k m) (omega arith) (omega (arith, h))
+        ∙ rw is)
 
-  -- kind k goes before
-  pub past-first : (m : List ℕ) (i k : ℕ) → m ≡ ranksPast works due i k → k < i → at due k ≤ at due i → m ≡ ranksPast works due i (k + 1)
-  past-first m i k e l d = stays m i k e (first-not i k l d)
+    none-past : (x : ℕ) → x < 16 - n → smaller r (w * 1048576) far (n + x) ≡ false
+    unfolding smaller leastOf
+    none-past x m =
+        rw (past works until n r st (n + x) (omega arith), far-is)
+        (le-ltb (countedFrom (w * 1048576) 0) (at until i * 16 + i)
+        (other-project w 0 (at until i * 16 + i) (omega (arith, st .works-small i l)) (omega (arith, h))
+        (omega (arith, st .until-small i l)) (omega (arith, h))))
 
-  past-length : (m : List ℕ) (i k : ℕ) → m ≡ ranksPast works due i k → length m ≡ 16
-  unfolding ranksPast
-  past-length m i k e =
-      ap length e ∙ written-length i (rankPast works due i k) (replicate 16 0) ∙ length-replicate {A = ℕ} 16 0
+    pub rank-among : rankAmong r (w * 1048576) far ≡ rankBy works until n i
+    unfolding rankAmong rankBy rankIn goes-before
+    rank-among =
+        let all : 16 ≡ n + (16 - n) = omega arith in
+        let f = smaller r (w * 1048576) far in
+        let split = ap (λ (m : ℕ). countTo m f) all ∙ count-split n (16 - n) f in
+        let rest = count-never (16 - n) (λ x. f (n + x)) none-past in
+        let mine = count-cong n f goes-before each in
+        omega (arith, split, rest, mine)
 
-  pub past-place : (m : List ℕ) (i k : ℕ) → m ≡ ranksPast works due i k → k < i → i < 16 → k < length m
-  past-place m i k e l b = omega (arith, past-length m i k e)
+-- ---- the loop that counts: a comparison is added
 
-  pub past-own : (m : List ℕ) (i k : ℕ) → m ≡ ranksPast works due i k → i < 16 → i < length m
-  past-own m i k e b = omega (arith, past-length m i k e)
+one-at-most : (b : Bool) → boolByte b ≤ 1
+one-at-most true = omega arith
+one-at-most false = omega arith
 
-  -- kind i goes before
-  pub past-room : (m : List ℕ) (i k : ℕ) → m ≡ ranksPast works due i k → k < i → i < 16 → at m k + 1 < 256
-  unfolding ranksPast
-  past-room m i k e l b =
-      let here = ap (λ (x : List ℕ). at x k) e ∙ stored-at i 16 (rankPast works due i k) k l (omega arith) ∙ past-above i k k (omega arith) in
-      omega (arith, here, rank-most i k)
+pub counted-most : (rank k : ℕ) (b : Bool) → rank ≤ k → rank + boolByte b ≤ k + 1
+counted-most rank k b l = omega (arith, one-at-most b)
 
-  pub past-second : (m : List ℕ) (i k : ℕ) → m ≡ ranksPast works due i k → k < i → i < 16 → (at works i ≡ 0 → ⊥) →
-      at works k ≡ at works i → at due i < at due k → set m k (at m k + 1) ≡ ranksPast works due i (k + 1)
-  unfolding ranksPast
-  past-second m i k e l b w s d =
-      let here = ap (λ (x : List ℕ). at x k) e ∙ stored-at i 16 (rankPast works due i k) k l (omega arith) ∙ past-above i k k (omega arith) in
-      let more = rank-more i k (λ z. w (sym s ∙ z)) (second-ahead i k s d) in
-      let value : at m k + 1 ≡ rankPast works due i (k + 1) k =
-      ap (λ (n : ℕ). n + 1) here ∙ sym more ∙ sym (past-below i (k + 1) k (omega arith)) in
-      rw (value, e)
-      (written-set i (rankPast works due i k) (rankPast works due i (k + 1)) (replicate 16 0) 0 k l
-      (omega (arith, length-replicate {A = ℕ} 16 0)) (λ j p q. past-other i k j q))
+pub counted-small : (rank k : ℕ) (b : Bool) → rank ≤ k → k < 16 → rank + boolByte b < 256
+counted-small rank k b l m = omega (arith, one-at-most b)
 
-  -- it has been compared with all of them
-  pub past-all : (m : List ℕ) (i k rank : ℕ) → m ≡ ranksPast works due i k → k ≤ i → i ≤ k → (at works i ≡ 0 → ⊥) →
-      rank ≡ countTo k (ahead i) → set m i rank ≡ ranksTo works due (i + 1)
-  unfolding ranksPast ranksTo
-  past-all m i k rank e p q w c =
-      let z : k ≡ i = omega arith in
-      let next = rankTo works due (i + 1) in
-      let stored : m ≡ written i next (replicate 16 0) =
-      e ∙ written-cong i (rankPast works due i k) next (replicate 16 0) (λ j l. past-below i k j (omega arith)) in
-      let own : rank ≡ next i =
-      c ∙ ap (λ (n : ℕ). countTo n (ahead i)) z ∙ sym (rank-count i i w) ∙ sym (rank-same i i (never-itself i)) in
-      written-again i next (replicate 16 0) m rank stored own
+pub counted-more : (r : List ℕ) (least far k rank : ℕ) → rank ≡ countTo k (smaller r least far) →
+    rank + boolByte (ltb ((at r k + (268435456 - least)) % 268435456) far) ≡ countTo (k + 1) (smaller r least far)
+unfolding smaller countedFrom
+counted-more r least far k rank e = go (ltb ((at r k + (268435456 - least)) % 268435456) far) refl
+  where
+    go : (b : Bool) → ltb ((at r k + (268435456 - least)) % 268435456) far ≡ b → rank + boolByte b ≡ countTo (k + 1) (smaller r least far)
+    go true p = count-yes rank k (smaller r least far) e p
+    go false p = omega (arith, count-no rank k (smaller r least far) e p)
 
-  -- ---- the loop over the kinds
-
-  pub ranks-none : replicate 16 0 ≡ ranksTo works due 0
-  unfolding ranksTo
-  ranks-none = written-none (rankTo works due 0) (replicate 16 0)
-
-  -- a kind with nothing left outranks nobody who has
-  pub ranks-idle : (m : List ℕ) (i : ℕ) → m ≡ ranksTo works due i → at works i ≡ 0 → m ≡ ranksTo works due (i + 1)
-  unfolding ranksTo written
-  ranks-idle m i e z =
-      let next = rankTo works due (i + 1) in
-      let stored = e ∙ written-cong i (rankTo works due i) next (replicate 16 0) (λ j l. same j) in
-      written-same i next (replicate 16 0) m 0 stored (rank-idle (i + 1) i z ∙ sym (stored-past 0 16 next i (omega arith)))
-    where
-      same : (j : ℕ) → rankTo works due i j ≡ rankTo works due (i + 1) j
-      same j =
-          elim (ℕ-discrete (at works j) 0) [
-            | yes y ↦ rank-idle i j y ∙ sym (rank-idle (i + 1) j y)
-            | no y ↦ sym (rank-same i j (apart-ahead j i (λ x. y (sym x ∙ z))))
-          ]
-
-  pub ranks-length : (m : List ℕ) (i : ℕ) → m ≡ ranksTo works due i → length m ≡ 16
-  unfolding ranksTo
-  ranks-length m i e = ap length e ∙ written-length i (rankTo works due i) (replicate 16 0) ∙ length-replicate {A = ℕ} 16 0
-
-  pub ranks-stop : (m : List ℕ) (i n : ℕ) → m ≡ ranksTo works due i → i ≤ n → n ≤ i → m ≡ ranksTo works due n
-  ranks-stop m i n = stop (ranksTo works due) m i n
-
-  -- the rank of a kind with slices left
-  pub ranks-at : (m : List ℕ) (n i : ℕ) → m ≡ ranksTo works due n → i < n → n ≤ 16 → (at works i ≡ 0 → ⊥) → at m i ≡ rankBy works due n i
-  unfolding ranksTo rankBy rankIn aheadBy
-  ranks-at m n i e l b w =
-      ap (λ (x : List ℕ). at x i) e ∙ stored-at n 16 (rankTo works due n) i l b ∙ rank-count n i w
+pub counted-all : (r : List ℕ) (least far k rank : ℕ) → rank ≡ countTo k (smaller r least far) → k ≤ 16 → 16 ≤ k →
+    rank ≡ rankAmong r least far
+unfolding rankAmong
+counted-all r least far k rank e a b = count-stop rank k 16 (smaller r least far) e a b

@@ -2,14 +2,15 @@
 -- Assumes nothing.
 use mathlib.Core.Path.{_≡_, sym, _∙_}
 use mathlib.Core.List.{List}
-use Prim.Native.Nat.{ℕ, _+_, _-_, _≤_, _<_}
-use native.Mathlib.Decide.{ℕ-discrete}
-use lib.ListN.{replicate}
+use Prim.Native.Nat.{ℕ, _+_, _-_, _*_, _≤_, _<_}
+use native.Mathlib.Omega.{arith}
+use lib.ListN.{replicate, getD-replicate}
 use borrow.Author.Tests.{lt-ltb, le-ltb, eq-eqb, ne-eqb}
 use Rattle.laws.specs.Written.{written}
+use Rattle.laws.specs.Written.Properties.{written-same}
 use Rattle.seats.specs.Seats.{at, seatAt, seatOn, seatBy, seatsBy}
-use Rattle.seats.specs.Ranks.{ranksTo}
-use Rattle.seats.specs.Ranks.Properties.{ranks-at}
+use Rattle.seats.specs.Ranks.{rankAmong, Standings}
+use Rattle.seats.specs.Ranks.Properties.{rank-among}
 
 -- ---- a seat found: w is the end of the project's cards
 
@@ -39,27 +40,37 @@ module _ (low end : List ℕ) (works rank w : ℕ) (is : w ≡ works) where
   a-seat first r x h l f q z =
       rw (ne-eqb works 0 (λ y. h (is ∙ y)), le-ltb 8 works (rw is at l), ← is, ← f, ← q) z
 
--- by the ranks counted
-pub seat-ranked : (works due low end ranks : List ℕ) (n i x : ℕ) → ranks ≡ ranksTo works due n → i < n → n ≤ 16 →
-    x ≡ seatOn (at works i) (at ranks i) low end → x ≡ seatBy works due low end n i
-unfolding seatOn seatBy
-seat-ranked works due low end ranks n i x e l b s = s ∙ go (ℕ-discrete (at works i) 0)
-  where
-    go : Dec (at works i ≡ 0) → seatOn (at works i) (at ranks i) low end ≡ seatBy works due low end n i
-    go (yes z) = rw (eq-eqb (at works i) 0 z)
-    go (no z) = rw (ranks-at works due ranks n i e l b z)
+-- ---- kind i's seat among n: w is what it works for
+
+module _ (works until low end : List ℕ) (n i w : ℕ) (is : w ≡ at works i) where
+  seat-idle : w ≡ 0 → seatBy works until low end n i ≡ 0
+  unfolding seatBy
+  seat-idle z = rw (eq-eqb (at works i) 0 (sym is ∙ z))
+
+  -- nothing is stored for one that has nothing left
+  pub seat-passed : (m : List ℕ) → m ≡ written i (seatBy works until low end n) (replicate 16 0) → i < n → n ≤ 16 → w ≡ 0 →
+      m ≡ written (i + 1) (seatBy works until low end n) (replicate 16 0)
+  seat-passed m e l b z =
+      written-same i (seatBy works until low end n) (replicate 16 0) m 0 e (seat-idle z ∙ sym (getD-replicate 16 i 0 0 (omega arith)))
+
+  -- by the rank counted
+  pub seat-ranked : (r : List ℕ) (rank x : ℕ) → Standings works until n r → i < n → n ≤ 16 → (w ≡ 0 → ⊥) →
+      rank ≡ rankAmong r (w * 1048576) (at r i - w * 1048576) → x ≡ seatOn w rank low end → x ≡ seatBy works until low end n i
+  unfolding seatOn seatBy
+  seat-ranked r rank x st l b h c s = s ∙ rw (c ∙ rank-among works until n i w is r st l b h, is)
 
 -- ---- every seat
 
-module _ (works due low end : List ℕ) (n : ℕ) where
-  pub seats-none : 16 < n → replicate 16 0 ≡ seatsBy works due low end n
+module _ (works until low end : List ℕ) (n : ℕ) where
+  pub seats-none : 16 < n → replicate 16 0 ≡ seatsBy works until low end n
   unfolding seatsBy
   seats-none l = rw (lt-ltb 16 n l)
 
-  pub seats-all : (x : List ℕ) → n ≤ 16 → x ≡ written n (seatBy works due low end n) (replicate 16 0) → x ≡ seatsBy works due low end n
+  pub seats-all : (x : List ℕ) → n ≤ 16 → x ≡ written n (seatBy works until low end n) (replicate 16 0) → x ≡ seatsBy works until low end n
   unfolding seatsBy
   seats-all x l e = rw (le-ltb 16 n l) e
 
-  pub seats-found : (x : List ℕ) → n ≤ 16 → x ≡ seatsBy works due low end n → x ≡ written n (seatBy works due low end n) (replicate 16 0)
+  pub seats-found : (x : List ℕ) → n ≤ 16 → x ≡ seatsBy works until low end n →
+      x ≡ written n (seatBy works until low end n) (replicate 16 0)
   unfolding seatsBy
   seats-found x l e = rw (le-ltb 16 n l) at e

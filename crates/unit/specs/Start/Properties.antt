@@ -1,10 +1,12 @@
--- Laws of a kind that may start a unit: what a good answer says, and that nothing less is asked.
+-- Laws of a kind that may start a unit: what a good answer says, that nothing less is asked, and that one with work left may not.
 -- Assumes nothing.
 use mathlib.Core.Path.{_≡_, refl}
 use mathlib.Core.Bool.{Bool, true, false, not, _&&_}
-use Prim.Native.Nat.{ℕ, _≤_}
-use lib.Dec.{ltb, eqb}
-use borrow.Author.Tests.{le-ltb, eq-eqb, ltb-false, eqb-true, not-false}
+use Prim.Native.Nat.{ℕ, _≤_, _<_}
+use native.Mathlib.Decide.{ℕ-discrete}
+use native.Mathlib.Omega.{arith}
+use lib.Dec.{ltb}
+use borrow.Author.Tests.{lt-ltb, le-ltb, ltb-false, not-false}
 use Rattle.answer.specs.declared.Answer.the-variants.{Good}
 use Rattle.answer.specs.Answer.{bare, refuse, _andThen_}
 use Rattle.answer.specs.Answer.Properties.{andThen-left, andThen-right, refuse-good}
@@ -12,48 +14,60 @@ use Rattle.plan.specs.declared.Kind.{Kind}
 use Rattle.plan.specs.Order.{within}
 use Rattle.plan.specs.Order.Properties.{within-low, within-high, within-of}
 use Rattle.unit.specs.declared.Unit.{Unit}
+use Rattle.unit.specs.Form.{UnitInForm}
 use Rattle.unit.specs.Start.{Startable, early, startable}
 
 -- ---- "fewer than T slices ago"
 
-pub early-says : (separation : ℕ) (v : Unit) (ago : ℕ) → early separation v ago ≡ false → v .released ≡ true → separation ≤ ago
+pub early-says : (separation : ℕ) (v : Unit) → early separation v ≡ false → v .released ≡ true → separation ≤ v .gone
 unfolding early
-early-says separation v ago e r = ltb-false ago separation (rw r at e)
+early-says separation v e r = ltb-false (v .gone) separation (rw r at e)
 
-pub early-of : (separation : ℕ) (v : Unit) (ago : ℕ) → (v .released ≡ true → separation ≤ ago) → early separation v ago ≡ false
+pub early-of : (separation : ℕ) (v : Unit) → (v .released ≡ true → separation ≤ v .gone) → early separation v ≡ false
 unfolding early
-early-of separation v ago h = go (v .released) refl
+early-of separation v h = go (v .released) refl
   where
-    go : (b : Bool) → v .released ≡ b → (b && ltb ago separation) ≡ false
-    go true p = le-ltb ago separation (h p)
+    go : (b : Bool) → v .released ≡ b → (b && ltb (v .gone) separation) ≡ false
+    go true p = le-ltb (v .gone) separation (h p)
     go false p = refl
 
 -- ---- a kind that may start a unit
 
--- none of 13, 14 and 15
-pub start-says : (k : Kind) (v : Unit) (ago e : ℕ) → startable k v ago e ≡ Good → Startable k v ago e
+-- neither 13 nor 14
+pub start-says : (k : Kind) (v : Unit) (e : ℕ) → startable k v e ≡ Good → Startable k v e
 unfolding startable
-start-says k v ago e h =
+start-says k v e h =
     let thirteen = refuse (not (within (k .length) e)) (bare 13) in
-    let fourteen = refuse (early (k .separation) v ago) (bare 14) in
-    let fifteen = refuse (not (eqb (v .left) 0)) (bare 15) in
-    let t = not-false (within (k .length) e)
-    (refuse-good (not (within (k .length) e)) _ (andThen-left thirteen (fourteen andThen fifteen) h)) in
-    let r = andThen-right thirteen (fourteen andThen fifteen) h in
+    let fourteen = refuse (early (k .separation) v) (bare 14) in
+    let t = not-false (within (k .length) e) (refuse-good (not (within (k .length) e)) _ (andThen-left thirteen fourteen h)) in
     record {
       some = within-low (k .length) e t;
       length-most = within-high (k .length) e t;
-      separated = early-says (k .separation) v ago (refuse-good (early (k .separation) v ago) _ (andThen-left fourteen fifteen r));
-      nothing-left =
-          eqb-true (v .left) 0 (not-false (eqb (v .left) 0) (refuse-good (not (eqb (v .left) 0)) _ (andThen-right fourteen fifteen r)));
+      separated = early-says (k .separation) v (refuse-good (early (k .separation) v) _ (andThen-right thirteen fourteen h));
     }
 
 -- and nothing more is asked
-pub start-of : (k : Kind) (v : Unit) (ago e : ℕ) → Startable k v ago e → startable k v ago e ≡ Good
+pub start-of : (k : Kind) (v : Unit) (e : ℕ) → Startable k v e → startable k v e ≡ Good
 unfolding startable
-start-of k v ago e h =
-    rw (
-      within-of (k .length) e (h .some) (h .length-most),
-      early-of (k .separation) v ago (h .separated),
-      eq-eqb (v .left) 0 (h .nothing-left),
-    )
+start-of k v e h = rw (within-of (k .length) e (h .some) (h .length-most), early-of (k .separation) v (h .separated))
+
+-- ---- "15 can then never occur"
+
+-- a unit in form with work left was released fewer than T slices ago
+pub left-early : (k : Kind) (v : Unit) → UnitInForm k v → k .deadline ≤ k .separation → 0 < v .left → early (k .separation) v ≡ true
+unfolding early
+left-early k v u d l = go (v .released) refl
+  where
+    go : (b : Bool) → v .released ≡ b → (b && ltb (v .gone) (k .separation)) ≡ true
+    go true p = lt-ltb (v .gone) (k .separation) (omega (arith, u .in-time l))
+    go false p = absurd (omega (arith, u .never p .1))
+
+-- so where one may start, nothing of the last is left
+pub start-none-left : (k : Kind) (v : Unit) (e : ℕ) → UnitInForm k v → k .deadline ≤ k .separation → Startable k v e → v .left ≡ 0
+start-none-left k v e u d s = go (v .released) refl
+  where
+    go : (b : Bool) → v .released ≡ b → v .left ≡ 0
+    go true p =
+        let apart = s .separated p in
+        elim (ℕ-discrete (v .left) 0) [ yes z ↦ z | no z ↦ absurd (omega (arith, u .in-time (omega arith))) ]
+    go false p = u .never p .1

@@ -14,8 +14,11 @@ show-requires c κs = search needs
 advance-requires : tie.Need-advance-requires
 advance-requires c κs = search needs
 
+cast-t9 : tie.Need-cast-t9
+cast-t9 c = search needs
+
 returns : tie.Need-returns
 returns c = search slice-told
 
 pub slice-spec : {M : Type 1} → statement M
-slice-spec = tie.close (tie.spec slice-aggregate-show show-requires advance-requires returns)
+slice-spec = tie.close (tie.spec slice-aggregate-show show-requires advance-requires cast-t9 returns)

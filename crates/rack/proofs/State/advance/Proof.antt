@@ -3,12 +3,12 @@
 use mathlib.Core.Path.{_≡_, refl}
 use Prim.Native.Nat.{_≤_, _-_}
 use native.Mathlib.Omega.{arith}
-use borrow.Author.Needs.{needs}
 use Rattle.rack.specs.State.Properties.{next-kept, next-moved}
 use Rattle.rack.specs.Form.Properties.{places-most}
 use Rattle.rack.specs.Advance.{advanceOf}
-use Rattle.rack.specs.Advance.Properties.{advance-opened, advance-ready, Laid, Ran, ran-none, ran-project, ran-same, ran-left, ran-sum}
-use Rattle.rack.specs.Advance.Properties.{ran-one, ran-early, ran-all}
+use Rattle.rack.specs.Advance.Properties.{advance-opened, Laid, Ran, ran-none, ran-project, ran-same, ran-sum, ran-one, ran-slice}
+use Rattle.rack.specs.Advance.Properties.{ran-all}
+use borrow.Author.Needs.{needs}
 use Rattle.rack.proofs.State.advance.Statement.{statement}
 use Rattle.rack.proofs.State.advance.Tie as tie
 
@@ -19,8 +19,8 @@ Inv-loop self₀ answer plan seat kinds i₀ self i =
 abbrev μ-loop : tie.MeasureT-loop
 μ-loop self₀ answer plan seat kinds i₀ self i = kinds - i
 
-may-advance-requires : tie.Need-may-advance-requires Inv-loop μ-loop
-may-advance-requires c κs = search needs
+check-requires : tie.Need-check-requires Inv-loop μ-loop
+check-requires c κs = search needs
 
 enum-told : tie.Need-enum-told Inv-loop μ-loop
 enum-told c = search needs
@@ -33,16 +33,42 @@ unfolding advanceOf
 returns c = search next-kept
 
 seats-requires : tie.Need-seats-requires Inv-loop μ-loop
-seats-requires c κs = search advance-ready
+seats-requires c κs = search advance-opened
 
 places-requires : tie.Need-places-requires Inv-loop μ-loop
 places-requires c κs = search needs
 
 loop-holds : tie.Need-loop-holds Inv-loop μ-loop
-loop-holds c = (omega arith, search (places-most, advance-ready), record { may = search advance-opened; plan-is = refl; seats = search; places = search }, ran-none _)
+loop-holds c = (
+  omega arith,
+  search (places-most, advance-opened),
+  record { ready = search advance-opened; plan-is = refl; seats = search; places = search },
+  ran-none _,
+)
 
-array-read-if1 : tie.Need-array-read-if1 Inv-loop μ-loop
-array-read-if1 c = search needs
+mul-kind : tie.Need-mul-kind Inv-loop μ-loop
+mul-kind c = search needs
+
+element-copy-out-kind : tie.Need-element-copy-out-kind Inv-loop μ-loop
+element-copy-out-kind c = search needs
+
+array-read-number : tie.Need-array-read-number Inv-loop μ-loop
+array-read-number c = search needs
+
+mul-after : tie.Need-mul-after Inv-loop μ-loop
+mul-after c = search needs
+
+element-copy-out-after : tie.Need-element-copy-out-after Inv-loop μ-loop
+element-copy-out-after c = search needs
+
+after-requires : tie.Need-after-requires Inv-loop μ-loop
+after-requires c κs = search needs
+
+mul-t27 : tie.Need-mul-t27 Inv-loop μ-loop
+mul-t27 c = search needs
+
+element-set-from-self : tie.Need-element-set-from-self Inv-loop μ-loop
+element-set-from-self c = search needs
 
 add-i : tie.Need-add-i Inv-loop μ-loop
 add-i c = search needs
@@ -53,35 +79,17 @@ loop-less c = search needs
 loop-again : tie.Need-loop-again Inv-loop μ-loop
 loop-again c = (omega arith, search, search, search ran-same)
 
-mul-self : tie.Need-mul-self Inv-loop μ-loop
-mul-self c = search needs
-
-element-copy-out-self : tie.Need-element-copy-out-self Inv-loop μ-loop
-element-copy-out-self c = search needs
-
-sub-self : tie.Need-sub-self Inv-loop μ-loop
-sub-self c = search ran-left
-
-way-write-given-self : tie.Need-way-write-given-self Inv-loop μ-loop
-way-write-given-self c = search needs
-
-mul-project-place : tie.Need-mul-project-place Inv-loop μ-loop
-mul-project-place c = search needs
-
-element-copy-out-project-place : tie.Need-element-copy-out-project-place Inv-loop μ-loop
-element-copy-out-project-place c = search needs
-
 project-place-requires : tie.Need-project-place-requires Inv-loop μ-loop
 project-place-requires c κs = search ran-project
 
-mul-self-2 : tie.Need-mul-self-2 Inv-loop μ-loop
-mul-self-2 c = omega arith
+mul-self : tie.Need-mul-self Inv-loop μ-loop
+mul-self c = omega arith
 
-element-copy-out-self-2 : tie.Need-element-copy-out-self-2 Inv-loop μ-loop
-element-copy-out-self-2 c = omega arith
+element-copy-out-self : tie.Need-element-copy-out-self Inv-loop μ-loop
+element-copy-out-self c = omega arith
 
-sub-self-2 : tie.Need-sub-self-2 Inv-loop μ-loop
-sub-self-2 c = search ran-sum
+sub-self : tie.Need-sub-self Inv-loop μ-loop
+sub-self c = search ran-sum
 
 element-write-self : tie.Need-element-write-self Inv-loop μ-loop
 element-write-self c = omega arith
@@ -95,8 +103,8 @@ loop-less-2 c = search needs
 loop-again-2 : tie.Need-loop-again-2 Inv-loop μ-loop
 loop-again-2 c = (omega arith, search, search, search ran-one)
 
-add-self : tie.Need-add-self Inv-loop μ-loop
-add-self c = search ran-early
+slice-after-requires : tie.Need-slice-after-requires Inv-loop μ-loop
+slice-after-requires c κs = search ran-slice
 
 returns-2 : tie.Need-returns-2 Inv-loop μ-loop
 unfolding advanceOf
@@ -108,30 +116,31 @@ advance-spec =
     (tie.spec
     Inv-loop
     μ-loop
-    may-advance-requires
+    check-requires
     enum-told
     enum-told-2
     returns
     seats-requires
     places-requires
     loop-holds
-    array-read-if1
+    mul-kind
+    element-copy-out-kind
+    array-read-number
+    mul-after
+    element-copy-out-after
+    after-requires
+    mul-t27
+    element-set-from-self
     add-i
     loop-less
     loop-again
+    project-place-requires
     mul-self
     element-copy-out-self
     sub-self
-    way-write-given-self
-    mul-project-place
-    element-copy-out-project-place
-    project-place-requires
-    mul-self-2
-    element-copy-out-self-2
-    sub-self-2
     element-write-self
     add-i-2
     loop-less-2
     loop-again-2
-    add-self
+    slice-after-requires
     returns-2)

@@ -2,7 +2,7 @@
 -- Assumes nothing.
 use mathlib.Core.Path.{_≡_, refl}
 use mathlib.Core.Bool.{true}
-use Prim.Native.Nat.{_≤_, _-_}
+use Prim.Native.Nat.{_≤_, _<_, _-_}
 use native.Mathlib.Omega.{arith}
 use borrow.Author.Needs.{needs}
 use Rattle.laws.specs.All.{allTo}
@@ -10,16 +10,15 @@ use Rattle.laws.specs.All.Properties.{all-none}
 use Rattle.laws.specs.Tests.{told-yes}
 use Rattle.rack.specs.Sums.{leftBelow}
 use Rattle.rack.specs.Sums.Properties.{below-none, below-again}
-use Rattle.rack.specs.State.{lastClock}
 use Rattle.rack.specs.Form.{placeInForm}
 use Rattle.rack.specs.Form.Properties.{place-found, place-more, look-project, look-room, below-same, projects-most}
-use Rattle.rack.specs.Form.Properties.{formed-late, formed-place, formed-sums, formed-differ, formed-good}
+use Rattle.rack.specs.Form.Properties.{formed-past, formed-place, formed-sums, formed-differ, formed-good}
 use Rattle.rack.proofs.State.formed.Statement.{statement}
 use Rattle.rack.proofs.State.formed.Tie as tie
 
 abbrev Inv-loop : tie.InvT-loop
 Inv-loop self plan left₀ i₀ left i =
-    (i ≤ 16) × (plan ≡ self .plan) × (self .clock ≤ lastClock) × (true ≡ allTo i (placeInForm self)) × (left ≡ leftBelow self i)
+    (i ≤ 16) × (plan ≡ self .plan) × (self .slice < self .plan .frame) × (true ≡ allTo i (placeInForm self)) × (left ≡ leftBelow self i)
 
 abbrev μ-loop : tie.MeasureT-loop
 μ-loop self plan left₀ i₀ left i = 16 - i
@@ -28,7 +27,7 @@ bare-requires : tie.Need-bare-requires Inv-loop μ-loop
 bare-requires c κs = search needs
 
 returns : tie.Need-returns Inv-loop μ-loop
-returns c = search formed-late
+returns c = search formed-past
 
 loop-holds : tie.Need-loop-holds Inv-loop μ-loop
 loop-holds c = (omega arith, refl, search, all-none _, below-none _)

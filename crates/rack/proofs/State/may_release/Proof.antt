@@ -3,8 +3,7 @@
 use Prim.Native.Nat.{_<_}
 use native.Mathlib.Omega.{arith}
 use Rattle.answer.specs.Answer.Properties.{stages, opened-no, opened-on}
-use Rattle.rack.specs.Rank.{gone}
-use Rattle.rack.specs.Form.Properties.{ready-place, ready-clock}
+use Rattle.rack.specs.Form.Properties.{ready-place}
 use Rattle.rack.specs.Release.{releaseAnswer}
 use borrow.Author.Needs.{needs}
 use Rattle.rack.proofs.State.may_release.Statement.{statement}
@@ -33,26 +32,23 @@ returns-2 : tie.Need-returns-2
 unfolding releaseAnswer
 returns-2 c = search (opened-on, stages)
 
-mul-unit : tie.Need-mul-unit
-mul-unit c = let place : c .before .before .before .before .before .before .args .kind < 16 = search ready-place in omega arith
-
-element-copy-out-unit : tie.Need-element-copy-out-unit
-element-copy-out-unit c = search ready-place
-
 mul-may-start : tie.Need-mul-may-start
-mul-may-start c = let place : c .before .before .before .before .before .before .before .args .kind < 16 = search ready-place in omega arith
+mul-may-start c = let place : c .before .before .before .before .before .before .args .kind < 16 = search ready-place in omega arith
 
 element-copy-out-may-start : tie.Need-element-copy-out-may-start
 element-copy-out-may-start c = search ready-place
 
-sub-may-start : tie.Need-sub-may-start
-sub-may-start c = search ready-clock
+mul-may-start-2 : tie.Need-mul-may-start-2
+mul-may-start-2 c = let place : c .before .before .before .before .before .before .before .args .kind < 16 = search ready-place in omega arith
+
+element-copy-out-may-start-2 : tie.Need-element-copy-out-may-start-2
+element-copy-out-may-start-2 c = search ready-place
 
 may-start-requires : tie.Need-may-start-requires
 may-start-requires c κs = search needs
 
 returns-3 : tie.Need-returns-3
-unfolding releaseAnswer gone
+unfolding releaseAnswer
 returns-3 c = search (opened-on, stages)
 
 pub may-release-spec : {M : Type 1} → statement M
@@ -66,10 +62,9 @@ may-release-spec =
     in-use-requires
     bare-requires
     returns-2
-    mul-unit
-    element-copy-out-unit
     mul-may-start
     element-copy-out-may-start
-    sub-may-start
+    mul-may-start-2
+    element-copy-out-may-start-2
     may-start-requires
     returns-3)

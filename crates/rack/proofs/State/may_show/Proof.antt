@@ -2,7 +2,6 @@
 -- Assumes nothing.
 use Rattle.laws.specs.Tests.{tests}
 use Rattle.answer.specs.Answer.Properties.{stages, opened-no, opened-on}
-use Rattle.rack.specs.Advance.{timeLeft}
 use Rattle.rack.specs.Show.{roomFor, showAnswer}
 use borrow.Author.Needs.{needs}
 use Rattle.rack.proofs.State.may_show.Statement.{statement}
@@ -28,21 +27,14 @@ bare-requires : tie.Need-bare-requires
 bare-requires c κs = search needs
 
 returns-2 : tie.Need-returns-2
-unfolding showAnswer roomFor timeLeft
+unfolding showAnswer roomFor
 returns-2 c = search (opened-on, stages, tests)
 
-bare-requires-2 : tie.Need-bare-requires-2
-bare-requires-2 c κs = search needs
-
 returns-3 : tie.Need-returns-3
-unfolding showAnswer roomFor timeLeft
+unfolding showAnswer roomFor
 returns-3 c = search (opened-on, stages, tests)
-
-returns-4 : tie.Need-returns-4
-unfolding showAnswer roomFor timeLeft
-returns-4 c = search (opened-on, stages, tests)
 
 pub may-show-spec : {M : Type 1} → statement M
 may-show-spec =
     tie.close
-    (tie.spec check-requires enum-told enum-told-2 returns cast-if1 bare-requires returns-2 bare-requires-2 returns-3 returns-4)
+    (tie.spec check-requires enum-told enum-told-2 returns cast-if1 bare-requires returns-2 returns-3)

@@ -3,23 +3,24 @@
 use mathlib.Core.Path.{_≡_}
 use Prim.Native.Nat.{_≤_, _-_}
 use native.Mathlib.Omega.{arith}
-use borrow.Author.Needs.{needs}
 use lib.ListN.{replicate}
 use Rattle.laws.specs.Written.{written}
 use Rattle.laws.specs.Written.Properties.{written-none, written-again}
+use Rattle.rack.specs.Rank
 use Rattle.rack.specs.Form.Properties.{places-most}
 use Rattle.rack.specs.Seat.{worksOf}
-use Rattle.rack.specs.Seat.Properties.{project-small, clock-small, seats-are}
+use Rattle.rack.specs.Seat.Properties.{project-small, slice-in-frame, seats-are}
+use borrow.Author.Needs.{needs}
 use Rattle.rack.proofs.State.seats.Statement.{statement}
 use Rattle.rack.proofs.State.seats.Tie as tie
 
 abbrev Inv-loop : tie.InvT-loop
-Inv-loop self plan kinds works₀ due₀ i₀ works due i =
+Inv-loop self plan kinds works₀ until₀ i₀ works until i =
     (i ≤ 16) × (kinds ≤ 16) × (works ≡ written i (worksOf self) (replicate 16 0))
-    × (due ≡ written i (Rattle.rack.specs.Rank.due self) (replicate 16 0))
+    × (until ≡ written i (Rank.until self) (replicate 16 0))
 
 abbrev μ-loop : tie.MeasureT-loop
-μ-loop self plan kinds works₀ due₀ i₀ works due i = 16 - i
+μ-loop self plan kinds works₀ until₀ i₀ works until i = 16 - i
 
 places-requires : tie.Need-places-requires Inv-loop μ-loop
 places-requires c κs = search needs
@@ -45,14 +46,14 @@ works-for-requires c κs = search project-small
 array-write-works : tie.Need-array-write-works Inv-loop μ-loop
 array-write-works c = search needs
 
-due-clock-requires : tie.Need-due-clock-requires Inv-loop μ-loop
-due-clock-requires c κs = search clock-small
+until-due-requires : tie.Need-until-due-requires Inv-loop μ-loop
+until-due-requires c κs = search needs
 
-mul-due : tie.Need-mul-due Inv-loop μ-loop
-mul-due c = search needs
+mul-until : tie.Need-mul-until Inv-loop μ-loop
+mul-until c = search needs
 
-array-write-due : tie.Need-array-write-due Inv-loop μ-loop
-array-write-due c = search needs
+array-write-until : tie.Need-array-write-until Inv-loop μ-loop
+array-write-until c = search needs
 
 add-i : tie.Need-add-i Inv-loop μ-loop
 add-i c = search needs
@@ -61,11 +62,10 @@ loop-less : tie.Need-loop-less Inv-loop μ-loop
 loop-less c = search needs
 
 loop-again : tie.Need-loop-again Inv-loop μ-loop
-unfolding Rattle.rack.specs.Rank.due
 loop-again c = (omega arith, search, search written-again, search written-again)
 
 project-cards-requires : tie.Need-project-cards-requires Inv-loop μ-loop
-project-cards-requires c κs = search
+project-cards-requires c κs = (search, search slice-in-frame)
 
 seats-requires : tie.Need-seats-requires Inv-loop μ-loop
 seats-requires c κs = search needs
@@ -87,9 +87,9 @@ seats-spec =
     element-copy-out-kind
     works-for-requires
     array-write-works
-    due-clock-requires
-    mul-due
-    array-write-due
+    until-due-requires
+    mul-until
+    array-write-until
     add-i
     loop-less
     loop-again

@@ -10,26 +10,17 @@ use Rattle.laws.specs.Written.Properties.{written-none, written-again, written-
 use Rattle.layout.specs.Layout.{firstCell}
 use Rattle.layout.specs.Layout.Properties.{first-start}
 use Rattle.rack.specs.Seat.{lowestAt, endAt}
-use Rattle.rack.specs.Seat.Properties.{slice-small, cards-start, cell-small, cell-next, card-ends, card-next, card-small}
+use Rattle.rack.specs.Seat.Properties.{cards-start, cell-small, cell-next, card-ends, card-next, card-small}
 use Rattle.rack.proofs.row.project_cards.Statement.{statement}
 use Rattle.rack.proofs.row.project_cards.Tie as tie
 
 abbrev Inv-loop : tie.InvT-loop
-Inv-loop clock plan slice low₀ end₀ cell₀ card₀ j₀ j-end low end cell card j =
-    (j ≤ j-end) × (j-end ≡ plan .projects) × (cell ≡ firstCell plan j) × (card ≡ lowestAt plan clock j)
-    × (low ≡ written j (lowestAt plan clock) (replicate 8 0)) × (end ≡ written j (endAt plan clock) (replicate 8 0))
+Inv-loop slice plan low₀ end₀ cell₀ card₀ j₀ j-end low end cell card j =
+    (j ≤ j-end) × (j-end ≡ plan .projects) × (cell ≡ firstCell plan j) × (card ≡ lowestAt plan slice j)
+    × (low ≡ written j (lowestAt plan slice) (replicate 8 0)) × (end ≡ written j (endAt plan slice) (replicate 8 0))
 
 abbrev μ-loop : tie.MeasureT-loop
-μ-loop clock plan slice low₀ end₀ cell₀ card₀ j₀ j-end low end cell card j = j-end - j
-
-cast-slice : tie.Need-cast-slice Inv-loop μ-loop
-cast-slice c = search needs
-
-rem-slice : tie.Need-rem-slice Inv-loop μ-loop
-rem-slice c = omega arith
-
-cast-slice-2 : tie.Need-cast-slice-2 Inv-loop μ-loop
-cast-slice-2 c = search slice-small
+μ-loop slice plan low₀ end₀ cell₀ card₀ j₀ j-end low end cell card j = j-end - j
 
 cast-j-end : tie.Need-cast-j-end Inv-loop μ-loop
 cast-j-end c = search needs
@@ -76,9 +67,6 @@ project-cards-spec =
     (tie.spec
     Inv-loop
     μ-loop
-    cast-slice
-    rem-slice
-    cast-slice-2
     cast-j-end
     loop-holds
     array-write-low

@@ -1,6 +1,5 @@
 -- `unit::Unit::may_start` meets its contract.
 -- Assumes nothing.
-use Rattle.laws.specs.Tests.{tests}
 use Rattle.answer.specs.Answer.Properties.{stages, refused-where, passed-where}
 use Rattle.unit.specs.Start.{startable}
 use borrow.Author.Needs.{needs}
@@ -27,27 +26,11 @@ returns-2 : tie.Need-returns-2
 unfolding startable
 returns-2 c = search (stages, refused-where)
 
-bare-requires-3 : tie.Need-bare-requires-3
-bare-requires-3 c κs = search needs
-
 returns-3 : tie.Need-returns-3
 unfolding startable
-returns-3 c = search (stages, passed-where, tests)
-
-returns-4 : tie.Need-returns-4
-unfolding startable
-returns-4 c = search (stages, passed-where, tests)
+returns-3 c = search (stages, passed-where)
 
 pub may-start-spec : {M : Type 1} → statement M
 may-start-spec =
     tie.close
-    (tie.spec
-    fits-requires
-    bare-requires
-    returns
-    is-early-requires
-    bare-requires-2
-    returns-2
-    bare-requires-3
-    returns-3
-    returns-4)
+    (tie.spec fits-requires bare-requires returns is-early-requires bare-requires-2 returns-2 returns-3)

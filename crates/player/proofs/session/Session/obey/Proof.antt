@@ -29,6 +29,9 @@ enum-told-2 c = search needs
 over-requires : tie.Need-over-requires
 over-requires c κs = search needs
 
+cast-t10 : tie.Need-cast-t10
+cast-t10 c = search needs
+
 step-of-requires : tie.Need-step-of-requires
 step-of-requires c κs = search needs
 
@@ -53,6 +56,7 @@ obey-spec =
     after-turn-requires-2
     enum-told-2
     over-requires
+    cast-t10
     step-of-requires
     returns
     returns-2

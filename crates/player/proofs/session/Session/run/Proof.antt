@@ -11,6 +11,9 @@ is-end-requires c κs = search needs
 over-requires : tie.Need-over-requires
 over-requires c κs = search needs
 
+cast-t8 : tie.Need-cast-t8
+cast-t8 c = search needs
+
 step-of-requires : tie.Need-step-of-requires
 step-of-requires c κs = search needs
 
@@ -41,6 +44,7 @@ run-spec =
     (tie.spec
     is-end-requires
     over-requires
+    cast-t8
     step-of-requires
     returns
     is-short-requires

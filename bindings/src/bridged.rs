@@ -3,8 +3,8 @@
 //! other.
 
 use std::cell::RefCell;
-use std::io::{Read, Write};
-use std::process::{Child, ChildStdin, ChildStdout, Command, Stdio};
+use std::io::{self, Read, Write};
+use std::process::{exit, Child, ChildStdin, ChildStdout, Command, Stdio};
 
 struct Bridge {
     child: Child,
@@ -25,6 +25,12 @@ impl Drop for Bridge {
     }
 }
 
+/// Without the bridge there is no library: nothing can be answered, and the program ends as one that cannot read its input.
+fn ended(what: &str, error: &io::Error) -> ! {
+    eprintln!("{what}: {error}");
+    exit(2);
+}
+
 impl Bridge {
     /// The words that start it are the build script's.
     fn start() -> Bridge {
@@ -34,7 +40,7 @@ impl Bridge {
             .stdin(Stdio::piped())
             .stdout(Stdio::piped())
             .spawn()
-            .expect("the bridge to the library cannot be started");
+            .unwrap_or_else(|error| ended("the bridge to the library cannot be started", &error));
         let (Some(to), Some(from)) = (child.stdin.take(), child.stdout.take()) else {
             unreachable!("both are pipes");
         };
@@ -59,15 +65,17 @@ impl Bridge {
         for buffer in buffers {
             self.bytes.extend(buffer);
         }
-        self.to.write_all(&self.bytes).expect("the bridge ended");
+        if let Err(error) = self.to.write_all(&self.bytes) {
+            ended("the bridge to the library ended", &error);
+        }
     }
 
     /// What comes back: the answer, and so many bytes of the buffers.
     fn received(&mut self, count: usize) -> (u64, &[u8]) {
         self.bytes.resize(8 + count, 0);
-        self.from
-            .read_exact(&mut self.bytes)
-            .expect("the bridge ended");
+        if let Err(error) = self.from.read_exact(&mut self.bytes) {
+            ended("the bridge to the library ended", &error);
+        }
         let (answer, buffers) = self.bytes.split_at(8);
         let mut own = [0; 8];
         own.copy_from_slice(answer);

@@ -594,10 +594,10 @@ fn rescue_tells_each_change() {
         [
             "  the header's spare bits were 5 and are cleared",
             "  kind 2: its spare bit was 1 and is cleared",
-            "  project 0: ceiling 15 is 2 now",
-            "  project 0: budget 0 is 1 now",
+            "  project 0: ceiling 15 lowered to 2",
+            "  project 0: budget 0 raised to 1",
             "  kind 1 is dropped: its project is not there, or its length is 0 or above its deadline",
-            "  kind 2: deadline 1016 is 8 now, its separation",
+            "  kind 2: deadline 1016 lowered to 8, its separation",
         ]
     );
     let mut list = [0; 342];

@@ -75,15 +75,16 @@ fn in_words(change: &Change) -> String {
         old_value: old,
         new_value: new,
     } = change;
+    let moved = if new < old { "lowered" } else { "raised" };
     match what {
         1 => format!("the header's spare bits were {old} and are cleared"),
         2 => format!("project {place}: its spare bits were {old} and are cleared"),
         3 => format!("kind {place}: its spare bit was {old} and is cleared"),
-        4 => format!("project {place}: ceiling {old} is {new} now"),
-        5 => format!("project {place}: budget {old} is {new} now"),
-        6 => format!("kind {place}: deadline {old} is {new} now, its separation"),
+        4 => format!("project {place}: ceiling {old} {moved} to {new}"),
+        5 => format!("project {place}: budget {old} {moved} to {new}"),
+        6 => format!("kind {place}: deadline {old} {moved} to {new}, its separation"),
         7 => format!("kind {place} is dropped: its project is not there, or its length is 0 or above its deadline"),
-        _ => format!("field {what}, place {place}: {old} is {new} now"),
+        _ => format!("field {what}, place {place}: {old} {moved} to {new}"),
     }
 }
 

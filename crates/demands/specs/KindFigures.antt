@@ -23,7 +23,8 @@ use Rattle.verdict.specs.Verdict.{ceilingOn, judged}
 use Rattle.verdict.specs.Admission.{Fits, BadSlice}
 use Rattle.verdict.specs.Admission.Properties.{bad-one}
 use Rattle.verdict.specs.Figures.{figuresAnswer, figuresOf}
-use Rattle.verdict.specs.Figures.Properties.{figures-good, figures-none, figures-say, widths-is, workload-is, supply-is, slice-is, none-past}
+use Rattle.verdict.specs.Figures.Properties.{figures-good, figures-none, figures-say, widths-is, workload-is}
+use Rattle.verdict.specs.Figures.Properties.{supply-is, slice-is, none-past}
 use Rattle.demands.specs.Numbers.{recordOrder, check-numbers}
 use Rattle.demands.specs.Verdicts.{least-given, slice-beside}
 

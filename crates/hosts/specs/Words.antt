@@ -81,7 +81,8 @@ pub figures-listed : (plan : List ℕ) (kind : ℕ) (out : List ℕ) → Numbere
 unfolding kindFiguresAnswer among covers
 figures-listed plan kind out =
     andThen-numbered _ _ _ (room-numbers _ refl plan planSize)
-    (λ e. andThen-numbered _ _ _ (wider _ figuresOrder _ refl (figures-numbers (planFrom plan) kind)) (λ f. room-numbers _ refl out figuresSize))
+    (λ e.
+    andThen-numbered _ _ _ (wider _ figuresOrder _ refl (figures-numbers (planFrom plan) kind)) (λ f. room-numbers _ refl out figuresSize))
 
 -- `parchbeetle_smallest_budget`
 pub smallest-listed : (plan : List ℕ) (project : ℕ) → Numbered (9 ∷ smallestOrder) (budgetAnswer plan project)

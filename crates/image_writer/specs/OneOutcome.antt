@@ -20,5 +20,6 @@ pub put-state-one-outcome : (state : State) (image : List ℕ) → One (λ (o : 
 put-state-one-outcome state image = leaves-one _ _
 
 -- `put_figures`
-pub put-figures-one-outcome : (figures : Figures) (out : List ℕ) → One (λ (o : Lent Answer). StoresFigures figures out (o .result) (o .buffer))
+pub put-figures-one-outcome :
+    (figures : Figures) (out : List ℕ) → One (λ (o : Lent Answer). StoresFigures figures out (o .result) (o .buffer))
 put-figures-one-outcome figures out = leaves-one _ _

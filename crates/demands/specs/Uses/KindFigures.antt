@@ -30,8 +30,8 @@ use Rattle.verdict.specs.Admission.{Fits, seen, given}
 use Rattle.verdict.specs.Figures.{figuresAnswer, supplyAt, badSliceAt, figuresOf}
 use Rattle.demands.specs.Outcomes.{figuring, figuring-refused}
 use Rattle.demands.specs.Numbers.{figures-numbers}
-use Rattle.demands.specs.KindFigures.{answered-when, no-kind-when, FitsBy, all-widths, its-workload, fits-when, bad-slice, none-beyond}
-use Rattle.demands.specs.KindFigures.{least-by, slice-by}
+use Rattle.demands.specs.KindFigures.{answered-when, no-kind-when, FitsBy, all-widths, its-workload, fits-when}
+use Rattle.demands.specs.KindFigures.{bad-slice, none-beyond, least-by, slice-by}
 use Rattle.demands.specs.Uses.BadSlices.{tooLong}
 
 -- what is computed from the definitions

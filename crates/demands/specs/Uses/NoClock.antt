@@ -27,7 +27,7 @@ use Rattle.supply.specs.Workload.{workloadPart}
 use Rattle.supply.specs.Greatest.{greatestTo}
 use Rattle.supply.specs.Fit.{fitsAt, leastWidth, allowedLength, leastExcess}
 use Rattle.workload.specs.Workload.{besides, partOf, workload}
-use Rattle.verdict.specs.Verdict.{widthOf, excessOf, fitted, admitted}
+use Rattle.verdict.specs.Verdict.{widthOf, excessOf, fitted, admitted, judged}
 use Rattle.rack.specs.State.{unitOf}
 use Rattle.rack.specs.Form.{sumFits, inForm}
 use Rattle.rack.specs.View.{hasCard, cardsHeld, rankOf, chosen, takesCard, byteOn}
@@ -137,6 +137,9 @@ waits-for-fourteen = left-is-early bothAsk 1 1 advance-accepted (omega arith) re
 pub clear : unitOf (after planA fourSlices) 1 .left ≡ 0
 clear = accepted-clear (after planA fourSlices) 1 2 (running .release-good)
 
--- that state's advance leaves one that is out of form
+-- that state's plan is refused, and its advance leaves a state that is out of form
+pub refused-by-hand : number (judged (bothAsk .plan) .answer) ≡ 8
+refused-by-hand = not-admitted
+
 pub shown-ten : (bytes : List ℕ) → number (nextAfter (advanceOf bothAsk .state) (show bytes) .answer) ≡ 10
 shown-ten bytes = next-says-ten (show bytes)

@@ -264,7 +264,8 @@ both-filled =
 pub exactly-two : builtOf 2 (filling 4) .answer ≡ Good
 exactly-two =
     built-exactly 2 (filling 4) 8 (figures .filling-limits 4 (omega arith) (omega arith)) (omega (arith, figures .filling-frame 4))
-    (omega arith) (figures .filling-multiple 4) (rw (figures .filling-frame 4) (figures .whole-four)) .1 (omega (arith, figures .parts-four))
+    (omega arith) (figures .filling-multiple 4) (rw (figures .filling-frame 4) (figures .whole-four))
+    .1 (omega (arith, figures .parts-four))
 
 -- 3/4, 3/4 and 6/8 are 18 of them
 pub more-than-two : builtOf 2 (filling 6) .answer ≢ Good

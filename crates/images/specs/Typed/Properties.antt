@@ -161,7 +161,8 @@ pub read-typed : (s : List ℕ) → PlanTyped (readOf s .plan)
 read-typed s = go (readOf s .answer) refl
   where
     go : (a : Answer) → readOf s .answer ≡ a → PlanTyped (readOf s .plan)
-    go Good e = passes-typed (readOf s .plan) (read-shaped s e) (order-passes (readOf s .plan) (in-order (readOf s .plan) (read-checked s e)))
+    go Good e =
+        passes-typed (readOf s .plan) (read-shaped s e) (order-passes (readOf s .plan) (in-order (readOf s .plan) (read-checked s e)))
     go (No w) e = rw (read-none s w e) none-typed
 
 -- ---- handed back by the rack

@@ -54,8 +54,8 @@ finished-requires : tie.Need-finished-requires
 finished-requires c κs =
     let start = c .before .before .before .before .before .before .before .before in
     let list = start .args .list .now in
-    let o : InLimits (start .args .cards) (c .before .before .before .before .before .before .kinds-in .result) (separationIn list) (lengthIn list)
-    = search in-limits in
+    let n = c .before .before .before .before .before .before .kinds-in .result in
+    let o : InLimits (start .args .cards) n (separationIn list) (lengthIn list) = search in-limits in
     (o, search listed)
 
 returns-3 : tie.Need-returns-3

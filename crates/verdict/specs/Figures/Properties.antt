@@ -38,7 +38,8 @@ module _ (p : Plan) (o : InOrder p) (i : ℕ) (l : i < p .kinds) where
 
   -- what a k is given on the cards of the kind's project
   given-is : (cards : List ℕ) (k : ℕ) (r : Supplied) → cards ≡ projectCards p (projectOn p i) →
-      r ≡ suppliedOf (p .frame) cards k (kindOf p i .deadline) → r ≡ record { value = given p i k; slice = badSlice (p .frame) (heldOn p i) k (kindOf p i .deadline) }
+      r ≡ suppliedOf (p .frame) cards k (kindOf p i .deadline) →
+      r ≡ record { value = given p i k; slice = badSlice (p .frame) (heldOn p i) k (kindOf p i .deadline) }
   given-is cards k r e q =
       q ∙ rw (
         e,

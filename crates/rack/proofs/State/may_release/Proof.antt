@@ -39,7 +39,8 @@ element-copy-out-may-start : tie.Need-element-copy-out-may-start
 element-copy-out-may-start c = search ready-place
 
 mul-may-start-2 : tie.Need-mul-may-start-2
-mul-may-start-2 c = let place : c .before .before .before .before .before .before .before .args .kind < 16 = search ready-place in omega arith
+mul-may-start-2 c =
+    let place : c .before .before .before .before .before .before .before .args .kind < 16 = search ready-place in omega arith
 
 element-copy-out-may-start-2 : tie.Need-element-copy-out-may-start-2
 element-copy-out-may-start-2 c = search ready-place

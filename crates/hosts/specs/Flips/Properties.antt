@@ -44,8 +44,8 @@ use Rattle.images.specs.Image.{projectPlace, kindPlace, slicePlace, unitPlace, 
 use Rattle.images.specs.Image.{sumFrom, unitsFrom, sumsFrom, planFrom, stateFrom, releasedAt, releasedTold}
 use Rattle.images.specs.Lent.{room}
 use Rattle.images.specs.Typed.Properties.{state-found-typed}
-use Rattle.parchbeetle.specs.Outcome.{Outcome}
-use Rattle.parchbeetle.specs.Exports.{stateAnswer, releasesAnswer, showsAnswer, advancesAnswer, Releases, ShowsRow, Advances}
+use Rattle.images.specs.Outcome.{Outcome}
+use Rattle.rack_calls.specs.Exports.{stateAnswer, releasesAnswer, showsAnswer, advancesAnswer, Releases, ShowsRow, Advances}
 use Rattle.demands.specs.Run.{Call, show, advance, release, nextAfter}
 use Rattle.demands.specs.Numbers.{recordOrder, stateOrder, check-numbers}
 use Rattle.demands.specs.SumsTold.{disjoint, apart}

@@ -21,17 +21,21 @@ leastOf works = works * 1048576
 unfoldable pub standingOf : ℕ → ℕ → ℕ → ℕ
 standingOf works until number = leastOf works + (until * 16 + number)
 
--- whether kind k's is one given or after it
+-- whether kind k's is x or after it
 unfoldable pub reaches : List ℕ → ℕ → ℕ → Bool
 reaches standings x k = leb x (at standings k)
 
--- how many of the sixteen are one given or after it
+-- how many of the sixteen are x or after it
 unfoldable pub atOrAfter : List ℕ → ℕ → ℕ
 atOrAfter standings x = countTo 16 (reaches standings x)
 
--- a rank: those at the project's least or after it, less those at the kind's own or after it
+-- a rank: how many are the project's least or after it, less how many are the kind's own or after it
 unfoldable pub rankAmong : List ℕ → ℕ → ℕ → ℕ
 rankAmong standings least own = atOrAfter standings least - atOrAfter standings own
+
+-- none has more than 28 bits
+abbrev pub Within28Bits : List ℕ → Type 0
+Within28Bits standings = (k : ℕ) → at standings k < 268435456
 
 -- ---- as the code fills them
 
@@ -47,11 +51,11 @@ pub record Standings (works until : List ℕ) (n : ℕ) (r : List ℕ) : Type 0 
   pub works-small : (k : ℕ) → k < n → at works k < 256
   pub until-small : (k : ℕ) → k < n → at until k < 65536
 
--- what is known of how many are at a project's least or after it: the count, or 0 where it has not been made
+-- what is known of how many are a project's least or after it: the count, or 0 where nobody has counted yet
 pub Known : List ℕ → ℕ → ℕ → Type 0
 Known standings least known = known ≢ 0 → known ≡ atOrAfter standings least
 
--- for each of eight projects
+-- the same of each of eight projects
 pub record Firsts (standings r : List ℕ) : Type 0 where
   pub size : length r ≡ 8
   pub known : (j : ℕ) → Known standings (leastOf (j + 1)) (at r j)

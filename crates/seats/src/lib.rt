@@ -3,12 +3,14 @@
 // Document 01, "Running". What a kind works for, the slices until it is due and where each project's
 // cards begin and end come as arrays, so that nothing is found twice. Every array is answered.
 //
-// A kind's whole standing is one number, and its rank a count of smaller ones without branches: of n
-// kinds, a of them with slices left, that is 16a steps for the ranks and 2n for the rest.
+// A kind's whole standing is one number, and its rank the difference of two counts without branches:
+// how many standings are its project's least or after it, which is counted once for the project, and
+// how many are its own or after it. Of n kinds, a of them with slices left and a project that has a
+// card, for q such projects, that is 16(a + q) steps for the ranks and 2n for the rest.
 ghost use mathlib.Core.Path.{_≡_};
-ghost use Prim.Native.Nat.{ℕ, _+_, _-_, _≤_, _<_};
-ghost use Rattle.seats.specs.Seats.{at, seatAt, seatsBy};
-ghost use Rattle.seats.specs.Ranks.{atOrAfter, Standing, Standings, Known};
+ghost use Prim.Native.Nat.{_+_, _-_, _≤_, _<_};
+ghost use Rattle.seats.specs.Seats.{seatAt, seatsBy};
+ghost use Rattle.seats.specs.Ranks.{atOrAfter, Within28Bits, Standing, Standings, Known};
 
 // The most kinds and the most projects that a plan has.
 const KINDS: usize = 16;
@@ -40,10 +42,10 @@ fn standings(works: &[u8; KINDS], until: &[u16; KINDS], kinds: usize) -> [u32; K
     standings
 }
 
-// How many standings are one given or after it. There is no branch in the loop: what is carried out of
-// 28 bits is added.
+// How many standings are x or after it. There is no branch in the loop: what is carried out of 28 bits
+// is added, which on vectors costs less than a comparison.
 fn at_or_after(standings: &[u32; KINDS], x: u32) -> u32
-    requires { ⌜ (x ≤ 268435456) × ((k : ℕ) → at (now standings) k < 268435456) ⌝ }
+    requires { ⌜ (x ≤ 268435456) × Within28Bits (now standings) ⌝ }
     ensures { λ r. ⌜ r ≡ atOrAfter (now (standings .entry)) x ⌝ }
 {
     let turn = ALL - x;
@@ -54,9 +56,9 @@ fn at_or_after(standings: &[u32; KINDS], x: u32) -> u32
     count
 }
 
-// The same of a project's least standing, counted once: 0 is not known yet.
+// The same of a project's least standing, which is counted only where it is not known yet: 0.
 fn first(standings: &[u32; KINDS], known: u32, least: u32) -> u32
-    requires { ⌜ (least ≤ 268435456) × ((k : ℕ) → at (now standings) k < 268435456) × Known (now standings) least known ⌝ }
+    requires { ⌜ (least ≤ 268435456) × Within28Bits (now standings) × Known (now standings) least known ⌝ }
     ensures { λ r. ⌜ r ≡ atOrAfter (now (standings .entry)) least ⌝ }
 {
     if known != 0 {
@@ -65,10 +67,10 @@ fn first(standings: &[u32; KINDS], known: u32, least: u32) -> u32
     at_or_after(standings, least)
 }
 
-// Where a kind sits on its project's cards. Its rank is what is counted at its project's least standing
-// or after it, less what is counted at its own or after it.
+// Where a kind sits on its project's cards: its rank is how many are its project's least or after it,
+// less how many are its own or after it.
 fn seat(standings: &[u32; KINDS], first: u32, own: u32, low: u8, end: u8) -> u8
-    requires { ⌜ (own ≤ 268435456) × ((k : ℕ) → at (now standings) k < 268435456) × (atOrAfter (now standings) own ≤ first) × (first ≤ 16) ⌝ }
+    requires { ⌜ (own ≤ 268435456) × Within28Bits (now standings) × (atOrAfter (now standings) own ≤ first) × (first ≤ 16) ⌝ }
     ensures { λ r. ⌜ r ≡ seatAt (low + (first - atOrAfter (now (standings .entry)) own)) end ⌝ }
 {
     let rank = first - at_or_after(standings, own);

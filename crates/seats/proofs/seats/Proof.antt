@@ -11,7 +11,15 @@ use Rattle.seats.specs.Seats.{seatBy}
 use Rattle.seats.specs.Seats.Properties.{unseated-idle, unseated-strange, unseated-project, seated, seats-none, seats-all}
 use Rattle.seats.specs.Ranks.{Standings, Firsts}
 use Rattle.seats.specs.Ranks.Properties.{
-  standings-most, standing-no-more, number-fits, least-most, first-enough, first-most, firsts-none, first-known, firsts-again
+  standings-most,
+  standing-no-more,
+  number-fits,
+  least-most,
+  first-enough,
+  first-most,
+  firsts-none,
+  first-known,
+  firsts-again,
 }
 use Rattle.seats.proofs.seats.Statement.{statement}
 use Rattle.seats.proofs.seats.Tie as tie
@@ -122,9 +130,10 @@ loop-less-4 c = search needs
 
 loop-again-4 : tie.Need-loop-again-4 Inv-loop μ-loop
 loop-again-4 c =
-    let here = c .before .before .before .before .before .before .before .before .before .before .before .before .before .loop in
-    (omega arith, omega arith, search, search firsts-again,
-    seated _ _ _ _ _ _ _ (here .inv .4) (omega arith) (omega arith) (search) (search needs) _ _ _ (here .inv .2) (search) (c .seat .ensures))
+    let inv = c .before .before .before .before .before .before .before .before .before .before .before .before .before .loop .inv in
+    let found = c .seat .ensures in
+    let seat = seated _ _ _ _ _ _ _ (inv .4) (omega arith) (omega arith) (search) (search needs) _ _ _ (inv .2) (search) found in
+    (omega arith, omega arith, search, search firsts-again, seat)
 
 returns-2 : tie.Need-returns-2 Inv-loop μ-loop
 returns-2 c = search (seats-all, written-stop)

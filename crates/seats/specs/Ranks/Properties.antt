@@ -13,13 +13,23 @@ use lib.Seq.{getD-set-same, getD-set-other}
 use borrow.Author.Tests.{lt-ltb, le-ltb, eq-eqb, ne-eqb, le-leb, lt-leb}
 use Rattle.laws.specs.Count.{countTo}
 use Rattle.laws.specs.Count.Properties.{
-  count-cong, count-split, count-parts, count-never, count-le, count-yes, count-no, count-stop, between-yes, between-low, between-high
+  count-cong,
+  count-split,
+  count-parts,
+  count-never,
+  count-le,
+  count-yes,
+  count-no,
+  count-stop,
+  between-yes,
+  between-low,
+  between-high,
 }
 use Rattle.laws.specs.Ranking.{rankIn, sooner}
 use Rattle.laws.specs.Written.{written}
 use Rattle.laws.specs.Written.Properties.{written-none, written-again, stored-at, stored-past}
 use Rattle.seats.specs.Seats.{at, rankBy}
-use Rattle.seats.specs.Ranks.{leastOf, standingOf, reaches, atOrAfter, rankAmong, Standing, Standings, Known, Firsts}
+use Rattle.seats.specs.Ranks.{leastOf, standingOf, reaches, atOrAfter, rankAmong, Within28Bits, Standing, Standings, Known, Firsts}
 
 -- ---- one standing
 
@@ -71,7 +81,8 @@ module _ (r : List ℕ) (low high : ℕ) (l : low ≤ high) where
   -- what is counted from the lower one on and not from the higher one on lies between the two
   at-or-after-between : atOrAfter r low ≡ atOrAfter r high + countTo 16 (between r low high)
   unfolding atOrAfter reaches
-  at-or-after-between = count-parts 16 (reaches r high) (between r low high) (reaches r low) (λ k _. each k (decLt (at r k) low) (decLt (at r k) high))
+  at-or-after-between =
+      count-parts 16 (reaches r high) (between r low high) (reaches r low) (λ k _. each k (decLt (at r k) low) (decLt (at r k) high))
     where
       each : (k : ℕ) → Dec (at r k < low) → Dec (at r k < high) →
           cond (leb low (at r k)) 1 0 ≡ cond (leb high (at r k)) 1 0 + cond (between r low high k) 1 0
@@ -113,7 +124,7 @@ module _ (works until : List ℕ) (n : ℕ) (r : List ℕ) (st : Standings works
   past k l = ap (λ (x : List ℕ). at x k) (st .stored) ∙ stored-past n 16 (λ k. standingOf (at works k) (at until k) k) k l
 
   -- every standing has 28 bits
-  pub standings-most : n ≤ 16 → (k : ℕ) → at r k < 268435456
+  pub standings-most : n ≤ 16 → Within28Bits r
   standings-most b k =
       elim (decLt k n) [
         | yes l ↦ rw (here k l b) (standing-most (at works k) (at until k) k (st .works-small k l) (st .until-small k l) (omega arith))
@@ -177,7 +188,7 @@ first-most r least first e = omega (arith, e, count-le 16 (reaches r least))
 
 -- ---- the loop that counts: what is carried is added
 
-module _ (r : List ℕ) (x k : ℕ) (l : x ≤ 268435456) (most : (k : ℕ) → at r k < 268435456) where
+module _ (r : List ℕ) (x k : ℕ) (l : x ≤ 268435456) (most : Within28Bits r) where
   pub counted-most : (count : ℕ) → count ≤ k → count + (at r k + (268435456 - x)) / 268435456 ≤ k + 1
   counted-most count m = omega (arith, most k)
 

@@ -25,42 +25,45 @@ module _ (low end first mine c : ℕ) (e : c ≡ mine) where
 
 -- ---- kind i's seat among n, as it is stored or passed over
 
-module _ (works until low end : List ℕ) (n i : ℕ) (m : List ℕ) (e : m ≡ written i (seatBy works until low end n) (replicate 16 0)) (l : i < n)
-  (b : n ≤ 16) where
-  -- nothing is stored for one that sits nowhere
-  unseated : seatBy works until low end n i ≡ 0 → m ≡ written (i + 1) (seatBy works until low end n) (replicate 16 0)
-  unseated z = written-same i (seatBy works until low end n) (replicate 16 0) m 0 e (z ∙ sym (getD-replicate 16 i 0 0 (omega arith)))
+module _ (works until low end : List ℕ) (n : ℕ) where
+  -- with the first k kinds' seats stored
+  abbrev seated-to : ℕ → List ℕ
+  seated-to k = written k (seatBy works until low end n) (replicate 16 0)
 
-  -- one that has nothing left
-  pub unseated-idle : at works i ≡ 0 → m ≡ written (i + 1) (seatBy works until low end n) (replicate 16 0)
-  unfolding seatBy
-  unseated-idle z = unseated (rw (eq-eqb (at works i) 0 z))
+  module _ (i : ℕ) (m : List ℕ) (e : m ≡ seated-to i) (l : i < n) (b : n ≤ 16) where
+    -- nothing is stored for one that sits nowhere
+    unseated : seatBy works until low end n i ≡ 0 → m ≡ seated-to (i + 1)
+    unseated z = written-same i (seatBy works until low end n) (replicate 16 0) m 0 e (z ∙ sym (getD-replicate 16 i 0 0 (omega arith)))
 
-  -- one that works for none of eight projects
-  pub unseated-strange : 8 < at works i → m ≡ written (i + 1) (seatBy works until low end n) (replicate 16 0)
-  unfolding seatBy
-  unseated-strange z = unseated (rw (ne-eqb (at works i) 0 (λ y. omega (arith, y)), lt-ltb 8 (at works i) z))
-
-  module _ (h : at works i ≡ 0 → ⊥) (g : at works i ≤ 8) where
-    seat-is : seatBy works until low end n i ≡ seatAt (at low (at works i - 1) + rankBy works until n i) (at end (at works i - 1))
+    -- one that has nothing left
+    pub unseated-idle : at works i ≡ 0 → m ≡ seated-to (i + 1)
     unfolding seatBy
-    seat-is = rw (ne-eqb (at works i) 0 h, le-ltb 8 (at works i) g)
+    unseated-idle z = unseated (rw (eq-eqb (at works i) 0 z))
 
-    -- one whose project has no card
-    pub unseated-project : at end (at works i - 1) ≤ at low (at works i - 1) →
-        m ≡ written (i + 1) (seatBy works until low end n) (replicate 16 0)
-    unfolding seatAt
-    unseated-project z =
-        let past = le-ltb (at low (at works i - 1) + rankBy works until n i) (at end (at works i - 1)) (omega (arith, z)) in
-        unseated (seat-is ∙ rw past)
+    -- one that works for none of eight projects
+    pub unseated-strange : 8 < at works i → m ≡ seated-to (i + 1)
+    unfolding seatBy
+    unseated-strange z = unseated (rw (ne-eqb (at works i) 0 (λ y. omega (arith, y)), lt-ltb 8 (at works i) z))
 
-    -- one whose project has: by the two counts
-    pub seated : (r : List ℕ) (first x : ℕ) → Standings works until n r → first ≡ atOrAfter r (at works i * 1048576) →
-        x ≡ seatAt (at low (at works i - 1) + (first - atOrAfter r (at r i))) (at end (at works i - 1)) →
-        set m i x ≡ written (i + 1) (seatBy works until low end n) (replicate 16 0)
-    seated r first x st p s =
-        written-again i (seatBy works until low end n) (replicate 16 0) m x e
-        (s ∙ rw (rank-left works until n i r st l b h first p) (sym seat-is))
+    module _ (h : at works i ≡ 0 → ⊥) (g : at works i ≤ 8) where
+      seat-is : seatBy works until low end n i ≡ seatAt (at low (at works i - 1) + rankBy works until n i) (at end (at works i - 1))
+      unfolding seatBy
+      seat-is = rw (ne-eqb (at works i) 0 h, le-ltb 8 (at works i) g)
+
+      -- one whose project has no card
+      pub unseated-project : at end (at works i - 1) ≤ at low (at works i - 1) → m ≡ seated-to (i + 1)
+      unfolding seatAt
+      unseated-project z =
+          let past = le-ltb (at low (at works i - 1) + rankBy works until n i) (at end (at works i - 1)) (omega (arith, z)) in
+          unseated (seat-is ∙ rw past)
+
+      -- one whose project has: by the two counts
+      pub seated : (r : List ℕ) (first x : ℕ) → Standings works until n r → first ≡ atOrAfter r (at works i * 1048576) →
+          x ≡ seatAt (at low (at works i - 1) + (first - atOrAfter r (at r i))) (at end (at works i - 1)) →
+          set m i x ≡ seated-to (i + 1)
+      seated r first x st p s =
+          written-again i (seatBy works until low end n) (replicate 16 0) m x e
+          (s ∙ rw (rank-left works until n i r st l b h first p) (sym seat-is))
 
 -- ---- every seat
 

@@ -66,7 +66,7 @@ pub extern "C" fn parchbeetle_release(state: &mut [u8], kind: u64, e: u64) -> u6
     let Answer::Good = answer else {
         return answer.told(0);
     };
-    image_writer::put_state(next.state, state).told(0)
+    image_writer::put_running(next.state, state).told(0)
 }
 
 // Writes the row of the slice to come, for a state's image.
@@ -98,5 +98,5 @@ pub extern "C" fn parchbeetle_advance(state: &mut [u8]) -> u64
     let Answer::Good = answer else {
         return answer.told(0);
     };
-    image_writer::put_state(after.state, state).told(0)
+    image_writer::put_running(after.state, state).told(0)
 }

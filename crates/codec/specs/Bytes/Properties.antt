@@ -32,6 +32,9 @@ unfolding numberTo
 number-bound zero s b = omega arith
 number-bound (suc n) s b = rw pow-suc (digits-lt (number-bound n s b) (b n))
 
+pub bytes-behind : (s : List ℕ) → AreBytes s → (at : ℕ) → AreBytes (drop at s)
+bytes-behind s b at i = omega (arith, getD-drop at s i 0, b (at + i))
+
 -- ---- only the bytes that are read count
 
 pub number-cong : (n : ℕ) (s t : List ℕ) → ((i : ℕ) → i < n → getD s i 0 ≡ getD t i 0) → numberTo n s ≡ numberTo n t

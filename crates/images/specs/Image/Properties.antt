@@ -11,13 +11,13 @@ use borrow.Author.Tests.{le-leb, lt-leb}
 use Rattle.laws.specs.All.{allTo}
 use Rattle.laws.specs.All.Properties.{all-more, all-stop, all-fails}
 use lib.ListN.{length, drop}
-use lib.Seq.{sets}
+use lib.Seq.{sets, drop-at}
 use Rattle.codec.specs.Pack.{pack, unpack}
 use Rattle.codec.specs.Bytes.{numberTo, bytesOf}
 use Rattle.codec.specs.Place.{sizeOf, placed, fieldsOf}
 use Rattle.codec.specs.Places.{putTo}
-use Rattle.codec.specs.Rows.{putRows}
-use Rattle.codec.specs.Rows.Properties.{rows-length, rows-stored}
+use Rattle.codec.specs.Rows.{Row, Values, putRows, rowsBytes}
+use Rattle.codec.specs.Rows.Properties.{rows-length, rows-append, rows-stored, rows-between}
 use Rattle.plan.specs.declared.Project.{Project}
 use Rattle.plan.specs.declared.Kind.{Kind}
 use Rattle.plan.specs.declared.Plan.{Plan}
@@ -31,7 +31,7 @@ use Rattle.images.specs.Image.{projectFrom, kindFrom, sliceFrom, unitFro
 use Rattle.images.specs.Image.{planFrom}
 use Rattle.images.specs.Image.{stateFrom, countFields, projectFields, kindFields, unitFields, projectBytesAt, kindBytesAt}
 use Rattle.images.specs.Image.{unitBytesAt, sumBytesAt}
-use Rattle.images.specs.Image.{planValues, stateValues, planImage, stateImage}
+use Rattle.images.specs.Image.{planValues, stateValues, planImage, stateImage, runningOver}
 
 -- ---- the fields of a place off its number n
 
@@ -166,3 +166,34 @@ unfolding planImage stateImage putRows putTo
 store-state s out a b d after l e f g h =
     rw (h, g, f, e, ← (rows-stored planRows (planValues (s .plan)) out refl (omega arith)))
     (rows-stored stateRows (stateValues s) out refl l)
+
+-- ---- what follows the plan in a state's image
+
+runningRows : List Row
+runningRows = drop 3 stateRows
+
+runningValues : State → List Values
+runningValues s = drop 3 (stateValues s)
+
+image-parts : (s : State) → stateImage s ≡ planImage (s .plan) ++ rowsBytes runningRows (runningValues s)
+unfolding stateImage planImage runningRows runningValues
+image-parts s = rows-append planRows (drop 3 stateRows) (planValues (s .plan)) (drop 3 (stateValues s)) refl
+
+running-part : (s : State) → drop planSize (stateImage s) ≡ rowsBytes runningRows (runningValues s)
+unfolding planImage
+running-part s =
+    ap (drop planSize) (image-parts s)
+    ∙ drop-at (planImage (s .plan)) (rowsBytes runningRows (runningValues s)) planSize (rows-length planRows (planValues (s .plan)) refl)
+
+-- the plan's image, and then that
+pub image-split : (s : State) → stateImage s ≡ planImage (s .plan) ++ drop planSize (stateImage s)
+image-split s = image-parts s ∙ ap (λ (x : List ℕ). planImage (s .plan) ++ x) (sym (running-part s))
+
+-- row by row, between what was there
+pub store-running : (s : State) (out b d after : List ℕ) → stateSize ≤ length out
+    → b ≡ sets out slicePlace (placed sliceWidths (s .slice ∷ [])) → d ≡ putTo 16 (unitBytesAt s) (unitPlace 0) (sizeOf unitWidths) b
+    → after ≡ putTo 8 (sumBytesAt s) (sumPlace 0) (sizeOf sumWidths) d
+    → after ≡ runningOver s out
+unfolding runningRows runningValues putRows putTo
+store-running s out b d after l f g h =
+    rw (h, g, f, running-part s) (rows-between runningRows (runningValues s) planSize out refl l)

@@ -2,6 +2,7 @@
 -- Assumes nothing.
 use Rattle.rack_calls.specs.Exports.Properties.{advance-unfound, advance-refused, advance-stored}
 use borrow.Author.Needs.{needs}
+use Rattle.codec.specs.Bytes.{AreBytes}
 use Rattle.rack_calls.proofs.parchbeetle_advance.Statement.{statement}
 use Rattle.rack_calls.proofs.parchbeetle_advance.Tie as tie
 
@@ -41,8 +42,8 @@ same-length-2 c = search needs
 returns-2 : tie.Need-returns-2
 returns-2 c = search advance-refused
 
-put-state-requires : tie.Need-put-state-requires
-put-state-requires c κs = search needs
+put-running-requires : tie.Need-put-running-requires
+put-running-requires c κs = search needs
 
 told-requires-3 : tie.Need-told-requires-3
 told-requires-3 c κs = search needs
@@ -51,7 +52,10 @@ same-length-3 : tie.Need-same-length-3
 same-length-3 c = search needs
 
 returns-3 : tie.Need-returns-3
-returns-3 c = search advance-stored
+returns-3 c =
+    let start = c .before .before .before .before .before .before .before .before .before .before .before .before in
+    let bytes : AreBytes (start .before .args .state .now) = λ i. start .slice-known .given i .fits in
+    search (advance-stored, bytes)
 
 pub parchbeetle-advance-spec : {M : Type 1} → statement M
 parchbeetle-advance-spec =
@@ -69,7 +73,7 @@ parchbeetle-advance-spec =
     told-requires-2
     same-length-2
     returns-2
-    put-state-requires
+    put-running-requires
     told-requires-3
     same-length-3
     returns-3)

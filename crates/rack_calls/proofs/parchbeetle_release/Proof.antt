@@ -2,6 +2,7 @@
 -- Assumes nothing.
 use Rattle.rack_calls.specs.Exports.Properties.{release-unfound, release-refused, release-stored}
 use borrow.Author.Needs.{needs}
+use Rattle.codec.specs.Bytes.{AreBytes}
 use Rattle.rack_calls.proofs.parchbeetle_release.Statement.{statement}
 use Rattle.rack_calls.proofs.parchbeetle_release.Tie as tie
 
@@ -47,8 +48,8 @@ same-length-2 c = search needs
 returns-2 : tie.Need-returns-2
 returns-2 c = search release-refused
 
-put-state-requires : tie.Need-put-state-requires
-put-state-requires c κs = search needs
+put-running-requires : tie.Need-put-running-requires
+put-running-requires c κs = search needs
 
 told-requires-3 : tie.Need-told-requires-3
 told-requires-3 c κs = search needs
@@ -57,7 +58,10 @@ same-length-3 : tie.Need-same-length-3
 same-length-3 c = search needs
 
 returns-3 : tie.Need-returns-3
-returns-3 c = search release-stored
+returns-3 c =
+    let start = c .before .before .before .before .before .before .before .before .before .before .before .before .before .before .before in
+    let bytes : AreBytes (start .before .args .state .now) = λ i. start .slice-known .given i .fits in
+    search (release-stored, bytes)
 
 pub parchbeetle-release-spec : {M : Type 1} → statement M
 parchbeetle-release-spec =
@@ -77,7 +81,7 @@ parchbeetle-release-spec =
     told-requires-2
     same-length-2
     returns-2
-    put-state-requires
+    put-running-requires
     told-requires-3
     same-length-3
     returns-3)

@@ -8,6 +8,7 @@ use native.Mathlib.Decide.{decLt}
 use native.Mathlib.Omega.{arith}
 use lib.ListN.{length}
 use borrow.Author.Tests.{lt-ltb, le-ltb, lt-leb, ne-eqb}
+use Rattle.codec.specs.Bytes.{AreBytes}
 use Rattle.plan.specs.declared.Plan.{Plan}
 use Rattle.answer.specs.declared.Answer.{Answer}
 use Rattle.answer.specs.declared.Answer.the-variants.{Good, No}
@@ -29,9 +30,10 @@ use Rattle.rack.specs.Advance.{advanced, advanceAnswer, advanceOf}
 use Rattle.images.specs.declared.PlanFound.{PlanFound}
 use Rattle.images.specs.declared.StateFound.{StateFound}
 use Rattle.images.specs.Image.{stateSize, planFrom, stateFrom, stateImage, releasedTold}
-use Rattle.images.specs.Lent.{room, planFound, foundAnswer, stateFound, StoresState}
+use Rattle.images.specs.Lent.{room, planFound, foundAnswer, stateFound, StoresState, StoresRunning}
 use Rattle.images.specs.Lent.Properties.{plan-is, plan-on, state-room, state-is, state-no}
 use Rattle.images.specs.Lent.Properties.{state-on}
+use Rattle.images.specs.RoundTrip.{running-stores}
 use Rattle.answer.specs.Word.{told}
 use Rattle.images.specs.Outcome.Properties.{refused-outcome, stored-outcome, uncounted}
 use Rattle.rack_calls.specs.Exports.{freshAnswer, Starts, stateAnswer}
@@ -189,11 +191,18 @@ release-refused state kind e k x f v w r h g p q t n u =
     refused-outcome (releasesAnswer state kind e) (v .answer) w _ _ state r n u
     (release-stage state kind e f (v .answer) h g (release-answer (stateFrom state) kind e v (release-is state kind e k x f v h g p q t)))
 
+-- a release keeps the plan
+release-plan : (state : List ℕ) (kind e : ℕ) → released (stateFrom state) kind e .plan ≡ planFrom state
+unfolding released stateFrom
+release-plan state kind e = refl
+
 pub release-stored : (state after : List ℕ) (kind e k x : ℕ) (f : StateFound) (v : Next) (b : Answer) (r : ℕ) → f ≡ stateFound state →
     f .answer ≡ Good → k ≡ min kind 16 → x ≡ min e 65536 → v ≡ releaseOf (f .state) k x → v .answer ≡ Good →
-    StoresState (v .state) state b after → r ≡ told b 0 → Releases state kind e r after
-release-stored state after kind e k x f v b r h g p q t n u z =
+    AreBytes state → StoresRunning (v .state) state b after → r ≡ told b 0 → Releases state kind e r after
+release-stored state after kind e k x f v b r h g p q t n bytes running z =
     let i = release-is state kind e k x f v h g p q t in
+    let same = ap (λ (s : State). s .plan) (release-state (stateFrom state) kind e v i n) ∙ release-plan state kind e in
+    let u = running-stores (v .state) state b after bytes same running in
     let a : b ≡ v .answer = u .result ∙ state-room state f h g ∙ sym n in
     rw (← release-state (stateFrom state) kind e v i n)
     (stored-outcome (releasesAnswer state kind e) b 0 stateSize (stateImage (v .state)) state after r u
@@ -260,10 +269,18 @@ advance-refused state f v w r h g t n u =
     refused-outcome (advancesAnswer state) (v .answer) w _ _ state r n u
     (advance-stage state f (v .answer) h g (advance-answer (stateFrom state) v (advance-is state f v h g t)))
 
+-- an advance keeps the plan
+advance-plan : (state : List ℕ) → advanced (stateFrom state) .plan ≡ planFrom state
+unfolding advanced stateFrom
+advance-plan state = refl
+
 pub advance-stored : (state after : List ℕ) (f : StateFound) (v : Next) (b : Answer) (r : ℕ) → f ≡ stateFound state → f .answer ≡ Good →
-    v ≡ advanceOf (f .state) → v .answer ≡ Good → StoresState (v .state) state b after → r ≡ told b 0 → Advances state r after
-advance-stored state after f v b r h g t n u z =
+    v ≡ advanceOf (f .state) → v .answer ≡ Good → AreBytes state → StoresRunning (v .state) state b after → r ≡ told b 0 →
+    Advances state r after
+advance-stored state after f v b r h g t n bytes running z =
     let i = advance-is state f v h g t in
+    let same = ap (λ (s : State). s .plan) (advance-state (stateFrom state) v i n) ∙ advance-plan state in
+    let u = running-stores (v .state) state b after bytes same running in
     let a : b ≡ v .answer = u .result ∙ state-room state f h g ∙ sym n in
     rw (← advance-state (stateFrom state) v i n)
     (stored-outcome (advancesAnswer state) b 0 stateSize (stateImage (v .state)) state after r u

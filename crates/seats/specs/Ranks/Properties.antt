@@ -1,4 +1,4 @@
--- Laws of ranks counted among standings: the steps of the loops, and that what lies between two counts is the rank.
+-- Laws of ranks counted among standings: the steps of the loops, and that the difference of two counts is the rank.
 -- Assumes nothing.
 use mathlib.Core.Path.{_≡_, refl, sym, ap, _∙_}
 use mathlib.Core.Logic.{_≢_}
@@ -8,7 +8,7 @@ use Prim.Native.Nat.{ℕ, _+_, _-_, _*_, _/_, _≤_, _<_}
 use native.Mathlib.Decide.{decLt, ℕ-discrete}
 use native.Mathlib.Omega.{arith}
 use lib.Dec.{leb, ltb, eqb}
-use lib.ListN.{length, set, length-set, replicate, length-replicate}
+use lib.ListN.{set, length-set, replicate, length-replicate}
 use lib.Seq.{getD-set-same, getD-set-other}
 use borrow.Author.Tests.{lt-ltb, le-ltb, eq-eqb, ne-eqb, le-leb, lt-leb}
 use Rattle.laws.specs.Count.{countTo}
@@ -21,7 +21,6 @@ use Rattle.laws.specs.Count.Properties.{
   count-yes,
   count-no,
   count-stop,
-  between-yes,
   between-low,
   between-high,
 }
@@ -74,11 +73,12 @@ between-is w u k v x i a b c d = elim (ℕ-discrete x w) [ yes q ↦ same q | no
 
 -- ---- two counts compared
 
+-- whether kind k's standing is low or after it, and before high
 abbrev between : List ℕ → ℕ → ℕ → ℕ → Bool
 between r low high k = leb low (at r k) && ltb (at r k) high
 
 module _ (r : List ℕ) (low high : ℕ) (l : low ≤ high) where
-  -- what is counted from the lower one on and not from the higher one on lies between the two
+  -- by as many as lie between does the lower one's count exceed the higher one's
   at-or-after-between : atOrAfter r low ≡ atOrAfter r high + countTo 16 (between r low high)
   unfolding atOrAfter reaches
   at-or-after-between =
@@ -91,7 +91,7 @@ module _ (r : List ℕ) (low high : ℕ) (l : low ≤ high) where
       each k (no p) (no q) =
           rw (le-leb low (at r k) (omega arith), le-leb high (at r k) (omega arith), le-ltb (at r k) high (omega arith))
 
-  pub at-or-after-le : atOrAfter r high ≤ atOrAfter r low
+  at-or-after-le : atOrAfter r high ≤ atOrAfter r low
   at-or-after-le = omega (arith, at-or-after-between)
 
 -- ---- the standings as they are filled
@@ -114,7 +114,7 @@ standings-again works until r i v s t = record {
 pub standings-stop : (works until r : List ℕ) (i n : ℕ) → Standings works until i r → i ≤ n → n ≤ i → Standings works until n r
 standings-stop works until r i n s a b = let e : i ≡ n = omega arith in rw (← e) s
 
--- ---- the count is the rank
+-- ---- the difference is the rank
 
 module _ (works until : List ℕ) (n : ℕ) (r : List ℕ) (st : Standings works until n r) where
   here : (k : ℕ) → k < n → n ≤ 16 → at r k ≡ standingOf (at works k) (at until k) k
@@ -175,6 +175,7 @@ module _ (works until : List ℕ) (n i : ℕ) (r : List ℕ) (st : Standings wor
         let mine = count-cong n f goes-before each in
         omega (arith, split, rest, mine, at-or-after-between r (at works i * 1048576) (at r i) (own-least b l))
 
+    -- with the project's count as the code has it
     pub rank-left : (first : ℕ) → first ≡ atOrAfter r (at works i * 1048576) → first - atOrAfter r (at r i) ≡ rankBy works until n i
     unfolding rankAmong
     rank-left first p = rw p rank-among
@@ -218,7 +219,7 @@ pub known-right : (r : List ℕ) (least known : ℕ) → Known r least known →
 unfolding Known
 known-right r least known k h = k h
 
--- of the project that w works for
+-- w is the number of a project plus 1
 module _ (r f : List ℕ) (s : Firsts r f) (w : ℕ) (h : w ≡ 0 → ⊥) where
   number : w - 1 + 1 ≡ w
   number = omega (arith, h)

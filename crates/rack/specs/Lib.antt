@@ -1,4 +1,4 @@
--- The dispatcher: document 01, "Running", and the refusals 8 to 16; document 02 (vii) and (ix). Seat says how a row is found.
+-- The dispatcher: document 01, "Running", and the refusals 8 to 16; document 02 (vii) and (ix). Seat says how a row is found, from what Found says.
 -- Assumes nothing.
 pub mod State
 pub mod Sums
@@ -14,3 +14,4 @@ pub mod Start
 pub mod Alike
 pub mod OneOutcome
 pub mod Seat
+pub mod Found

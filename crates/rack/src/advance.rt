@@ -25,33 +25,43 @@ fn slice_after(slice: u8, frame: u8) -> u8
 impl State {
     // Runs one slice: one slice more gone for each kind ever released, one less left for each that
     // sits, one less in its project's sum, and the next slice.
-    pub fn advance(mut self) -> Next
+    pub fn advance(self) -> Next
         ensures { λ r. ⌜ r ≡ advanceOf self ⌝ }
     {
-        let answer = self.check();
+        let found = self.check();
+        let answer = found.answer;
         let Answer::Good = answer else {
             return Next {
                 answer,
                 state: self,
             };
         };
+        let works = found.works;
+        let until = found.until;
+        let seat = self.seats(&works, &until);
         let plan = self.plan;
-        let seat = self.seats();
-        let kinds = self.places();
-        for i in 0..kinds {
-            let kind = plan.kind[i];
+        let kinds = plan.kind;
+        let mut unit = self.unit;
+        let mut sum = self.sum;
+        for i in 0..plan.kinds as usize {
+            let kind = kinds[i];
             let number = seat[i];
-            self.unit[i] = self.unit[i].after(number != 0, kind.separation);
+            unit[i] = unit[i].after(number != 0, kind.separation);
             if number == 0 {
                 continue;
             }
             let project = project_place(kind);
-            self.sum[project] -= 1;
+            sum[project] -= 1;
         }
-        self.slice = slice_after(self.slice, plan.frame);
+        let slice = slice_after(self.slice, plan.frame);
         Next {
             answer,
-            state: self,
+            state: State {
+                plan,
+                slice,
+                unit,
+                sum,
+            },
         }
     }
 }

@@ -67,7 +67,8 @@ pub(crate) fn run(
     most: usize,
 ) -> Progress
     requires { ⌜ (from ≤ length (now bytes)) × (at ≤ length (now out)) ⌝ }
-    ensures { λ r. ⌜ Leaves (runFrom start last (now (bytes .entry)) from (now (out .entry)) at most) (now (out .entry)) r (now (out .exit)) ⌝ }
+    ensures { λ r. ⌜ Leaves (runFrom start last (now (bytes .entry)) from (now (out .entry)) at most)
+        (now (out .entry)) r (now (out .exit)) ⌝ }
 {
     let mut state = start;
     let mut taken = from;
@@ -91,9 +92,10 @@ pub(crate) fn run(
             Command::Slice => {
                 let answer = state.show(&mut row);
                 let plan = state.plan;
-                count = Line::Slice(answer, state.slice as u32, plan.cards).put(&row, out, count);
                 let next = state.advance();
-                state = next.state;
+                let after = next.state;
+                count = Line::Slice(answer, state.slice as u32, plan.cards).put(&row, out, count);
+                state = after;
                 taken += 3;
                 lines -= 1;
             }

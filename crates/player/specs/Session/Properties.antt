@@ -38,7 +38,6 @@ use Rattle.player.specs.declared.session.Stage.the-variants.{Opening, Ru
 use Rattle.player.specs.declared.session.Session.{Session}
 use Rattle.player.specs.declared.session.Progress.{Progress}
 use Rattle.lines.specs.Text.{Puts}
-use Rattle.lines.specs.Text.Properties.{sets-nothing}
 use Rattle.lines.specs.Line.{planLine, releaseLine, sliceLine, endLine, lineText, lineRoom, Prints}
 use Rattle.lines.specs.Line.Properties.{prints-all}
 use Rattle.commands.specs.Command.{commandOf}
@@ -111,24 +110,22 @@ commanded false none few a b m e f = rw f
 
 -- among the commands
 module _ (s : State) (last : Bool) (bytes : List ℕ) where
-  module _ (ends : Bool) (ends-is : ends ≡ (last && eqb (length bytes) 0)) where
-    run-ends : ends ≡ true → stepOf (running s) last bytes ≡ lastLine s
-    unfolding stepOf runOf
-    run-ends t =
-        rw (and-left last (eqb (length bytes) 0) (sym ends-is ∙ t), and-right last (eqb (length bytes) 0) (sym ends-is ∙ t))
+  run-ends : (ends : Bool) → ends ≡ (last && eqb (length bytes) 0) → ends ≡ true → stepOf (running s) last bytes ≡ lastLine s
+  unfolding stepOf runOf
+  run-ends ends e t = rw (and-left last (eqb (length bytes) 0) (sym e ∙ t), and-right last (eqb (length bytes) 0) (sym e ∙ t))
 
-    module _ (short : Bool) (short-is : short ≡ (not last && ltb (length bytes) 3)) where
-      run-waits : short ≡ true → stepOf (running s) last bytes ≡ stay (running s)
-      unfolding stepOf runOf
-      run-waits t =
-          let e = not-true last (and-left (not last) (ltb (length bytes) 3) (sym short-is ∙ t)) in
-          rw (e, and-right (not last) (ltb (length bytes) 3) (sym short-is ∙ t))
+  run-waits : (short : Bool) → short ≡ (not last && ltb (length bytes) 3) → short ≡ true → stepOf (running s) last bytes ≡ stay (running s)
+  unfolding stepOf runOf
+  run-waits short e t =
+      let f = not-true last (and-left (not last) (ltb (length bytes) 3) (sym e ∙ t)) in
+      rw (f, and-right (not last) (ltb (length bytes) 3) (sym e ∙ t))
 
-      run-obeys : ends ≡ false → short ≡ false → stepOf (running s) last bytes ≡ commandMove s (commandOf bytes)
-      unfolding stepOf runOf
-      run-obeys t u =
-          commanded last (eqb (length bytes) 0) (ltb (length bytes) 3) (lastLine s) (stay (running s)) (commandMove s (commandOf bytes))
-          (sym ends-is ∙ t) (sym short-is ∙ u)
+  run-obeys : (ends : Bool) → ends ≡ (last && eqb (length bytes) 0) → (short : Bool) → short ≡ (not last && ltb (length bytes) 3)
+      → ends ≡ false → short ≡ false → stepOf (running s) last bytes ≡ commandMove s (commandOf bytes)
+  unfolding stepOf runOf
+  run-obeys ends e short f t u =
+      commanded last (eqb (length bytes) 0) (ltb (length bytes) 3) (lastLine s) (stay (running s)) (commandMove s (commandOf bytes))
+      (sym e ∙ t) (sym f ∙ u)
 
 step-opens : (x : Session) (last : Bool) (bytes : List ℕ) → x .stage ≡ Opening → stepOf x last bytes ≡ openOf x last bytes
 unfolding stepOf
@@ -424,75 +421,77 @@ module _ (all : Move) (last : Bool) (bytes start : List ℕ) (s : State) (taken 
         → 0 < length (lineText l row) → Playing all last bytes start (running x) (taken + 3) next (lines - 1) held
     next-line x e t = goes-on all last bytes start (running s) taken count lines out p (running x) 3 l row next held room prints e t more
 
-  module _ (ends : Bool) (ends-is : ends ≡ (last && eqb (length bytes - taken) 0)) where
-    none-left : ends ≡ (last && eqb (length (drop taken bytes)) 0)
-    none-left = rw left-is ends-is
+  none-left : (b : Bool) → b ≡ (last && eqb (length bytes - taken) 0) → b ≡ (last && eqb (length (drop taken bytes)) 0)
+  none-left b e = rw left-is e
 
-    pub run-ended : ends ≡ true → lineRoom ≤ length out - count → 0 < lines → (row : List ℕ) (next : ℕ) (held : List ℕ)
-        → Prints (line.End (s .slice)) row out count next held
-        → (r : Progress) → r ≡ record { session = over s; taken = taken; count = next } → Leaves all start r held
-    unfolding lineText
-    run-ended t room more row next held prints =
-        last-line (line.End (s .slice)) row next held room more prints (run-ends s last (drop taken bytes) ends none-left t)
-        (end-some (s .slice))
+  few-left : (b : Bool) → b ≡ (not last && ltb (length bytes - taken) 3) → b ≡ (not last && ltb (length (drop taken bytes)) 3)
+  few-left b e = rw left-is e
 
-    module _ (short : Bool) (short-is : short ≡ (not last && ltb (length bytes - taken) 3)) where
-      few-left : short ≡ (not last && ltb (length (drop taken bytes)) 3)
-      few-left = rw left-is short-is
+  pub run-ended : (ends : Bool) → ends ≡ (last && eqb (length bytes - taken) 0) → ends ≡ true → lineRoom ≤ length out - count → 0 < lines
+      → (row : List ℕ) (next : ℕ) (held : List ℕ) → Prints (line.End (s .slice)) row out count next held
+      → (r : Progress) → r ≡ record { session = over s; taken = taken; count = next } → Leaves all start r held
+  unfolding lineText
+  run-ended ends e t room more row next held prints =
+      last-line (line.End (s .slice)) row next held room more prints (run-ends s last (drop taken bytes) ends (none-left ends e) t)
+      (end-some (s .slice))
 
-      pub run-waiting : short ≡ true → (r : Progress) → r ≡ record { session = running s; taken = taken; count = count }
-          → Leaves all start r out
-      run-waiting t r q =
-          stays r q (lines-stay lines (running s) last (drop taken bytes) (length start - count)
-          (ap (λ (m : Move). length (m .text)) (run-waits s last (drop taken bytes) ends none-left short few-left t)))
+  pub run-waiting : (short : Bool) → short ≡ (not last && ltb (length bytes - taken) 3) → short ≡ true
+      → (r : Progress) → r ≡ record { session = running s; taken = taken; count = count } → Leaves all start r out
+  run-waiting short e t r q =
+      stays r q (lines-stay lines (running s) last (drop taken bytes) (length start - count)
+      (ap (λ (m : Move). length (m .text)) (run-waits s last (drop taken bytes) short (few-left short e) t)))
 
-      module _ (k : Command) (k-is : k ≡ commandOf (take (length bytes - taken) (drop taken bytes))) where
-        command-is : commandOf (drop taken bytes) ≡ k
-        command-is = sym (rw (handed-on bytes taken) at k-is)
+  module _ (k : Command) (k-is : k ≡ commandOf (take (length bytes - taken) (drop taken bytes))) where
+    command-is : commandOf (drop taken bytes) ≡ k
+    command-is = sym (rw (handed-on bytes taken) at k-is)
 
-        whole-command : commandMove s k .taken ≡ 3 → taken + 3 ≤ length bytes
-        whole-command e =
-            let f : commandMove s (commandOf (drop taken bytes)) .taken ≡ 3 = rw command-is e in
-            omega (arith, obey-most s (drop taken bytes), left-is, p .taken-most)
+    whole-command : commandMove s k .taken ≡ 3 → taken + 3 ≤ length bytes
+    whole-command e =
+        let f : commandMove s (commandOf (drop taken bytes)) .taken ≡ 3 = rw command-is e in
+        omega (arith, obey-most s (drop taken bytes), left-is, p .taken-most)
 
-        pub slice-fits : k ≡ Slice → taken + 3 ≤ length bytes
-        unfolding commandMove
-        slice-fits e = whole-command (rw e)
+    pub slice-fits : k ≡ Slice → taken + 3 ≤ length bytes
+    unfolding commandMove
+    slice-fits e = whole-command (rw e)
 
-        pub release-fits : (kind e : ℕ) → k ≡ Release kind e → taken + 3 ≤ length bytes
-        unfolding commandMove
-        release-fits kind e q = whole-command (rw q)
+    pub release-fits : (kind e : ℕ) → k ≡ Release kind e → taken + 3 ≤ length bytes
+    unfolding commandMove
+    release-fits kind e q = whole-command (rw q)
 
-        module _ (no-end : ends ≡ false) (no-wait : short ≡ false) (room : lineRoom ≤ length out - count) (more : 0 < lines)
-            (next : ℕ) (held : List ℕ) where
-          obeys : stepOf (running s) last (drop taken bytes) ≡ commandMove s k
-          obeys = run-obeys s last (drop taken bytes) ends none-left short few-left no-end no-wait ∙ ap (commandMove s) command-is
+    module _ (ends short : Bool) (ends-is : ends ≡ (last && eqb (length bytes - taken) 0)) (no-end : ends ≡ false)
+        (short-is : short ≡ (not last && ltb (length bytes - taken) 3)) (no-wait : short ≡ false) (room : lineRoom ≤ length out - count)
+        (more : 0 < lines) (next : ℕ) (held : List ℕ) where
+      obeys : stepOf (running s) last (drop taken bytes) ≡ commandMove s k
+      obeys =
+          run-obeys s last (drop taken bytes) ends (none-left ends ends-is) short (few-left short short-is) no-end no-wait
+          ∙ ap (commandMove s) command-is
 
-          pub run-slice : k ≡ Slice → (answer : Answer) (row : List ℕ) → Shows s (replicate 8 0) answer row
-              → Prints (line.Slice answer (s .slice) (s .plan .cards)) row out count next held
-              → (n : Next) → n ≡ advanceOf s → Playing all last bytes start (running (n .state)) (taken + 3) next (lines - 1) held
-          unfolding commandMove after
-          run-slice e answer row shows prints n n-is =
-              let t = slice-told s answer row shows in
-              next-line (line.Slice answer (s .slice) (s .plan .cards)) row next held room more prints (n .state)
-              (obeys ∙ ap (commandMove s) e ∙ (λ i. record { session = running (sym n-is i .state); taken = 3; text = sym t i }))
-              (rw t (line-some s Slice))
+      pub run-slice : k ≡ Slice → (answer : Answer) (row : List ℕ) → Shows s (replicate 8 0) answer row
+          → (n : Next) → n ≡ advanceOf s
+          → Prints (line.Slice answer (s .slice) (s .plan .cards)) row out count next held
+          → Playing all last bytes start (running (n .state)) (taken + 3) next (lines - 1) held
+      unfolding commandMove after
+      run-slice e answer row shows n n-is prints =
+          let t = slice-told s answer row shows in
+          next-line (line.Slice answer (s .slice) (s .plan .cards)) row next held room more prints (n .state)
+          (obeys ∙ ap (commandMove s) e ∙ (λ i. record { session = running (sym n-is i .state); taken = 3; text = sym t i }))
+          (rw t (line-some s Slice))
 
-          pub run-release : (kind e : ℕ) → k ≡ Release kind e → (n : Next) → n ≡ releaseOf s kind e → (row : List ℕ)
-              → Prints (line.Release kind e (n .answer)) row out count next held
-              → Playing all last bytes start (running (n .state)) (taken + 3) next (lines - 1) held
-          unfolding commandMove after
-          run-release kind e q n n-is row prints =
-              let t = release-told s kind e n row n-is in
-              next-line (line.Release kind e (n .answer)) row next held room more prints (n .state)
-              (obeys ∙ ap (commandMove s) q ∙ (λ i. record { session = running (sym n-is i .state); taken = 3; text = sym t i }))
-              (rw t (line-some s (Release kind e)))
+      pub run-release : (kind e : ℕ) → k ≡ Release kind e → (n : Next) → n ≡ releaseOf s kind e → (row : List ℕ)
+          → Prints (line.Release kind e (n .answer)) row out count next held
+          → Playing all last bytes start (running (n .state)) (taken + 3) next (lines - 1) held
+      unfolding commandMove after
+      run-release kind e q n n-is row prints =
+          let t = release-told s kind e n row n-is in
+          next-line (line.Release kind e (n .answer)) row next held room more prints (n .state)
+          (obeys ∙ ap (commandMove s) q ∙ (λ i. record { session = running (sym n-is i .state); taken = 3; text = sym t i }))
+          (rw t (line-some s (Release kind e)))
 
-          pub run-bad : k ≡ Bad → (row : List ℕ) → Prints (line.Bad (s .slice)) row out count next held
-              → (r : Progress) → r ≡ record { session = over s; taken = taken; count = next } → Leaves all start r held
-          unfolding commandMove lineText
-          run-bad e row prints =
-              last-line (line.Bad (s .slice)) row next held room more prints (obeys ∙ ap (commandMove s) e) (line-some s Bad)
+      pub run-bad : k ≡ Bad → (row : List ℕ) → Prints (line.Bad (s .slice)) row out count next held
+          → (r : Progress) → r ≡ record { session = over s; taken = taken; count = next } → Leaves all start r held
+      unfolding commandMove lineText
+      run-bad e row prints =
+          last-line (line.Bad (s .slice)) row next held room more prints (obeys ∙ ap (commandMove s) e) (line-some s Bad)
 
 -- the line of a refused plan, at the front of a buffer
 pub refused-leaves : (a : Answer) (out row : List ℕ) (count : ℕ) (held : List ℕ) (z : State) → lineRoom ≤ length out
@@ -559,7 +558,8 @@ module _ (x : Session) (last : Bool) (bytes out : List ℕ) (r : Progress) where
     unfolding playOf
     plays-refused a held e =
         let text : List ℕ = planLine a in
-        let on : playOf x last bytes (length out) ≡ onto 0 text (linesOf (length out - 1) (over noState) last bytes (length out - length text)) =
+        let on : playOf x last bytes (length out)
+        ≡ onto 0 text (linesOf (length out - 1) (over noState) last bytes (length out - length text)) =
         rw e at (lines-on (length out) x last bytes (length out) (omega arith) room) (plan-some a) in
         plays-as (refusedAt a) held
         (on ∙ ap (onto 0 text) (lines-over (length out - 1) noState last bytes (length out - length text))
@@ -584,12 +584,13 @@ module _ (x : Session) (last : Bool) (bytes out : List ℕ) (r : Progress) where
         unfolding lineText
         plays-started f row count first prints held l =
             let z : 0 + n .taken ≡ n .taken = omega arith in
-            let on : Playing (playOf x last bytes (length out)) last bytes out (running (v .state)) (n .taken) count (length out - 1) first =
-            rw z at (goes-on (playOf x last bytes (length out)) last bytes out x 0 0 (length out) out (play-starts x last bytes out)
+            let all : Move = playOf x last bytes (length out) in
+            let on : Playing all last bytes out (running (v .state)) (n .taken) count (length out - 1) first =
+            rw z at (goes-on all last bytes out x 0 0 (length out) out (play-starts x last bytes out)
             (running (v .state)) (n .taken) (line.Plan (v .answer)) row count first (omega arith) prints
             (step-opens x last bytes o ∙ open-good x last bytes n b e w v v-is t g f) (plan-some (v .answer)) (omega arith)) in
-            plays-all held (runs-behind (playOf x last bytes (length out)) last bytes out (v .state) (n .taken) count (length out - 1) first on
-            r held (rw (on .long) at l))
+            plays-all held
+            (runs-behind all last bytes out (v .state) (n .taken) count (length out - 1) first on r held (rw (on .long) at l))
 
 -- ---- playing takes no more than is there
 

@@ -36,8 +36,8 @@ sub-left c = search needs
 is-end-requires : tie.Need-is-end-requires Inv-loop μ-loop
 is-end-requires c κs = search needs
 
-cast-t28 : tie.Need-cast-t28 Inv-loop μ-loop
-cast-t28 c = search needs
+cast-t29 : tie.Need-cast-t29 Inv-loop μ-loop
+cast-t29 c = search needs
 
 put-requires : tie.Need-put-requires Inv-loop μ-loop
 put-requires c κs = search needs
@@ -84,44 +84,51 @@ slice-aggregate-show c = search needs
 show-requires : tie.Need-show-requires Inv-loop μ-loop
 show-requires c κs = search needs
 
-cast-t39 : tie.Need-cast-t39 Inv-loop μ-loop
-cast-t39 c = search needs
+advance-requires : tie.Need-advance-requires Inv-loop μ-loop
+advance-requires c κs = search needs
+
+cast-t40 : tie.Need-cast-t40 Inv-loop μ-loop
+cast-t40 c = search needs
 
 put-requires-2 : tie.Need-put-requires-2 Inv-loop μ-loop
 put-requires-2 c κs = search needs
 
-advance-requires : tie.Need-advance-requires Inv-loop μ-loop
-advance-requires c κs = search needs
-
 add-taken : tie.Need-add-taken Inv-loop μ-loop
 add-taken c =
-    let d = c .before .before .before .before .before .before .before .before .before .before .before .before .before .before in
+    let decoded = c .before .before .before .before .before .before .before .before .before .before .before .before .before .before in
+    let begun = decoded .before .before .before .before .before .before .before in
+    let told = c .before .before .before .before .before .before .before .before .before .before .before .before in
     omega (
       arith,
-      slice-fits _ _ _ _ _ _ _ _ _ (d .before .before .before .before .before .before .before .before .loop .inv)
-          _ (d .before .before .before .before .before .is-end .ensures) _ (d .before .before .before .is-short .ensures) _ (d .decode .ensures)
-          (c .before .before .before .before .before .before .before .before .before .before .before .before .enum-told .given .1),
-      d .before .before .before .before .before .before .before .before .before .before .before .good .1 .0 .0,
+      slice-fits _ _ _ _ _ _ _ _ _ (begun .before .loop .inv) _ (decoded .decode .ensures) (told .enum-told .given .1),
+      begun .before .before .before .before .good .1 .0 .0,
     )
 
 sub-lines : tie.Need-sub-lines Inv-loop μ-loop
 sub-lines c =
-    let d = c .before .before .before .before .before .before .before .before .before .before .before .before .before .before in
-    omega (arith, d .before .before .before .before .before .before .before .loop-test .taken)
+    let decoded = c .before .before .before .before .before .before .before .before .before .before .before .before .before .before in
+    let begun = decoded .before .before .before .before .before .before .before in
+    omega (arith, begun .loop-test .taken)
 
 loop-less : tie.Need-loop-less Inv-loop μ-loop
 loop-less c =
-    let d = c .before .before .before .before .before .before .before .before .before .before .before .before .before .before in
-    omega (arith, d .before .before .before .before .before .before .before .loop-test .taken)
+    let decoded = c .before .before .before .before .before .before .before .before .before .before .before .before .before .before in
+    let begun = decoded .before .before .before .before .before .before .before in
+    omega (arith, begun .loop-test .taken)
 
 loop-again : tie.Need-loop-again Inv-loop μ-loop
 loop-again c =
-    let d = c .before .before .before .before .before .before .before .before .before .before .before .before .before .before in
-    run-slice _ _ _ _ _ _ _ _ _ (d .before .before .before .before .before .before .before .before .loop .inv)
-    _ (d .before .before .before .before .before .is-end .ensures) _ (d .before .before .before .is-short .ensures) _ (d .decode .ensures)
-    (d .before .before .before .before .if2 .left) (d .before .before .if3 .left)
-    (d .before .before .before .before .before .before .if1 .left) (d .before .before .before .before .before .before .before .loop-test .taken) _ _
-    (c .before .before .before .before .before .before .before .before .before .before .before .before .enum-told .given .1) _ _ (c .before .before .before .before .before .before .before .before .before .before .show .ensures) (c .before .before .before .before .put2 .ensures) _ (c .before .advance .ensures)
+    let shown = c .before .before .before .before .before .before .before .before .before .before in
+    let told = shown .before .before in
+    let decoded = told .before .before in
+    let waited = decoded .before .before .before in
+    let asked = waited .before .before in
+    let begun = asked .before .before in
+    run-slice _ _ _ _ _ _ _ _ _ (begun .before .loop .inv) _ (decoded .decode .ensures) _ _ (asked .is-end .ensures)
+    (waited .before .if2 .left) (waited .is-short .ensures) (decoded .before .before .if3 .left) (asked .before .if1 .left)
+    (begun .loop-test .taken) _ _
+    (told .enum-told .given .1) _ _ (shown .show .ensures) _ (c .before .before .before .before .before .before .before .advance .ensures)
+    (c .before .before .put2 .ensures)
 
 enum-known-command : tie.Need-enum-known-command Inv-loop μ-loop
 enum-known-command c = search needs
@@ -140,39 +147,44 @@ put-requires-3 c κs = search needs
 
 add-taken-2 : tie.Need-add-taken-2 Inv-loop μ-loop
 add-taken-2 c =
-    let d = c .before .before .before .before .before .before .before .before .before .before in
+    let decoded = c .before .before .before .before .before .before .before .before .before .before in
+    let begun = decoded .before .before .before .before .before .before .before in
+    let known = c .before .before .before .before .before .before .before .before in
     omega (
       arith,
-      release-fits _ _ _ _ _ _ _ _ _ (d .before .before .before .before .before .before .before .before .loop .inv)
-          _ (d .before .before .before .before .before .is-end .ensures) _ (d .before .before .before .is-short .ensures) _ (d .decode .ensures)
-          _ _ (c .before .before .before .before .before .before .before .before .command .given .1),
-      d .before .before .before .before .before .before .before .before .before .before .before .good .1 .0 .0,
+      release-fits _ _ _ _ _ _ _ _ _ (begun .before .loop .inv) _ (decoded .decode .ensures) _ _ (known .command .given .1),
+      begun .before .before .before .before .good .1 .0 .0,
     )
 
 sub-lines-2 : tie.Need-sub-lines-2 Inv-loop μ-loop
 sub-lines-2 c =
-    let d = c .before .before .before .before .before .before .before .before .before .before in
-    omega (arith, d .before .before .before .before .before .before .before .loop-test .taken)
+    let decoded = c .before .before .before .before .before .before .before .before .before .before in
+    let begun = decoded .before .before .before .before .before .before .before in
+    omega (arith, begun .loop-test .taken)
 
 loop-less-2 : tie.Need-loop-less-2 Inv-loop μ-loop
 loop-less-2 c =
-    let d = c .before .before .before .before .before .before .before .before .before .before in
-    omega (arith, d .before .before .before .before .before .before .before .loop-test .taken)
+    let decoded = c .before .before .before .before .before .before .before .before .before .before in
+    let begun = decoded .before .before .before .before .before .before .before in
+    omega (arith, begun .loop-test .taken)
 
 loop-again-2 : tie.Need-loop-again-2 Inv-loop μ-loop
 loop-again-2 c =
-    let d = c .before .before .before .before .before .before .before .before .before .before in
-    run-release _ _ _ _ _ _ _ _ _ (d .before .before .before .before .before .before .before .before .loop .inv)
-    _ (d .before .before .before .before .before .is-end .ensures) _ (d .before .before .before .is-short .ensures) _ (d .decode .ensures)
-    (d .before .before .before .before .if2 .left) (d .before .before .if3 .left)
-    (d .before .before .before .before .before .before .if1 .left) (d .before .before .before .before .before .before .before .loop-test .taken) _ _
-    _ _ (c .before .before .before .before .before .before .before .before .command .given .1) _ (c .before .before .before .before .before .before .release .ensures) _ (c .before .before .before .put3 .ensures)
+    let released = c .before .before .before .before .before .before in
+    let decoded = released .before .before .before .before in
+    let waited = decoded .before .before .before in
+    let asked = waited .before .before in
+    let begun = asked .before .before in
+    run-release _ _ _ _ _ _ _ _ _ (begun .before .loop .inv) _ (decoded .decode .ensures) _ _ (asked .is-end .ensures)
+    (waited .before .if2 .left) (waited .is-short .ensures) (decoded .before .before .if3 .left) (asked .before .if1 .left)
+    (begun .loop-test .taken) _ _
+    _ _ (released .before .before .command .given .1) _ (released .release .ensures) _ (c .before .before .before .put3 .ensures)
 
 enum-told-2 : tie.Need-enum-told-2 Inv-loop μ-loop
 enum-told-2 c = search needs
 
-cast-t50 : tie.Need-cast-t50 Inv-loop μ-loop
-cast-t50 c = search needs
+cast-t51 : tie.Need-cast-t51 Inv-loop μ-loop
+cast-t51 c = search needs
 
 put-requires-4 : tie.Need-put-requires-4 Inv-loop μ-loop
 put-requires-4 c κs = search needs
@@ -182,16 +194,21 @@ ended-requires-2 c κs = search needs
 
 same-length-4 : tie.Need-same-length-4 Inv-loop μ-loop
 same-length-4 c =
-    omega (arith, c .before .before .before .put4 .kept .1 .1 .0, c .before .before .before .before .before .before .before .before .before .before .before .before .before .before .before .before .before .loop .inv .long)
+    let printed = c .before .before .before in
+    let begun = printed .before .before .before .before .before .before .before .before .before .before .before .before .before in
+    omega (arith, printed .put4 .kept .1 .1 .0, begun .before .loop .inv .long)
 
 returns-4 : tie.Need-returns-4 Inv-loop μ-loop
 returns-4 c =
-    let d = c .before .before .before .before .before .before .before .before .before in
-    run-bad _ _ _ _ _ _ _ _ _ (d .before .before .before .before .before .before .before .before .loop .inv)
-    _ (d .before .before .before .before .before .is-end .ensures) _ (d .before .before .before .is-short .ensures) _ (d .decode .ensures)
-    (d .before .before .before .before .if2 .left) (d .before .before .if3 .left)
-    (d .before .before .before .before .before .before .if1 .left) (d .before .before .before .before .before .before .before .loop-test .taken) _ _
-    (c .before .before .before .before .before .before .before .enum-told2 .given .1) _ (c .before .before .before .put4 .ensures) _ (c .ended2 .ensures)
+    let told = c .before .before .before .before .before .before .before in
+    let decoded = told .before .before in
+    let waited = decoded .before .before .before in
+    let asked = waited .before .before in
+    let begun = asked .before .before in
+    run-bad _ _ _ _ _ _ _ _ _ (begun .before .loop .inv) _ (decoded .decode .ensures) _ _ (asked .is-end .ensures)
+    (waited .before .if2 .left) (waited .is-short .ensures) (decoded .before .before .if3 .left) (asked .before .if1 .left)
+    (begun .loop-test .taken) _ _
+    (told .enum-told2 .given .1) _ (c .before .before .before .put4 .ensures) _ (c .ended2 .ensures)
 
 on-requires-3 : tie.Need-on-requires-3 Inv-loop μ-loop
 on-requires-3 c κs = search needs
@@ -215,7 +232,7 @@ run-spec =
     returns
     sub-left
     is-end-requires
-    cast-t28
+    cast-t29
     put-requires
     ended-requires
     same-length-2
@@ -231,9 +248,9 @@ run-spec =
     enum-told
     slice-aggregate-show
     show-requires
-    cast-t39
-    put-requires-2
     advance-requires
+    cast-t40
+    put-requires-2
     add-taken
     sub-lines
     loop-less
@@ -248,7 +265,7 @@ run-spec =
     loop-less-2
     loop-again-2
     enum-told-2
-    cast-t50
+    cast-t51
     put-requires-4
     ended-requires-2
     same-length-4

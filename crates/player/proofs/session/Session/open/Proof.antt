@@ -64,21 +64,27 @@ sub-run : tie.Need-sub-run
 sub-run c = search needs
 
 run-requires : tie.Need-run-requires
-run-requires c κs = (
-  search reading-fits,
-  omega (arith, c .before .before .before .before .put .ensures .room, c .before .before .before .before .put .kept .1 .1 .0, c .before .before .before .before .before .before .before .before .before .before .before .before .before .before .before .before .if1 .left),
-)
+run-requires c κs =
+    let printed = c .before .before .before .before in
+    let good = printed .before .before .before .before .before .before .before in
+    let read = good .before .before .before .before in (
+      reading-fits _ _ (read .read .ensures) (good .enum-told .given .1),
+      omega (arith, printed .put .ensures .room, printed .put .kept .1 .1 .0, read .before .if1 .left),
+    )
 
 same-length-3 : tie.Need-same-length-3
 same-length-3 c = search needs
 
 returns-5 : tie.Need-returns-5
 returns-5 c =
-    let told = c .before .before .before .before .before .before .before .before .before .before in
-    let read = c .before .before .before .before .before .before .before .before .before .before .before .before .before .before .before .before .before .before in
+    let printed = c .before .before .before .before .before .before .before in
+    let told = printed .before .before .before in
+    let good = told .before .before .before .before in
+    let heard = good .before .before .before in
+    let read = heard .before in
     plays-started _ _ _ _ _ (read .before .if1 .left) _ _ (read .before .before .before .before .pre) (read .read .ensures)
-    (c .before .before .before .before .before .before .before .before .before .before .before .before .before .before .before .before .before .waits .ensures) (c .before .before .before .before .before .before .before .before .before .before .before .before .before .before .before .before .if2 .left) (told .before .before .before .before .enum-told .given .1) _ (told .before .before .start .ensures)
-    (told .enum-told3 .given .1) _ _ _ (c .before .before .before .before .before .before .before .put .ensures) _ (c .before .before .run .ensures)
+    (heard .waits .ensures) (good .before .before .if2 .left) (good .enum-told .given .1) _ (told .before .before .start .ensures)
+    (told .enum-told3 .given .1) _ _ _ (printed .put .ensures) _ (c .before .before .run .ensures)
 
 pub open-spec : {M : Type 1} → statement M
 open-spec =

@@ -1,9 +1,9 @@
--- `player::session::is_short` meets its contract.
+-- `player::run::is_short` meets its contract.
 -- Assumes nothing.
 use Rattle.player.specs.Session.Properties.{and-on}
 use borrow.Author.Needs.{needs}
-use Rattle.player.proofs.session.is_short.Statement.{statement}
-use Rattle.player.proofs.session.is_short.Tie as tie
+use Rattle.player.proofs.run.is_short.Statement.{statement}
+use Rattle.player.proofs.run.is_short.Tie as tie
 
 returns : tie.Need-returns
 returns c = search and-on

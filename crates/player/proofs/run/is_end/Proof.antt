@@ -1,9 +1,9 @@
--- `player::session::is_end` meets its contract.
+-- `player::run::is_end` meets its contract.
 -- Assumes nothing.
 use Rattle.player.specs.Session.Properties.{and-on}
 use borrow.Author.Needs.{needs}
-use Rattle.player.proofs.session.is_end.Statement.{statement}
-use Rattle.player.proofs.session.is_end.Tie as tie
+use Rattle.player.proofs.run.is_end.Statement.{statement}
+use Rattle.player.proofs.run.is_end.Tie as tie
 
 returns : tie.Need-returns
 returns c = search and-on

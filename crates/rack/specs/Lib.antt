@@ -1,4 +1,5 @@
--- The dispatcher: document 01, "Running", and the refusals 8 to 16; document 02 (vii) and (ix). Seat says how a row is found, from what Found says.
+-- The dispatcher: document 01, "Running", and the refusals 8 to 16; document 02 (vii) and (ix). Seat says how a row is found, and
+-- Found what from.
 -- Assumes nothing.
 pub mod State
 pub mod Sums

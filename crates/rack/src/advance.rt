@@ -25,7 +25,7 @@ fn slice_after(slice: u8, frame: u8) -> u8
 impl State {
     // Runs one slice: one slice more gone for each kind ever released, one less left for each that
     // sits, one less in its project's sum, and the next slice.
-    pub fn advance(self) -> Next
+    pub fn advance(mut self) -> Next
         ensures { λ r. ⌜ r ≡ advanceOf self ⌝ }
     {
         let found = self.check();
@@ -53,15 +53,12 @@ impl State {
             let project = project_place(kind);
             sum[project] -= 1;
         }
-        let slice = slice_after(self.slice, plan.frame);
+        self.slice = slice_after(self.slice, plan.frame);
+        self.unit = unit;
+        self.sum = sum;
         Next {
             answer,
-            state: State {
-                plan,
-                slice,
-                unit,
-                sum,
-            },
+            state: self,
         }
     }
 }

@@ -10,7 +10,7 @@ use unit::Unit;
 impl State {
     // Starts a unit of the kind, with that length, by which its project's sum rises. The record
     // order, 10, 16, 12, 13, 14.
-    pub fn release(self, kind: usize, length: u32) -> Next
+    pub fn release(mut self, kind: usize, length: u32) -> Next
         ensures { λ r. ⌜ r ≡ releaseOf self kind length ⌝ }
     {
         let found = self.check();
@@ -29,8 +29,7 @@ impl State {
         }
         let plan = self.plan;
         let kinds = plan.kind;
-        let mut unit = self.unit;
-        let answer = unit[kind].may_start(kinds[kind], length);
+        let answer = self.unit[kind].may_start(kinds[kind], length);
         let Answer::Good = answer else {
             return Next {
                 answer,
@@ -38,21 +37,15 @@ impl State {
             };
         };
         let project = project_place(kinds[kind]);
-        let mut sum = self.sum;
-        unit[kind] = Unit {
+        self.unit[kind] = Unit {
             gone: 0,
             left: length as u16,
             released: true,
         };
-        sum[project] += length as u16;
+        self.sum[project] += length as u16;
         Next {
             answer,
-            state: State {
-                plan,
-                slice: self.slice,
-                unit,
-                sum,
-            },
+            state: self,
         }
     }
 }

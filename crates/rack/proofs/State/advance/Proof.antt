@@ -39,12 +39,13 @@ cast-i-end : tie.Need-cast-i-end Inv-loop μ-loop
 cast-i-end c = search needs
 
 loop-holds : tie.Need-loop-holds Inv-loop μ-loop
-loop-holds c = (
-  omega arith,
-  places-most (c .before .before .before .before .before .before .before .before .before .before .before .before .before .args .self) _ (search ready-opened) refl,
-  record { ready = search ready-opened; seats = search; places = refl },
-  ran-none _,
-)
+loop-holds c =
+    let start = c .before .before .before .before .before .before .before .before .before .before .before .before .before in (
+      omega arith,
+      places-most (start .args .self) _ (search ready-opened) refl,
+      record { ready = search ready-opened; seats = search; places = refl },
+      ran-none _,
+    )
 
 mul-kind : tie.Need-mul-kind Inv-loop μ-loop
 mul-kind c = search needs
@@ -90,8 +91,9 @@ array-read-sum c = omega arith
 
 sub-sum : tie.Need-sub-sum Inv-loop μ-loop
 sub-sum c =
-    let here = c .before .before .before .before .before .before .loop in
-    ran-sum (c .before .before .before .before .before .before .before .before .before .before .before .before .before .before .before .before .before .before .before .before .args .self) _ _ (here .inv .2) (here .i) (search) _ _ (here .inv .3) (search)
+    let here = c .before .before .before .before .before .before in
+    let start = here .before .before .before .before .before .before .before .before .before .before .before .before .before .before in
+    ran-sum (start .args .self) _ _ (here .loop .inv .2) (here .loop .i) (search) _ _ (here .loop .inv .3) (search)
     (c .project-place .result) (c .project-place .ensures .0)
 
 array-write-sum : tie.Need-array-write-sum Inv-loop μ-loop
@@ -105,11 +107,12 @@ loop-less-2 c = search needs
 
 loop-again-2 : tie.Need-loop-again-2 Inv-loop μ-loop
 loop-again-2 c =
-    let here = c .before .before .before .before .before .before .loop in (
+    let here = c .before .before .before .before .before .before in
+    let start = here .before .before .before .before .before .before .before .before .before .before .before .before .before .before in (
       omega arith,
       search,
       search,
-      ran-one (c .before .before .before .before .before .before .before .before .before .before .before .before .before .before .before .before .before .before .before .before .args .self) _ _ (here .inv .2) (here .i) (search) _ _ (here .inv .3) (search)
+      ran-one (start .args .self) _ _ (here .loop .inv .2) (here .loop .i) (search) _ _ (here .loop .inv .3) (search)
           (c .project-place .result) (c .project-place .ensures .0) _ _ refl (search),
     )
 

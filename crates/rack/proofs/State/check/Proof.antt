@@ -79,12 +79,17 @@ loop-less c = omega arith
 loop-again : tie.Need-loop-again Inv-loop μ-loop
 loop-again c =
     let told = c .before .before .before in
-    let fits = told-yes _ (told .fits-place .result) (place-found (c .before .before .before .before .before .before .before .before .before .before .before .before .before .before .before .before .before .before .before .args .self) (c .before .before .before .before .before .before .before .before .loop .i) (told .before .in-use .result)
+    let here = told .before .before .before .before .before in
+    let start = here .before .before .before .before .before .before .before .before .before .before .before in
+    let fits = told-yes _ (told .fits-place .result) (place-found (start .args .self) (here .loop .i) (told .before .in-use .result)
     (told .fits-place .result) (told .before .in-use .ensures) (told .fits-place .ensures)) (c .before .before .if2 .left) in
-    (omega arith, looked-same _ _ _ _ _ (c .before .before .before .before .before .before .before .before .loop .inv .1) (omega arith) fits (search))
+    (omega arith, looked-same _ _ _ _ _ (here .loop .inv .1) (omega arith) fits (search))
 
 add-works : tie.Need-add-works Inv-loop μ-loop
-add-works c = omega (arith, looked-project (c .before .before .before .before .before .before .before .before .before .before .before .before .before .before .before .before .before .before .before .before .args .self) (c .before .before .before .before .before .before .before .before .before .loop .i) _ _ _ (c .before .before .before .before .before .before .before .before .before .loop .inv .1) (omega arith))
+add-works c =
+    let here = c .before .before .before .before .before .before .before .before .before in
+    let start = here .before .before .before .before .before .before .before .before .before .before .before in
+    omega (arith, looked-project (start .args .self) (here .loop .i) _ _ _ (here .loop .inv .1) (omega arith))
 
 array-write-works : tie.Need-array-write-works Inv-loop μ-loop
 array-write-works c = search needs
@@ -122,9 +127,11 @@ loop-less-2 c = omega arith
 loop-again-2 : tie.Need-loop-again-2 Inv-loop μ-loop
 loop-again-2 c =
     let told = c .before .before .before .before .before .before .before in
-    let fits = told-yes _ (told .fits-place .result) (place-found (c .before .before .before .before .before .before .before .before .before .before .before .before .before .before .before .before .before .before .before .before .before .before .before .args .self) (c .before .before .before .before .before .before .before .before .before .before .before .before .loop .i) (told .before .in-use .result)
+    let here = told .before .before .before .before .before in
+    let start = here .before .before .before .before .before .before .before .before .before .before .before in
+    let fits = told-yes _ (told .fits-place .result) (place-found (start .args .self) (here .loop .i) (told .before .in-use .result)
     (told .fits-place .result) (told .before .in-use .ensures) (told .fits-place .ensures)) (c .before .before .before .before .before .before .if2 .left) in
-    (omega arith, looked-more _ _ _ _ _ (c .before .before .before .before .before .before .before .before .before .before .before .before .loop .inv .1) (omega arith) fits (search) _ _ (search) (search))
+    (omega arith, looked-more _ _ _ _ _ (here .loop .inv .1) (omega arith) fits (search) _ _ (search) (search))
 
 cast-projects : tie.Need-cast-projects Inv-loop μ-loop
 cast-projects c = search needs

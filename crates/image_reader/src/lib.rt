@@ -37,8 +37,8 @@ fn wide(x: u8) -> u16
     x as u16
 }
 
-// A field of one byte. Each field of a place is read by itself: to take a place as one number and
-// divide it costs twice the time.
+// A field of one byte. Each field of a place is read by itself: a place read as one number, which is
+// then divided, takes the compiler more instructions.
 fn byte(s: &[u8], at: usize) -> u8
     requires { ⌜ at + 1 ≤ length (now s) ⌝ }
     ensures { λ r. ⌜ (r ≡ numberTo 1 (drop at (now (s .entry)))) × (r < 256) ⌝ }

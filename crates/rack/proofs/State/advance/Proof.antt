@@ -1,6 +1,6 @@
 -- `rack::State::advance` meets its contract.
 -- Assumes nothing.
-use mathlib.Core.Path.{_≡_, refl}
+use mathlib.Core.Path.{refl}
 use Prim.Native.Nat.{_≤_, _-_}
 use native.Mathlib.Omega.{arith}
 use Rattle.rack.specs.State.Properties.{next-kept, next-moved}

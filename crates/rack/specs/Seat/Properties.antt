@@ -30,7 +30,6 @@ use Rattle.seats.specs.Seats.Properties.{seats-found}
 use Rattle.rack.specs.declared.State.{State}
 use Rattle.rack.specs.State.{unitOf, kindAt, kindPlaces, projectPlaces, InUse, ProjectInUse}
 use Rattle.rack.specs.Form.{Ready}
-use Rattle.rack.specs.Form.Properties.{look-project}
 use Rattle.rack.specs.View.{cardsHeld, lowestCard, endCard, rankOf}
 use Rattle.rack.specs.View.Properties.{lowest-held}
 use Rattle.rack.specs.Rank.{until, working, active, outranks, viewOf, ownView, rank, served}

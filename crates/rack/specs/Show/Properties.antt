@@ -15,7 +15,7 @@ use Rattle.answer.specs.declared.Refusal.{Refusal}
 use Rattle.answer.specs.Answer.Properties.{andThen-left, andThen-right, refuse-good, opened-no, opened-on}
 use Rattle.answer.specs.Answer.{bare}
 use Rattle.rack.specs.declared.State.{State}
-use Rattle.rack.specs.Form.{ready, Ready}
+use Rattle.rack.specs.Form.{ready}
 use Rattle.rack.specs.Form.Properties.{ready-says, ready-of}
 use Rattle.rack.specs.Row.{rowOf, rowOver}
 use Rattle.rack.specs.Row.Properties.{row-size, over-take}

@@ -1,6 +1,6 @@
 -- `rack::State::advance` meets its contract.
 -- Assumes nothing.
-use mathlib.Core.Path.{_≡_, refl}
+use mathlib.Core.Path.{refl}
 use Prim.Native.Nat.{_≤_, _-_}
 use native.Mathlib.Omega.{arith}
 use Rattle.rack.specs.State.Properties.{next-kept, next-moved}
@@ -78,7 +78,14 @@ loop-less : tie.Need-loop-less Inv-loop μ-loop
 loop-less c = search needs
 
 loop-again : tie.Need-loop-again Inv-loop μ-loop
-loop-again c = (omega arith, search, search, search ran-same)
+loop-again c =
+    let here = c .before .before .before .before .before in
+    let start = here .before .before .before .before .before .before .before .before .before .before .before .before .before .before in (
+      omega arith,
+      search,
+      search,
+      ran-same (start .args .self) _ _ (here .loop .inv .2) (here .loop .i) (search) _ _ (here .loop .inv .3) _ _ refl (search) (search),
+    )
 
 project-place-requires : tie.Need-project-place-requires Inv-loop μ-loop
 project-place-requires c κs = search ran-project

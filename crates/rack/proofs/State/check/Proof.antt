@@ -78,11 +78,12 @@ loop-less c = omega arith
 
 loop-again : tie.Need-loop-again Inv-loop μ-loop
 loop-again c =
-    let told = c .before .before .before in
+    let tested = c .before .before in
+    let told = tested .before in
     let here = told .before .before .before .before .before in
     let start = here .before .before .before .before .before .before .before .before .before .before .before in
     let fits = told-yes _ (told .fits-place .result) (place-found (start .args .self) (here .loop .i) (told .before .in-use .result)
-    (told .fits-place .result) (told .before .in-use .ensures) (told .fits-place .ensures)) (c .before .before .if2 .left) in
+    (told .fits-place .result) (told .before .in-use .ensures) (told .fits-place .ensures)) (tested .if2 .left) in
     (omega arith, looked-same _ _ _ _ _ (here .loop .inv .1) (omega arith) fits (search))
 
 add-works : tie.Need-add-works Inv-loop μ-loop
@@ -126,11 +127,12 @@ loop-less-2 c = omega arith
 
 loop-again-2 : tie.Need-loop-again-2 Inv-loop μ-loop
 loop-again-2 c =
-    let told = c .before .before .before .before .before .before .before in
+    let tested = c .before .before .before .before .before .before in
+    let told = tested .before in
     let here = told .before .before .before .before .before in
     let start = here .before .before .before .before .before .before .before .before .before .before .before in
     let fits = told-yes _ (told .fits-place .result) (place-found (start .args .self) (here .loop .i) (told .before .in-use .result)
-    (told .fits-place .result) (told .before .in-use .ensures) (told .fits-place .ensures)) (c .before .before .before .before .before .before .if2 .left) in
+    (told .fits-place .result) (told .before .in-use .ensures) (told .fits-place .ensures)) (tested .if2 .left) in
     (omega arith, looked-more _ _ _ _ _ (here .loop .inv .1) (omega arith) fits (search) _ _ (search) (search))
 
 cast-projects : tie.Need-cast-projects Inv-loop μ-loop

@@ -5,7 +5,7 @@
 // state that follows both go by the seats.
 //
 // Of n kinds, a of them with slices left, on m cards for p projects, that is 16a steps for the ranks
-// and 4n + p + m for the rest.
+// and 3n + p + m for the rest.
 ghost use mathlib.Core.Path.{_≡_};
 ghost use Prim.Native.Nat.{ℕ, _≤_, _<_};
 ghost use lib.ListN.{length};

@@ -1,7 +1,8 @@
 // Advancing: the state that follows is handed back.
 //
-// Of n kinds, a of them with slices left, for p projects, that is 16a steps for the ranks, none of
-// them a branch, and 3n + p for the rest, after a check of 40 + n + 2p.
+// Of n kinds, a of them with slices left and a card to their project, for p projects, that is at most
+// 16(a + p) steps for the ranks, none of them a branch, and 3n + p for the rest, after a check of
+// 40 + n + 2p.
 ghost use mathlib.Core.Path.{_≡_};
 ghost use Prim.Native.Nat.{_+_, _%_, _<_};
 ghost use Rattle.rack.specs.Advance.{advanceOf};

@@ -4,8 +4,8 @@
 // kind has its seat: the card that it takes, plus 1, or 0 where it is not served. The row and the
 // state that follows both go by the seats.
 //
-// Of n kinds, a of them with slices left, on m cards for p projects, that is 16a steps for the ranks
-// and 3n + p + m for the rest.
+// Of n kinds, a of them with slices left and a card to their project, on m cards for p projects, that
+// is at most 16(a + p) steps for the ranks and 3n + p + m for the rest.
 ghost use mathlib.Core.Path.{_≡_};
 ghost use Prim.Native.Nat.{ℕ, _≤_, _<_};
 ghost use lib.ListN.{length};

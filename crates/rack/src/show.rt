@@ -1,7 +1,8 @@
 // A showing: the row of the slice to come is written, and the state kept.
 //
-// Of n kinds, a of them with slices left, on m cards for p projects, that is 16a steps for the ranks,
-// none of them a branch, and 3n + p + m for the rest, after a check of 40 + n + 2p.
+// Of n kinds, a of them with slices left and a card to their project, on m cards for p projects, that
+// is at most 16(a + p) steps for the ranks, none of them a branch, and 3n + p + m for the rest, after
+// a check of 40 + n + 2p.
 ghost use mathlib.Core.Path.{_≡_};
 ghost use Rattle.rack.specs.Show.{Shows};
 use crate::State;

@@ -121,19 +121,15 @@ playOf x last bytes room = linesOf room x last bytes room
 abbrev pub progressOf : Move → Progress
 progressOf m = record { session = m .session; taken = m .taken; count = length (m .text) }
 
--- playing's whole outcome: the text stands at the front of the buffer, and what is past it is kept
-pub record Plays (x : Session) (last : Bool) (bytes out : List ℕ) (r : Progress) (held : List ℕ) : Type 0 where
-  pub result : r ≡ progressOf (playOf x last bytes (length out))
-  pub buffer : held ≡ playOf x last bytes (length out) .text ++ drop (length (playOf x last bytes (length out) .text)) out
-  pub room : r .count ≤ length out
-
--- ---- the parts of playing
-
 -- a move's whole outcome: its text stands at the front of the buffer, and what is past it is kept
 pub record Leaves (m : Move) (out : List ℕ) (r : Progress) (held : List ℕ) : Type 0 where
   pub result : r ≡ progressOf m
   pub buffer : held ≡ m .text ++ drop (length (m .text)) out
   pub room : r .count ≤ length out
+
+-- playing's
+abbrev pub Plays : Session → Bool → List ℕ → List ℕ → Progress → List ℕ → Type 0
+Plays x last bytes out = Leaves (playOf x last bytes (length out)) out
 
 -- the lines of the commands from a state on, behind the bytes that are taken and the text that is printed: at most so many
 abbrev pub runFrom : State → Bool → List ℕ → ℕ → List ℕ → ℕ → ℕ → Move

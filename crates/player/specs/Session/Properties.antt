@@ -516,11 +516,8 @@ reading-fits n bytes e g = rw e (read-whole bytes (rw e at g))
 -- ---- playing, by the stage
 
 module _ (x : Session) (last : Bool) (bytes out : List ℕ) (r : Progress) where
-  plays-all : (held : List ℕ) → Leaves (playOf x last bytes (length out)) out r held → Plays x last bytes out r held
-  plays-all held l = record { result = l .result; buffer = l .buffer; room = l .room }
-
   plays-as : (m : Move) (held : List ℕ) → playOf x last bytes (length out) ≡ m → Leaves m out r held → Plays x last bytes out r held
-  plays-as m held e l = plays-all held (rw e l)
+  plays-as m held e l = rw e l
 
   module _ (r-is : r ≡ record { session = x; taken = 0; count = 0 }) where
     plays-none : playOf x last bytes (length out) ≡ stay x → Plays x last bytes out r out
@@ -589,8 +586,7 @@ module _ (x : Session) (last : Bool) (bytes out : List ℕ) (r : Progress) where
             rw z at (goes-on all last bytes out x 0 0 (length out) out (play-starts x last bytes out)
             (running (v .state)) (n .taken) (line.Plan (v .answer)) row count first (omega arith) prints
             (step-opens x last bytes o ∙ open-good x last bytes n b e w v v-is t g f) (plan-some (v .answer)) (omega arith)) in
-            plays-all held
-            (runs-behind all last bytes out (v .state) (n .taken) count (length out - 1) first on r held (rw (on .long) at l))
+            runs-behind all last bytes out (v .state) (n .taken) count (length out - 1) first on r held (rw (on .long) at l)
 
 -- ---- playing takes no more than is there
 

@@ -5,7 +5,7 @@ use std::env;
 use std::path::Path;
 use std::process::{exit, Command};
 
-/// The library's name, as the crate it is made from.
+/// The library's name, as `.ci/library` has it.
 const LIBRARY: &str = "parchbeetle";
 
 fn main() {
@@ -20,7 +20,7 @@ fn main() {
     let library = Path::new(&folder).join(&file);
     if !library.is_file() {
         stop(&format!(
-            "{folder} has no {file}; `rt staticlib {LIBRARY}` makes it in target/staticlib"
+            "{folder} has no {file}; `.ci/library` makes it in target/staticlib"
         ));
     }
     println!("cargo:rerun-if-changed={}", library.display());

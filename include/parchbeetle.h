@@ -3,7 +3,7 @@
  *
  * Plain C99, Linux x86-64. To build the library and a program over it:
  *
- *   rt staticlib parchbeetle
+ *   .ci/library
  *   cc -std=c99 -Iinclude samples/host.c -Ltarget/staticlib -lparchbeetle -o host
  *
  * samples/host.c is a whole program. No function keeps a pointer, allocates, or has

@@ -15,7 +15,7 @@ use std::time::Instant;
 
 const USAGE: &str = "\
 usage: compare --play PLAYER [--seed N] [--count N] [--flips N] [--runs N] [--streams N] [--one-in N] [--numbers]
-       compare --self-test [--seed N]
+       compare --self-test [--seed N] [--numbers]
        compare --again 'CALL' | --again 'stream HEX' --play PLAYER
 
   --play PLAYER the words that start the proved player, an emulator's before its own; not needed with --streams 0
@@ -25,7 +25,7 @@ usage: compare --play PLAYER [--seed N] [--count N] [--flips N] [--runs N] [--st
   --runs N      runs from a fresh start that are held to the old rules, one in four over thousands of slices (400)
   --streams N   generated streams, beside the fixed ones (20000); 0: no streams at all
   --one-in N    of the fixed streams one in N, beside those that document 01 gives or that fail (1)
-  --numbers     also shows how often each number was given back
+  --numbers     also shows how often each number was given back; with --self-test, how soon the fixed cases alone find each fault
   --self-test   compares the second program with copies that have a fault; each must be found
   --again       runs a call or a stream of a printed difference once more
 
@@ -111,7 +111,7 @@ fn run(arguments: &Arguments) -> io::Result<Result<u8, String>> {
         return Ok(Ok(0));
     }
     if arguments.self_test {
-        return Ok(Ok(u8::from(!self_test(arguments.seed)?)));
+        return Ok(Ok(u8::from(!self_test(arguments.seed, arguments.numbers)?)));
     }
     if let Some(line) = &arguments.again {
         return again(line, arguments);
@@ -206,8 +206,12 @@ fn again(line: &str, arguments: &Arguments) -> io::Result<Result<u8, String>> {
     Ok(Ok(u8::from(one != other)))
 }
 
-/// Each fault must be found, by the fixed and by the generated cases; without one, nothing may differ.
-fn self_test(seed: u64) -> io::Result<bool> {
+/// After how many cases a fault is found, if it is; none where these cases were not tried.
+type Tried = Option<Option<u64>>;
+
+/// Each fault must be found; without one, nothing may differ. The fixed and the generated cases together are one comparison: most
+/// faults are found soonest by the generated ones, and the fixed ones are tried where these find nothing, or on every fault.
+fn self_test(seed: u64, on_every_fault: bool) -> io::Result<bool> {
     const RECORDS: u64 = 100_000;
     const STREAMS: u64 = 2_000;
     const FLIPS: u64 = 25;
@@ -223,27 +227,29 @@ fn self_test(seed: u64) -> io::Result<bool> {
             runs,
             seed,
         };
-        [part(true, 0, 0, 0), part(false, generated, FLIPS, RUNS)]
+        (part(true, 0, 0, 0), part(false, generated, FLIPS, RUNS))
     };
-    let mut tell = |name: &str, what: &str, unit: &str, after: [Option<u64>; 2]| {
-        // The fixed and the generated cases together are one comparison.
-        let found = after.iter().any(Option::is_some);
+    let mut tell = |name: &str, what: &str, unit: &str, fixed: Tried, generated: Option<u64>| {
+        let found = generated.or(fixed.flatten()).is_some();
         good &= found;
-        let said = after.map(|after| after.map_or("not".to_string(), |count| count.to_string()));
+        let said = |count: Option<u64>| count.map_or("not".to_string(), |count| count.to_string());
         println!(
             "{} {name:<16} by fixed {unit} {:>6}, by generated {:>6}  ({what})",
             if found { "found    " } else { "NOT FOUND" },
-            said[0],
-            said[1],
+            fixed.map_or("-".to_string(), said),
+            said(generated),
         );
     };
 
     for (fault, name, what) in RECORD_FAULTS {
-        let after = parts(RECORDS).map(|part| {
+        let found = |part| {
             let mut tally = Tally::default();
             records(&Faulty(fault), part, &mut tally).map(|_| tally.records)
-        });
-        tell(name, what, "records", after);
+        };
+        let (fixed, generated) = parts(RECORDS);
+        let generated = found(generated);
+        let fixed = (on_every_fault || generated.is_none()).then(|| found(fixed));
+        tell(name, what, "records", fixed, generated);
     }
     let this = std::env::current_exe()?;
     let faulty_player = |name: &str| Program {
@@ -251,12 +257,15 @@ fn self_test(seed: u64) -> io::Result<bool> {
         arguments: vec!["--play-with-fault".to_string(), name.to_string()],
     };
     for (_, name, what) in STREAM_FAULTS {
-        let mut after = [None; 2];
-        for (after, part) in after.iter_mut().zip(parts(STREAMS)) {
+        let found = |part| -> io::Result<Option<u64>> {
             let mut tally = Tally::default();
-            *after = streams(&faulty_player(name), part, &mut tally)?.map(|_| tally.streams);
-        }
-        tell(name, what, "streams", after);
+            Ok(streams(&faulty_player(name), part, &mut tally)?.map(|_| tally.streams))
+        };
+        let (fixed, generated) = parts(STREAMS);
+        let generated = found(generated)?;
+        let wanted = on_every_fault || generated.is_none();
+        let fixed = wanted.then(|| found(fixed)).transpose()?;
+        tell(name, what, "streams", fixed, generated);
     }
 
     // Without a fault the copy agrees, so each fault above was found for what it is.

@@ -9,7 +9,7 @@ use lib.ListN.{replicate}
 use Rattle.answer.specs.Word.{told}
 use Rattle.rack.specs.declared.State.{State}
 use Rattle.rack.specs.Show.{bufferShown}
-use Rattle.parchbeetle.specs.Exports.{Releases, ShowsRow, Advances}
+use Rattle.rack_calls.specs.Exports.{Releases, ShowsRow, Advances}
 use Rattle.demands.specs.Run.{Call, show, advance, release, nextAfter}
 pub mod Properties
 

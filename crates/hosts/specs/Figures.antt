@@ -28,7 +28,7 @@ use Rattle.images.specs.Image.{planSize, planFrom}
 use Rattle.images.specs.Lent.{room}
 use Rattle.images.specs.FiguresImage.{numberWidths, sliceWidths, figuresRows, figuresSize, supplyPlace, slicePlace, figuresValues}
 use Rattle.images.specs.FiguresImage.{figuresImage}
-use Rattle.parchbeetle.specs.Exports.{kindFiguresAnswer, WritesFigures}
+use Rattle.verdict_calls.specs.Exports.{kindFiguresAnswer, WritesFigures}
 use Rattle.hosts.specs.Words.{figures-listed, figures-decodes}
 
 -- a call that gave back the number 0

@@ -13,7 +13,7 @@ use Rattle.answer.specs.Numbers.{among}
 use Rattle.codec.specs.Bytes.{AreBytes}
 use Rattle.rack.specs.State.{unitOf}
 use Rattle.images.specs.Image.{stateSize, unitPlace, sumPlace, stateFrom}
-use Rattle.parchbeetle.specs.Exports.{Releases, ShowsRow, Advances}
+use Rattle.rack_calls.specs.Exports.{Releases, ShowsRow, Advances}
 use Rattle.demands.specs.Run.{Call}
 use Rattle.demands.specs.Flipped.{ownNumbers, sumTold, leftTold}
 use Rattle.hosts.specs.Chain.{Seen, Called}

@@ -33,8 +33,8 @@ use Rattle.images.specs.Lent.{room}
 use Rattle.images.specs.Typed.{StateTyped}
 use Rattle.images.specs.Typed.Properties.{plan-found-typed, start-typed}
 use Rattle.images.specs.RoundTrip.{state-round-trip}
-use Rattle.parchbeetle.specs.Exports.{freshAnswer, Starts, Releases, ShowsRow, Advances}
-use Rattle.parchbeetle.specs.OneOutcome.{parchbeetle-show-one-outcome}
+use Rattle.rack_calls.specs.Exports.{freshAnswer, Starts, Releases, ShowsRow, Advances}
+use Rattle.rack_calls.specs.OneOutcome.{parchbeetle-show-one-outcome}
 use Rattle.demands.specs.Run.{Call, show, advance, release, nextAfter, runFrom, after, slicesOf}
 use Rattle.demands.specs.Run.Properties.{run-plan}
 use Rattle.demands.specs.Named.{namesKind, namesProject, bytesIn, bytesNaming, Orderly}

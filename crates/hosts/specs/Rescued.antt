@@ -20,7 +20,7 @@ use Rattle.images.specs.Lent.{room}
 use Rattle.images.specs.Typed.{PlanTyped}
 use Rattle.images.specs.Typed.Properties.{passes-typed}
 use Rattle.images.specs.RoundTrip.{plan-round-trip}
-use Rattle.parchbeetle.specs.Exports.{rescuesAnswer, RescuesPlan}
+use Rattle.new_plan_calls.specs.Exports.{rescuesAnswer, RescuesPlan}
 
 module _ (bytes plan list : List ℕ) (r : ℕ) (after later : List ℕ) (done : RescuesPlan bytes plan list r after later)
     (good : rescuesAnswer bytes plan list ≡ Good) where

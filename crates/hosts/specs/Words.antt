@@ -33,14 +33,14 @@ use Rattle.demands.specs.Numbers.{rescueOrder, showOrder, advanceOrder, rescue-
 use Rattle.demands.specs.Numbers.{check-numbers, read-numbers, write-numbers, slot-table-numbers, judge-numbers, smallest-numbers}
 use Rattle.demands.specs.Numbers.{buildOrder, build-numbers, start-numbers, release-numbers, show-numbers, advance-numbers}
 use Rattle.demands.specs.Numbers.{figuresOrder, figures-numbers}
-use Rattle.parchbeetle.specs.Outcome.{Outcome}
-use Rattle.parchbeetle.specs.Exports.{checkAnswer, readsAnswer, writesAnswer, slotsAnswer, verdictAnswer, budgetAnswer, buildsAnswer}
-use Rattle.parchbeetle.specs.Exports.{rescuesAnswer, freshAnswer, RescuesPlan}
-use Rattle.parchbeetle.specs.Exports.{stateAnswer, releasesAnswer, showsAnswer, advancesAnswer}
-use Rattle.parchbeetle.specs.Exports.{Reads, WritesBytes, WritesSlots, Judges, budgetTold}
-use Rattle.parchbeetle.specs.Exports.{Builds, Starts, Releases, ShowsRow, Advances}
-use Rattle.parchbeetle.specs.Exports.{kindFiguresAnswer, WritesFigures}
-use Rattle.parchbeetle.specs.Exports.Properties.{read-count, good-size, good-table, budget-most, figures-most}
+use Rattle.images.specs.Outcome.{Outcome}
+use Rattle.plan_calls.specs.Exports.{checkAnswer, readsAnswer, writesAnswer, slotsAnswer, Reads, WritesBytes, WritesSlots}
+use Rattle.new_plan_calls.specs.Exports.{buildsAnswer, rescuesAnswer, RescuesPlan, Builds}
+use Rattle.verdict_calls.specs.Exports.{verdictAnswer, budgetAnswer, Judges, budgetTold, kindFiguresAnswer, WritesFigures}
+use Rattle.rack_calls.specs.Exports.{freshAnswer, stateAnswer, releasesAnswer, showsAnswer, advancesAnswer}
+use Rattle.rack_calls.specs.Exports.{Starts, Releases, ShowsRow, Advances}
+use Rattle.plan_calls.specs.Exports.Properties.{read-count, good-size, good-table}
+use Rattle.verdict_calls.specs.Exports.Properties.{budget-most, figures-most}
 
 -- ---- the numbers that each function lists
 

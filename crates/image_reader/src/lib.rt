@@ -1,7 +1,7 @@
 // A plan or a state found in an image. Offsets and widths are those that crate `images` states. Every
 // buffer is answered, whatever its length and its bytes.
 ghost use mathlib.Core.Path.{_≡_};
-ghost use Prim.Native.Nat.{_+_, _≤_};
+ghost use Prim.Native.Nat.{_+_, _≤_, _<_};
 ghost use lib.ListN.{length, drop};
 ghost use Rattle.codec.specs.Bytes.{numberTo};
 ghost use Rattle.answer.specs.declared.Answer.the-variants.{No};
@@ -12,19 +12,12 @@ ghost use Rattle.images.specs.Image.{sumFrom};
 ghost use Rattle.images.specs.Image.{projectsFrom, kindsFrom, unitsFrom, sumsFrom, planFrom, stateFrom, releasedTold};
 ghost use Rattle.images.specs.Lent.{planFound, stateFound};
 use answer::Answer;
-use images::BITS_8;
-use images::BITS_16;
-use images::BITS_24;
-use images::BITS_32;
-use images::BITS_48;
-use images::COUNTS;
 use images::KIND;
 use images::KINDS_AT;
 use images::PLAN;
 use images::PROJECT;
 use images::PROJECTS_AT;
 use images::PlanFound;
-use images::SLICE;
 use images::SLICE_AT;
 use images::STATE;
 use images::SUM;
@@ -38,24 +31,36 @@ use plan::Project;
 use rack::State;
 use unit::Unit;
 
-// The number that so many bytes of an image say. The part handed on ends with them, so that the
-// compiler knows the length of the loop over it.
-fn fields(s: &[u8], at: usize, count: usize) -> u64
-    requires { ⌜ (at + count ≤ length (now s)) × (count ≤ 8) ⌝ }
-    ensures { λ r. ⌜ r ≡ numberTo count (drop at (now (s .entry))) ⌝ }
+fn wide(x: u8) -> u16
+    ensures { λ r. ⌜ (r ≡ x) × (r < 256) ⌝ }
 {
-    let end = at + count;
-    codec::number(&s[at..end], count)
+    x as u16
+}
+
+// A field of one byte. Each field of a place is read by itself: a place read as one number, which is
+// then divided, takes the compiler more instructions.
+fn byte(s: &[u8], at: usize) -> u8
+    requires { ⌜ at + 1 ≤ length (now s) ⌝ }
+    ensures { λ r. ⌜ (r ≡ numberTo 1 (drop at (now (s .entry)))) × (r < 256) ⌝ }
+{
+    s[at]
+}
+
+// A field of two bytes.
+fn two_bytes(s: &[u8], at: usize) -> u16
+    requires { ⌜ at + 2 ≤ length (now s) ⌝ }
+    ensures { λ r. ⌜ (r ≡ numberTo 2 (drop at (now (s .entry)))) × (r < 65536) ⌝ }
+{
+    wide(s[at]) * 256 + wide(s[at + 1])
 }
 
 fn project_from(s: &[u8], at: usize) -> Project
     requires { ⌜ at + 3 ≤ length (now s) ⌝ }
     ensures { λ r. ⌜ r ≡ projectFrom (drop at (now (s .entry))) ⌝ }
 {
-    let fields = fields(s, at, PROJECT);
     Project {
-        ceiling: (fields / BITS_16 % BITS_8) as u8,
-        budget: (fields % BITS_16) as u16,
+        ceiling: byte(s, at),
+        budget: two_bytes(s, at + 1),
     }
 }
 
@@ -63,12 +68,11 @@ fn kind_from(s: &[u8], at: usize) -> Kind
     requires { ⌜ at + 7 ≤ length (now s) ⌝ }
     ensures { λ r. ⌜ r ≡ kindFrom (drop at (now (s .entry))) ⌝ }
 {
-    let fields = fields(s, at, KIND);
     Kind {
-        project: (fields / BITS_48 % BITS_8) as u8,
-        separation: (fields / BITS_32 % BITS_16) as u16,
-        deadline: (fields / BITS_16 % BITS_16) as u16,
-        length: (fields % BITS_16) as u16,
+        project: byte(s, at),
+        separation: two_bytes(s, at + 1),
+        deadline: two_bytes(s, at + 3),
+        length: two_bytes(s, at + 5),
     }
 }
 
@@ -91,7 +95,12 @@ fn kinds_from(s: &[u8]) -> [Kind; Plan::KINDS]
     let none = Plan::empty();
     let mut kind = none.kind;
     for i in 0..Plan::KINDS {
-        kind[i] = kind_from(s, KINDS_AT + KIND * i);
+        // field by field, since a kind stored as a whole is first put together in one register
+        let read = kind_from(s, KINDS_AT + KIND * i);
+        kind[i].project = read.project;
+        kind[i].separation = read.separation;
+        kind[i].deadline = read.deadline;
+        kind[i].length = read.length;
     }
     kind
 }
@@ -100,14 +109,13 @@ fn plan_from(s: &[u8]) -> Plan
     requires { ⌜ planSize ≤ length (now s) ⌝ }
     ensures { λ r. ⌜ r ≡ planFrom (now (s .entry)) ⌝ }
 {
-    let counts = fields(s, 0, COUNTS);
-    let project = projects_from(s);
     let kind = kinds_from(s);
+    let project = projects_from(s);
     Plan {
-        cards: (counts / BITS_24 % BITS_8) as u8,
-        projects: (counts / BITS_16 % BITS_8) as u8,
-        kinds: (counts / BITS_8 % BITS_8) as u8,
-        frame: (counts % BITS_8) as u8,
+        cards: byte(s, 0),
+        projects: byte(s, 1),
+        kinds: byte(s, 2),
+        frame: byte(s, 3),
         project,
         kind,
     }
@@ -117,18 +125,17 @@ fn slice_from(s: &[u8]) -> u8
     requires { ⌜ stateSize ≤ length (now s) ⌝ }
     ensures { λ r. ⌜ r ≡ sliceFrom (drop slicePlace (now (s .entry))) ⌝ }
 {
-    (fields(s, SLICE_AT, SLICE) % BITS_8) as u8
+    byte(s, SLICE_AT)
 }
 
 fn unit_from(s: &[u8], at: usize) -> Unit
     requires { ⌜ at + 5 ≤ length (now s) ⌝ }
     ensures { λ r. ⌜ r ≡ unitFrom (drop at (now (s .entry))) ⌝ }
 {
-    let fields = fields(s, at, UNIT);
     Unit {
-        gone: (fields / BITS_16 % BITS_16) as u16,
-        left: (fields % BITS_16) as u16,
-        released: fields / BITS_32 % BITS_8 == 1,
+        gone: two_bytes(s, at + 1),
+        left: two_bytes(s, at + 3),
+        released: byte(s, at) == 1,
     }
 }
 
@@ -147,7 +154,7 @@ fn sum_from(s: &[u8], at: usize) -> u16
     requires { ⌜ at + 2 ≤ length (now s) ⌝ }
     ensures { λ r. ⌜ r ≡ sumFrom (drop at (now (s .entry))) ⌝ }
 {
-    (fields(s, at, SUM) % BITS_16) as u16
+    two_bytes(s, at)
 }
 
 fn sums_from(s: &[u8]) -> [u16; Plan::PROJECTS]
@@ -161,11 +168,11 @@ fn sums_from(s: &[u8]) -> [u16; Plan::PROJECTS]
     sum
 }
 
-fn state_from(s: &[u8]) -> State
-    requires { ⌜ stateSize ≤ length (now s) ⌝ }
+// The state whose plan was read.
+fn state_from(plan: Plan, s: &[u8]) -> State
+    requires { ⌜ (stateSize ≤ length (now s)) × (plan ≡ planFrom (now s)) ⌝ }
     ensures { λ r. ⌜ r ≡ stateFrom (now (s .entry)) ⌝ }
 {
-    let plan = plan_from(s);
     let slice = slice_from(s);
     let unit = units_from(s);
     let sum = sums_from(s);
@@ -178,11 +185,11 @@ fn state_from(s: &[u8]) -> State
 }
 
 // A unit's released byte.
-fn released_at(s: &[u8], at: usize) -> u64
+fn released_at(s: &[u8], at: usize) -> u8
     requires { ⌜ at + 5 ≤ length (now s) ⌝ }
     ensures { λ r. ⌜ r ≡ field unitWidths (drop at (now (s .entry))) 0 ⌝ }
 {
-    fields(s, at, UNIT) / BITS_32 % BITS_8
+    byte(s, at)
 }
 
 // Whether every released byte is 0 or 1.
@@ -236,14 +243,15 @@ pub fn state_of(image: &[u8]) -> StateFound
             state: State::empty(),
         };
     }
+    let plan = plan_from(image);
     if !released_told(image) {
         return StateFound {
-            answer: no_state(plan_from(image)),
+            answer: no_state(plan),
             state: State::empty(),
         };
     }
     StateFound {
         answer: Answer::Good,
-        state: state_from(image),
+        state: state_from(plan, image),
     }
 }

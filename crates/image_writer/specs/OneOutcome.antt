@@ -9,7 +9,7 @@ use Rattle.answer.specs.declared.Answer.{Answer}
 use Rattle.rack.specs.declared.State.{State}
 use Rattle.verdict.specs.declared.figures.Figures.{Figures}
 use Rattle.images.specs.FiguresImage.{StoresFigures}
-use Rattle.images.specs.Lent.{StoresPlan, StoresState}
+use Rattle.images.specs.Lent.{StoresPlan, StoresState, StoresRunning}
 
 -- `put_plan`
 pub put-plan-one-outcome : (plan : Plan) (image : List ℕ) → One (λ (o : Lent Answer). StoresPlan plan image (o .result) (o .buffer))
@@ -18,6 +18,11 @@ put-plan-one-outcome plan image = leaves-one _ _
 -- `put_state`
 pub put-state-one-outcome : (state : State) (image : List ℕ) → One (λ (o : Lent Answer). StoresState state image (o .result) (o .buffer))
 put-state-one-outcome state image = leaves-one _ _
+
+-- `put_running`
+pub put-running-one-outcome :
+    (state : State) (out : List ℕ) → One (λ (o : Lent Answer). StoresRunning state out (o .result) (o .buffer))
+put-running-one-outcome state out = leaves-one _ _
 
 -- `put_figures`
 pub put-figures-one-outcome :

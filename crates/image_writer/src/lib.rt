@@ -15,8 +15,8 @@ ghost use Rattle.codec.specs.Places.{putTo};
 ghost use Rattle.images.specs.Image.{countWidths, projectWidths, kindWidths, sliceWidths, unitWidths, sumWidths, planSize, stateSize};
 ghost use Rattle.images.specs.Image.{projectPlace, kindPlace, slicePlace, unitPlace, sumPlace, countFields, projectFields, kindFields};
 ghost use Rattle.images.specs.Image.{unitFields};
-ghost use Rattle.images.specs.Image.{projectBytesAt, kindBytesAt, unitBytesAt, sumBytesAt, planImage, stateImage};
-ghost use Rattle.images.specs.Lent.{StoresPlan, StoresState};
+ghost use Rattle.images.specs.Image.{projectBytesAt, kindBytesAt, unitBytesAt, sumBytesAt, planImage, stateImage, runningOver};
+ghost use Rattle.images.specs.Lent.{StoresPlan, StoresState, StoresRunning};
 use answer::Answer;
 use images::BITS_8;
 use images::BITS_16;
@@ -183,6 +183,15 @@ fn store_state(state: State, out: &mut [u8])
     put_sums(state, out);
 }
 
+fn store_running(state: State, out: &mut [u8])
+    requires { ⌜ stateSize ≤ length (now out) ⌝ }
+    ensures { λ _. ⌜ now (out .exit) ≡ runningOver state (now (out .entry)) ⌝ }
+{
+    put_slice(state.slice, out);
+    put_units(state, out);
+    put_sums(state, out);
+}
+
 // Stores a plan's image at the front of a buffer: 9.
 pub fn put_plan(plan: Plan, image: &mut [u8]) -> Answer
     ensures { λ r. ⌜ StoresPlan plan (now (image .entry)) r (now (image .exit)) ⌝ }
@@ -202,5 +211,17 @@ pub fn put_state(state: State, image: &mut [u8]) -> Answer
         return Answer::bare(9);
     }
     store_state(state, image);
+    Answer::Good
+}
+
+// Stores what follows the plan in a state's image, at its place in a buffer: 9. Where an image of
+// that plan is there already, as after a call that keeps the plan, this makes it the state's.
+pub fn put_running(state: State, out: &mut [u8]) -> Answer
+    ensures { λ r. ⌜ StoresRunning state (now (out .entry)) r (now (out .exit)) ⌝ }
+{
+    if out.len() < STATE {
+        return Answer::bare(9);
+    }
+    store_running(state, out);
     Answer::Good
 }

@@ -4,7 +4,7 @@ use Prim.Native.Nat.{ℕ}
 use mathlib.Core.Bool.{Bool, cond}
 use mathlib.Core.List.{List, [], _∷_, _++_}
 use lib.Dec.{leb, eqb}
-use lib.ListN.{getD, drop, replicate}
+use lib.ListN.{getD, take, drop, replicate}
 use Rattle.laws.specs.All.{allTo}
 use Rattle.laws.specs.Written.{written}
 use Rattle.codec.specs.Place.{placed, fieldsOf}
@@ -205,3 +205,7 @@ planImage p = rowsBytes planRows (planValues p)
 -- a state's image
 unfoldable pub stateImage : State → List ℕ
 stateImage s = rowsBytes stateRows (stateValues s)
+
+-- bytes in which what follows the plan's image is that of a state's image, and all else stays
+abbrev pub runningOver : State → List ℕ → List ℕ
+runningOver s out = take planSize out ++ drop planSize (stateImage s) ++ drop stateSize out

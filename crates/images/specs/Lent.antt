@@ -17,6 +17,7 @@ use Rattle.rack.specs.State.{noState}
 use Rattle.images.specs.declared.PlanFound.{PlanFound}
 use Rattle.images.specs.declared.StateFound.{StateFound}
 use Rattle.images.specs.Image.{planSize, stateSize, planFrom, stateFrom, releasedTold, planImage, stateImage}
+use Rattle.images.specs.Image.{runningOver}
 pub mod Properties
 
 -- "9: buffer shorter than needed"
@@ -51,3 +52,7 @@ StoresPlan p = Stores (planImage p) planSize
 -- a state's image
 abbrev pub StoresState : State → List ℕ → Answer → List ℕ → Type 0
 StoresState v = Stores (stateImage v) stateSize
+
+-- what follows the plan in a state's image, at its place, or 9: the plan's bytes too keep their value
+abbrev pub StoresRunning : State → List ℕ → Answer → List ℕ → Type 0
+StoresRunning v s = Leaves (room s stateSize) (ifGood (room s stateSize) (runningOver v s) s)

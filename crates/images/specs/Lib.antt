@@ -5,3 +5,4 @@ pub mod Lent
 pub mod FiguresImage
 pub mod Typed
 pub mod RoundTrip
+pub mod Outcome

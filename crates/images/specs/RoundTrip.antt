@@ -1,19 +1,26 @@
--- Decoding what was encoded gives it back: a plan's image and a state's, whatever follows them.
+-- Decoding what was encoded gives it back: a plan's image and a state's, whatever follows them. Encoding what was decoded gives the bytes
+-- back: a plan's, so that a state can be stored over an image of its plan by what follows the plan.
 -- Assumes nothing.
 use mathlib.Core.Path.{_≡_, refl, sym, ap, _∙_}
 use mathlib.Core.Bool.{Bool, true, false, cond}
-use mathlib.Core.List.{List, [], _∷_, _++_}
-use Prim.Native.Nat.{ℕ, _≤_, _<_}
+use mathlib.Core.List.{List, [], _∷_, _++_, append-nil}
+use Prim.Native.Nat.{ℕ, _+_, _*_, _≤_, _<_}
+use native.Mathlib.Decide.{decLt}
 use native.Mathlib.Omega.{arith}
 use lib.Dec.{eqb}
-use lib.ListN.{length, getD, drop, replicate}
-use lib.Seq.{ext-getD}
-use borrow.Author.Tests.{le-leb}
+use lib.ListN.{length, getD, take, drop, replicate}
+use lib.Seq.{ext-getD, take-add, drop-drop}
+use borrow.Author.Tests.{le-leb, lt-ltb}
 use Rattle.laws.specs.All.Properties.{all-of}
 use Rattle.laws.specs.Written.{written}
 use Rattle.laws.specs.Written.Properties.{written-at, written-length}
+use Rattle.codec.specs.Pack.{unpack}
+use Rattle.codec.specs.Bytes.{AreBytes}
 use Rattle.codec.specs.Place.{fieldsOf}
-use Rattle.codec.specs.Rows.Properties.{row-fields}
+use Rattle.codec.specs.Rows.{row, rowsBytes}
+use Rattle.codec.specs.Rows.Properties.{row-fields, row-again}
+use Rattle.answer.specs.declared.Answer.{Answer}
+use Rattle.answer.specs.Answer.{ifGood}
 use Rattle.plan.specs.declared.Project.{Project}
 use Rattle.plan.specs.declared.Kind.{Kind}
 use Rattle.plan.specs.declared.Plan.{Plan}
@@ -28,6 +35,9 @@ use Rattle.images.specs.Image.{kindPlace, slicePlace, unitPlace, sumPlac
 use Rattle.images.specs.Image.{projectsFrom, kindsFrom, unitsFrom, sumsFrom, planFrom, stateFrom, releasedAt, releasedTold}
 use Rattle.images.specs.Image.{countFields, projectFields}
 use Rattle.images.specs.Image.{kindFields, unitFields, planValues, stateValues, planImage, stateImage}
+use Rattle.images.specs.Image.{planSize, stateSize, runningOver}
+use Rattle.images.specs.Image.Properties.{image-split}
+use Rattle.images.specs.Lent.{room, StoresState, StoresRunning}
 use Rattle.images.specs.Typed.{PlanTyped, StateTyped}
 
 -- ---- fields that were found are the record
@@ -144,3 +154,46 @@ module _ (v : State) (typed : StateTyped v) (rest : List ℕ) where
   unfolding s releasedTold
   state-told =
       all-of 16 (releasedAt s) (λ i l. rw (unit-found i l) (le-leb (cond (unitOf v i .released) 1 0) 1 (flag-small (unitOf v i .released))))
+
+-- ---- a plan that was found in s, stored again
+
+module _ (s : List ℕ) (bytes : AreBytes s) (long : planSize ≤ length s) where
+  counts-again : (i : ℕ) → i < 1 → countFields (planFrom s) ≡ fieldsOf countWidths (drop (0 + 4 * i) s)
+  unfolding planFrom fieldsOf unpack
+  counts-again i l = let z : 0 + 4 * i ≡ 0 = omega arith in rw z
+
+  project-again : (j : ℕ) → j < 8 → projectFields (projectOf (planFrom s) j) ≡ fieldsOf projectWidths (drop (projectPlace j) s)
+  unfolding planFrom projectFrom fieldsOf unpack
+  project-again j l = ap projectFields
+      (written-at 8 (λ k. projectFrom (drop (projectPlace k) s)) (replicate 8 noProject) noProject j l (omega arith))
+
+  kind-again : (i : ℕ) → i < 16 → kindFields (kindOf (planFrom s) i) ≡ fieldsOf kindWidths (drop (kindPlace i) s)
+  unfolding planFrom kindFrom fieldsOf unpack
+  kind-again i l = ap kindFields
+      (written-at 16 (λ k. kindFrom (drop (kindPlace k) s)) (replicate 16 noKind) noKind i l (omega arith))
+
+  pub plan-again : planImage (planFrom s) ≡ take planSize s
+  unfolding planImage rowsBytes
+  plan-again =
+      let p = planFrom s in
+      let counts = row-again (row 1 countWidths) (λ i. countFields p) 0 s refl bytes (omega arith) counts-again in
+      let projects = row-again (row 8 projectWidths) (λ j. projectFields (projectOf p j)) 4 s refl bytes (omega arith) project-again in
+      let kinds = row-again (row 16 kindWidths) (λ i. kindFields (kindOf p i)) 28 s refl bytes (omega arith) kind-again in
+      rw (counts, projects, kinds, append-nil (take 112 (drop 28 s)), take-add 4 136 s, take-add 24 112 (drop 4 s), drop-drop 24 4 s)
+
+-- what follows the plan, stored over an image of that plan, makes the state's image
+pub running-stores : (v : State) (s : List ℕ) (x : Answer) (after : List ℕ) → AreBytes s → v .plan ≡ planFrom s
+    → StoresRunning v s x after → StoresState v s x after
+running-stores v s x after bytes e t = record { result = t .result; buffer = t .buffer ∙ same }
+  where
+    whole : stateSize ≤ length s → take planSize s ++ drop planSize (stateImage v) ≡ stateImage v
+    whole l =
+        ap (λ (k : List ℕ). k ++ drop planSize (stateImage v)) (sym (plan-again s bytes (omega arith)) ∙ ap planImage (sym e))
+        ∙ sym (image-split v)
+
+    same : ifGood (room s stateSize) (runningOver v s) s ≡ ifGood (room s stateSize) (stateImage v ++ drop stateSize s) s
+    same =
+        elim (decLt (length s) stateSize) [
+          | yes l ↦ rw (lt-ltb (length s) stateSize l)
+          | no l ↦ ap (λ (k : List ℕ). ifGood (room s stateSize) (k ++ drop stateSize s) s) (whole (omega arith))
+        ]

@@ -14,6 +14,7 @@ use Rattle.answer.specs.declared.Answer.{Answer}
 use Rattle.plan.specs.Record.{noProject, noKind}
 use Rattle.answer.specs.Answer.{bare, atProject, atKind, refuse, _andThen_, eachTo}
 pub mod Properties
+pub mod Stages
 
 -- ---- the plan's places
 

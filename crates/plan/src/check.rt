@@ -1,13 +1,11 @@
 // The record check: 2, 3, 4, 5/6, 7, in that order. It answers any record, whatever its fields
 // hold. Each stage's answer is opened with `let .. else`, and a refusal leaves at once.
 mod open;
+mod unused;
 
 ghost use mathlib.Core.Path.{_≡_};
-ghost use mathlib.Core.Bool.{_&&_};
-ghost use Prim.Native.Nat.{_≤_, _<_, _*_};
-ghost use lib.ListN.{length};
-ghost use Rattle.plan.specs.Order.{within, emptyProject, emptyKind, inRange, timed, tidyProjects, tidyKinds, sized, budgets};
-ghost use Rattle.plan.specs.Order.{sizes, unused, projectsInRange, kindInRange, kindsInRange, budgetsFit, ranges, checked};
+ghost use Prim.Native.Nat.{_≤_};
+ghost use Rattle.plan.specs.Order.{within, emptyProject, emptyKind, inRange, timed, sized, sizes, kindInRange, checked};
 use crate::Kind;
 use crate::Plan;
 use crate::Project;
@@ -100,38 +98,6 @@ impl Plan {
         within(self.frame as u16, Plan::FRAME as u16)
     }
 
-    // "places beyond p .. hold zeros"
-    fn projects_tidy(self) -> bool
-        ensures { λ r. ⌜ r ≡ tidyProjects self ⌝ }
-    {
-        let used = self.projects as usize;
-        for j in 0..Plan::PROJECTS {
-            if j < used {
-                continue;
-            }
-            if !self.project[j].is_empty() {
-                return false;
-            }
-        }
-        true
-    }
-
-    // "places beyond .. n hold zeros"
-    fn kinds_tidy(self) -> bool
-        ensures { λ r. ⌜ r ≡ tidyKinds self ⌝ }
-    {
-        let used = self.kinds as usize;
-        for i in 0..Plan::KINDS {
-            if i < used {
-                continue;
-            }
-            if !self.kind[i].is_empty() {
-                return false;
-            }
-        }
-        true
-    }
-
     // Whether the counts and the frame are in range. Reading asks this before it looks at a place.
     pub fn sizes(self) -> Answer
         ensures { λ r. ⌜ r ≡ sizes self ⌝ }
@@ -142,85 +108,8 @@ impl Plan {
         Answer::Good
     }
 
-    fn tidy(self) -> bool
-        ensures { λ r. ⌜ r ≡ (tidyProjects self && tidyKinds self) ⌝ }
-    {
-        self.projects_tidy() && self.kinds_tidy()
-    }
-
-    fn unused(self) -> Answer
-        ensures { λ r. ⌜ r ≡ unused self ⌝ }
-    {
-        if !self.tidy() {
-            return Answer::bare(3);
-        }
-        Answer::Good
-    }
-
-    fn projects_in_range(self) -> Answer
-        requires { ⌜ self .projects ≤ 8 ⌝ }
-        ensures { λ r. ⌜ r ≡ projectsInRange self ⌝ }
-    {
-        for j in 0..self.projects {
-            if !self.project[j as usize].in_range(self.cards, self.frame) {
-                return Answer::at_project(4, j);
-            }
-        }
-        Answer::Good
-    }
-
-    fn kinds_in_range(self) -> Answer
-        requires { ⌜ self .kinds ≤ 16 ⌝ }
-        ensures { λ r. ⌜ r ≡ kindsInRange self ⌝ }
-    {
-        for i in 0..self.kinds {
-            let answer = self.kind[i as usize].in_range(self.projects, i);
-            let Answer::Good = answer else {
-                return answer;
-            };
-        }
-        Answer::Good
-    }
-
-    fn budgets(self) -> u32
-        requires { ⌜ self .projects ≤ 8 ⌝ }
-        ensures { λ r. ⌜ r ≡ budgets self ⌝ }
-    {
-        let mut sum: u32 = 0;
-        for j in 0..self.projects {
-            sum += self.project[j as usize].cells();
-        }
-        sum
-    }
-
-    fn budgets_fit(self) -> Answer
-        requires { ⌜ self .projects ≤ 8 ⌝ }
-        ensures { λ r. ⌜ r ≡ budgetsFit self ⌝ }
-    {
-        if (self.cards as u32) * (self.frame as u32) < self.budgets() {
-            return Answer::bare(7);
-        }
-        Answer::Good
-    }
-
-    // 4, 5/6, 7. The budgets are added up while the projects are at hand, and answered last.
-    fn ranges(self) -> Answer
-        requires { ⌜ (self .projects ≤ 8) × (self .kinds ≤ 16) ⌝ }
-        ensures { λ r. ⌜ r ≡ ranges self ⌝ }
-    {
-        let projects = self.projects_in_range();
-        let Answer::Good = projects else {
-            return projects;
-        };
-        let budgets = self.budgets_fit();
-        let kinds = self.kinds_in_range();
-        let Answer::Good = kinds else {
-            return kinds;
-        };
-        budgets
-    }
-
-    // Whether the record is in order.
+    // Whether the record is in order. Every operation asks this first, and each function that goes
+    // over the places makes a copy of the record, so the four loops stand in one.
     pub fn check(self) -> Answer
         ensures { λ r. ⌜ r ≡ checked self ⌝ }
     {
@@ -228,10 +117,43 @@ impl Plan {
         let Answer::Good = sizes else {
             return sizes;
         };
-        let unused = self.unused();
-        let Answer::Good = unused else {
-            return unused;
-        };
-        self.ranges()
+        // "places beyond p or n hold zeros"
+        let projects = self.projects as usize;
+        for j in 0..Plan::PROJECTS {
+            if j < projects {
+                continue;
+            }
+            if !self.project[j].is_empty() {
+                return Answer::bare(3);
+            }
+        }
+        let kinds = self.kinds as usize;
+        for i in 0..Plan::KINDS {
+            if i < kinds {
+                continue;
+            }
+            if !self.kind[i].is_empty() {
+                return Answer::bare(3);
+            }
+        }
+        // 4, 5/6, 7. The budgets are added up while the projects are at hand, and answered last.
+        let mut budgets: u32 = 0;
+        for j in 0..self.projects {
+            let project = self.project[j as usize];
+            if !project.in_range(self.cards, self.frame) {
+                return Answer::at_project(4, j);
+            }
+            budgets += project.cells();
+        }
+        for i in 0..self.kinds {
+            let kind = self.kind[i as usize].in_range(self.projects, i);
+            let Answer::Good = kind else {
+                return kind;
+            };
+        }
+        if (self.cards as u32) * (self.frame as u32) < budgets {
+            return Answer::bare(7);
+        }
+        Answer::Good
     }
 }

@@ -5,7 +5,7 @@ use mathlib.Core.Path.{_≡_}
 use mathlib.Core.Bool.{Bool, true, false, cond, not, _&&_, _||_}
 use mathlib.Core.List.{List, [], _++_}
 use lib.Dec.{ltb, eqb}
-use lib.ListN.{length, drop}
+use lib.ListN.{length, take, drop}
 use Rattle.answer.specs.declared.Answer.{Answer}
 use Rattle.answer.specs.Answer.{number, ifGood}
 use Rattle.plan_bytes.specs.Reading.{readOf}
@@ -17,9 +17,8 @@ use Rattle.commands.specs.declared.command.Command.the-variants.{Slice, Release
 use Rattle.player.specs.declared.session.Stage.{Stage}
 use Rattle.player.specs.declared.session.Stage.the-variants.{Opening, Running, Over}
 use Rattle.player.specs.declared.session.Session.{Session}
-use Rattle.player.specs.declared.session.Step.{Step}
 use Rattle.player.specs.declared.session.Progress.{Progress}
-use Rattle.lines.specs.Line.{planLine, badLine, endLine, lineText, lineRoom}
+use Rattle.lines.specs.Line.{planLine, badLine, endLine, lineRoom}
 use Rattle.commands.specs.Command.{commandOf}
 use Rattle.player.specs.Turn.{lineOf, after}
 use Rattle.player.specs.Played.{opening, turns, played}
@@ -100,12 +99,6 @@ runOf x last bytes =
 unfoldable pub stepOf : Session → Bool → List ℕ → Move
 stepOf x last bytes = atStage (x .stage) (openOf x last bytes) (runOf x last bytes) (stay x)
 
--- a step that makes this move: its line is the text
-pub record Makes (m : Move) (r : Step) : Type 0 where
-  pub session : r .session ≡ m .session
-  pub taken : r .taken ≡ m .taken
-  pub text : lineText (r .line) (r .row) ≡ m .text
-
 -- ---- as many lines as there are, while there is room
 
 -- these bytes and this text, and then a move
@@ -128,8 +121,17 @@ playOf x last bytes room = linesOf room x last bytes room
 abbrev pub progressOf : Move → Progress
 progressOf m = record { session = m .session; taken = m .taken; count = length (m .text) }
 
--- playing's whole outcome: the text stands at the front of the buffer, and what is past it is kept
-pub record Plays (x : Session) (last : Bool) (bytes out : List ℕ) (r : Progress) (held : List ℕ) : Type 0 where
-  pub result : r ≡ progressOf (playOf x last bytes (length out))
-  pub buffer : held ≡ playOf x last bytes (length out) .text ++ drop (length (playOf x last bytes (length out) .text)) out
+-- a move's whole outcome: its text stands at the front of the buffer, and what is past it is kept
+pub record Leaves (m : Move) (out : List ℕ) (r : Progress) (held : List ℕ) : Type 0 where
+  pub result : r ≡ progressOf m
+  pub buffer : held ≡ m .text ++ drop (length (m .text)) out
   pub room : r .count ≤ length out
+
+-- playing's
+abbrev pub Plays : Session → Bool → List ℕ → List ℕ → Progress → List ℕ → Type 0
+Plays x last bytes out = Leaves (playOf x last bytes (length out)) out
+
+-- the lines of the commands from a state on, behind the bytes that are taken and the text that is printed: at most so many
+abbrev pub runFrom : State → Bool → List ℕ → ℕ → List ℕ → ℕ → ℕ → Move
+runFrom s last bytes taken out count lines =
+    onto taken (take count out) (linesOf lines (running s) last (drop taken bytes) (length out - count))

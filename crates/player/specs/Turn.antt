@@ -1,7 +1,6 @@
 -- Document 01, "The player": what a command prints, and the state that follows it.
 -- Assumes nothing.
 use Prim.Native.Nat.{ℕ}
-use mathlib.Core.Path.{_≡_}
 use mathlib.Core.List.{List}
 use Rattle.rack.specs.declared.State.{State}
 use Rattle.rack.specs.Release.{releaseOf}
@@ -10,8 +9,7 @@ use Rattle.rack.specs.Show.{showAnswer}
 use Rattle.rack.specs.Advance.{advanceOf}
 use Rattle.commands.specs.declared.command.Command.{Command}
 use Rattle.commands.specs.declared.command.Command.the-variants.{Slice, Release, Bad}
-use Rattle.player.specs.declared.turn.Turn.{Turn}
-use Rattle.lines.specs.Line.{releaseLine, sliceLine, badLine, lineText}
+use Rattle.lines.specs.Line.{releaseLine, sliceLine, badLine}
 pub mod Properties
 
 -- the bytes that a showing is lent for its row: as many as a plan can have cards
@@ -30,8 +28,3 @@ unfoldable pub after : State → Command → State
 after s Slice = advanceOf s .state
 after s (Release kind e) = releaseOf s kind e .state
 after s Bad = s
-
--- the line of a command, with its row, and the state after it
-pub record Turns (s : State) (k : Command) (r : Turn) : Type 0 where
-  pub state : r .state ≡ after s k
-  pub line : lineText (r .line) (r .row) ≡ lineOf s k

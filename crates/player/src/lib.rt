@@ -1,6 +1,6 @@
 // The player: document 01, "The player". What each command prints and does to the state.
+mod run;
 mod session;
-mod turn;
 
 pub use session::Progress;
 pub use session::Session;

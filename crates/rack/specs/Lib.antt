@@ -1,4 +1,5 @@
--- The dispatcher: document 01, "Running", and the refusals 8 to 16; document 02 (vii) and (ix). Seat says how a row is found.
+-- The dispatcher: document 01, "Running", and the refusals 8 to 16; document 02 (vii) and (ix). Seat says how a row is found, and
+-- Found what from.
 -- Assumes nothing.
 pub mod State
 pub mod Sums
@@ -14,3 +15,4 @@ pub mod Start
 pub mod Alike
 pub mod OneOutcome
 pub mod Seat
+pub mod Found

@@ -1,7 +1,8 @@
 // Advancing: the state that follows is handed back.
 //
-// Of n kinds, a of them with slices left, for p projects, that is 16a steps for the ranks, none of
-// them a branch, and 4n + p for the rest, after a check of 40 + n + 2p.
+// Of n kinds, a of them with slices left and a card to their project, for p projects, that is at most
+// 16(a + p) steps for the ranks, none of them a branch, and 3n + p for the rest, after a check of
+// 40 + n + 2p.
 ghost use mathlib.Core.Path.{_≡_};
 ghost use Prim.Native.Nat.{_+_, _%_, _<_};
 ghost use Rattle.rack.specs.Advance.{advanceOf};
@@ -28,27 +29,34 @@ impl State {
     pub fn advance(mut self) -> Next
         ensures { λ r. ⌜ r ≡ advanceOf self ⌝ }
     {
-        let answer = self.check();
+        let found = self.check();
+        let answer = found.answer;
         let Answer::Good = answer else {
             return Next {
                 answer,
                 state: self,
             };
         };
+        let works = found.works;
+        let until = found.until;
+        let seat = self.seats(&works, &until);
         let plan = self.plan;
-        let seat = self.seats();
-        let kinds = self.places();
-        for i in 0..kinds {
-            let kind = plan.kind[i];
+        let kinds = plan.kind;
+        let mut unit = self.unit;
+        let mut sum = self.sum;
+        for i in 0..plan.kinds as usize {
+            let kind = kinds[i];
             let number = seat[i];
-            self.unit[i] = self.unit[i].after(number != 0, kind.separation);
+            unit[i] = unit[i].after(number != 0, kind.separation);
             if number == 0 {
                 continue;
             }
             let project = project_place(kind);
-            self.sum[project] -= 1;
+            sum[project] -= 1;
         }
         self.slice = slice_after(self.slice, plan.frame);
+        self.unit = unit;
+        self.sum = sum;
         Next {
             answer,
             state: self,

@@ -4,8 +4,8 @@
 // kind has its seat: the card that it takes, plus 1, or 0 where it is not served. The row and the
 // state that follows both go by the seats.
 //
-// Of n kinds, a of them with slices left, on m cards for p projects, that is 16a steps for the ranks
-// and 4n + p + m for the rest.
+// Of n kinds, a of them with slices left and a card to their project, on m cards for p projects, that
+// is at most 16(a + p) steps for the ranks and 3n + p + m for the rest.
 ghost use mathlib.Core.Path.{_≡_};
 ghost use Prim.Native.Nat.{ℕ, _≤_, _<_};
 ghost use lib.ListN.{length};
@@ -13,14 +13,13 @@ ghost use Rattle.laws.specs.Written.{written};
 ghost use Rattle.plan.specs.Order.{InOrder};
 ghost use Rattle.seats.specs.Seats.{at};
 ghost use Rattle.rack.specs.Form.{Ready};
+ghost use Rattle.rack.specs.Found.{AtWork};
 ghost use Rattle.rack.specs.Row.{rowOver};
-ghost use Rattle.rack.specs.Seat.{idle, worksFor, ProjectCards, seatsOf, seated};
+ghost use Rattle.rack.specs.Seat.{idle, ProjectCards, seatsOf, seated};
 use crate::State;
 use layout::cards_below;
-use plan::Kind;
 use plan::Plan;
 use seats::seats;
-use unit::Unit;
 
 // Each project's lowest card in this slice, and the card after its last.
 struct Cards {
@@ -37,9 +36,10 @@ fn project_cards(plan: Plan, slice: u8) -> Cards
     let mut end = [0u8; 8];
     let mut cell: u16 = 0;
     let mut card: u8 = 0;
+    let projects = plan.project;
     for j in 0..plan.projects as usize {
         low[j] = card;
-        cell += plan.project[j].budget;
+        cell += projects[j].budget;
         card = cards_below(cell, plan.frame, slice) as u8;
         end[j] = card;
     }
@@ -70,38 +70,17 @@ fn seat_kinds(out: &mut [u8], seat: &[u8; 16], kinds: usize)
     }
 }
 
-// For a kind with slices left its project plus 1; else 0.
-fn works_for(unit: Unit, kind: Kind) -> u8
-    requires { ⌜ kind .project < 8 ⌝ }
-    ensures { λ r. ⌜ r ≡ worksFor unit kind ⌝ }
-{
-    if unit.left == 0 {
-        return 0;
-    }
-    kind.project + 1
-}
-
 impl State {
-    // Where every kind sits in this slice. What it goes by is put down for every place, so that the
-    // compiler knows the length of the loop.
-    pub(crate) fn seats(self) -> [u8; 16]
-        requires { ⌜ Ready self ⌝ }
+    // Where every kind sits in this slice, by what the check found.
+    pub(crate) fn seats(self, works: &[u8; 16], until: &[u16; 16]) -> [u8; 16]
+        requires { ⌜ Ready self × AtWork self (now works) (now until) ⌝ }
         ensures { λ r. ⌜ r ≡ seatsOf self ⌝ }
     {
         let plan = self.plan;
-        let kinds = self.places();
-        let mut works = [0u8; 16];
-        let mut until = [0u16; 16];
-        for i in 0..Plan::KINDS {
-            let unit = self.unit[i];
-            let kind = plan.kind[i];
-            works[i] = works_for(unit, kind);
-            until[i] = unit.until_due(kind.deadline);
-        }
         let cards = project_cards(plan, self.slice);
         let low = cards.low;
         let end = cards.end;
-        seats(&works, &until, &low, &end, kinds)
+        seats(works, until, &low, &end, self.places())
     }
 
     // Writes the row into a lent one, by the seats.

@@ -1,38 +1,32 @@
 -- "A plan already in order gives an empty list", 7 or not: rescuing the bytes of a plan that passes 2 to 6 changes nothing.
 -- Assumes nothing.
 use mathlib.Core.Path.{_≡_, refl, sym, ap, ap₂, _∙_}
-use mathlib.Core.Bool.{Bool, true, false, not, cond, _&&_}
-use mathlib.Core.List.{List, [], _∷_, _++_}
+use mathlib.Core.Bool.{true, not}
+use mathlib.Core.List.{List, [], _++_}
 use Prim.Native.Nat.{ℕ, zero, suc, _+_, _*_, _≤_, _<_, min, max}
-use native.Mathlib.Decide.{decLt}
 use native.Mathlib.Omega.{arith}
-use lib.Dec.{ltb, leb, eqb}
-use lib.ListN.{length, getD, drop, replicate, length-replicate, getD-replicate}
-use lib.Seq.{ext-getD}
+use lib.ListN.{length, getD, drop, replicate}
 use borrow.Author.Tests.{lt-ltb, le-ltb, le-leb, ne-eqb}
 use Rattle.laws.specs.Count.{countTo}
-use Rattle.laws.specs.Count.Properties.{count-suc}
 use Rattle.laws.specs.Written.{written}
-use Rattle.laws.specs.Written.Properties.{written-at, written-kept, written-length, written-suc, written-cong, written-none}
 use Rattle.answer.specs.declared.Answer.the-variants.{Good}
 use Rattle.plan.specs.declared.Project.{Project}
 use Rattle.plan.specs.declared.Kind.{Kind}
 use Rattle.plan.specs.declared.Plan.{Plan}
-use Rattle.plan.specs.Record.{noProject, noKind}
-use Rattle.plan.specs.Order.{projectOf, kindOf, emptyProject, emptyKind, ProjectInRange, KindInRange}
-use Rattle.plan_bytes.specs.Parts.{Shaped, encoded, headed, decoded, size, projectAt, kindAt, afterHeader, afterProjects, projectFields}
+use Rattle.plan.specs.Record.{noKind}
+use Rattle.plan.specs.Order.{projectOf, kindOf, ProjectInRange, KindInRange}
+use Rattle.plan_bytes.specs.Parts.{Shaped, encoded, headed, decoded, size, projectAt, afterHeader, projectFields}
 use Rattle.plan_bytes.specs.Parts.{kindFields, headerFields}
 use Rattle.plan_bytes.specs.Parts.Properties.{size-header}
 use Rattle.plan_bytes.specs.Reading.{headerSpare, projectSpare, kindSpare, countsAnswer}
-use Rattle.plan_bytes.specs.RoundTrip.Reads.{Passes, empty-project, empty-kind, unused-place, header-all, headed-projects, headed-size}
-use Rattle.plan_bytes.specs.RoundTrip.Reads.{project-all, kind-all, decoded-all, sizes-all, all-long, all}
-use Rattle.rescue.specs.declared.Rescued.{Rescued}
-use Rattle.rescue.specs.Entry.{Entry, change, entriesTo, listed}
+use Rattle.plan_bytes.specs.RoundTrip.Reads.{Passes, header-all, headed-projects, headed-size}
+use Rattle.plan_bytes.specs.RoundTrip.Reads.{projects-back, kinds-back, project-all, kind-all, decoded-all, sizes-all, all-long, all}
+use Rattle.rescue.specs.Entry.{Entry, entriesTo, listed}
 use Rattle.rescue.specs.Entry.Properties.{change-none}
 use Rattle.rescue.specs.Mended.{raised, lowered, projectFor, kindFor, kept, projectForAt, kindForAt, keptAt, kindsKept, keptTo}
 use Rattle.rescue.specs.Mended.{planFor}
 use Rattle.rescue.specs.Rescue.{projectSpareAt, kindSpareAt, projectSpareChange, spareEntries, kindSpareChange, projectEntries}
-use Rattle.rescue.specs.Rescue.{projectChanges, kindEntries, kindChanges, changesIn, changes, listOf, listSize, restAnswer}
+use Rattle.rescue.specs.Rescue.{projectChanges, kindEntries, kindChanges, changesIn, changes, listSize, restAnswer}
 use Rattle.rescue.specs.Rescue.{rescueAnswer, rescuedPlan, rescuedWith, rescueOf, listOver}
 
 -- ---- nothing to raise, to lower or to drop
@@ -83,53 +77,12 @@ module _ (p : Plan) (shaped : Shaped p) (order : Passes p) where
   kept-all zero l = refl
   kept-all (suc n) l = rw (all-kept n (omega arith), count-all n (omega arith), kept-all n (omega arith))
 
-  projects-back : written (p .projects) (projectForAt p) (replicate 8 noProject) ≡ p .project
-  projects-back =
-      written-cong (p .projects) (projectForAt p) (projectOf p) (replicate 8 noProject) project-same
-      ∙ ext-getD noProject (written (p .projects) (projectOf p) (replicate 8 noProject)) (p .project) (long ∙ sym (shaped .eight)) same
-    where
-      long : length (written (p .projects) (projectOf p) (replicate 8 noProject)) ≡ 8
-      long = written-length (p .projects) (projectOf p) (replicate 8 noProject)
-
-      same : (j : ℕ) → j < length (written (p .projects) (projectOf p) (replicate 8 noProject))
-          → getD (written (p .projects) (projectOf p) (replicate 8 noProject)) j noProject ≡ projectOf p j
-      same j l =
-          let m : j < 8 = omega (arith, long) in
-          let n = order .counts .projects-most in
-          elim (decLt j (p .projects)) [
-            | yes q ↦ written-at (p .projects) (projectOf p) (replicate 8 noProject) noProject j q
-                (omega (arith, length-replicate 8 noProject))
-            | no q ↦ written-kept (p .projects) (projectOf p) (replicate 8 noProject) noProject j (omega arith)
-                ∙ getD-replicate 8 j noProject noProject m
-                ∙ sym (empty-project (projectOf p j)
-                (unused-place j (p .projects) (emptyProject (projectOf p j)) (omega arith) (order .projects-tidy j m)))
-          ]
-
-  kinds-back : written (p .kinds) (kindForAt p) (replicate 16 noKind) ≡ p .kind
-  kinds-back =
-      written-cong (p .kinds) (kindForAt p) (kindOf p) (replicate 16 noKind) kind-same
-      ∙ ext-getD noKind (written (p .kinds) (kindOf p) (replicate 16 noKind)) (p .kind) (long ∙ sym (shaped .sixteen)) same
-    where
-      long : length (written (p .kinds) (kindOf p) (replicate 16 noKind)) ≡ 16
-      long = written-length (p .kinds) (kindOf p) (replicate 16 noKind)
-
-      same : (i : ℕ) → i < length (written (p .kinds) (kindOf p) (replicate 16 noKind))
-          → getD (written (p .kinds) (kindOf p) (replicate 16 noKind)) i noKind ≡ kindOf p i
-      same i l =
-          let m : i < 16 = omega (arith, long) in
-          let n = order .counts .kinds-most in
-          elim (decLt i (p .kinds)) [
-            | yes q ↦ written-at (p .kinds) (kindOf p) (replicate 16 noKind) noKind i q (omega (arith, length-replicate 16 noKind))
-            | no q ↦ written-kept (p .kinds) (kindOf p) (replicate 16 noKind) noKind i (omega arith) ∙ getD-replicate 16 i noKind noKind m
-                ∙ sym (empty-kind (kindOf p i) (unused-place i (p .kinds) (emptyKind (kindOf p i)) (omega arith) (order .kinds-tidy i m)))
-          ]
-
   pub plan-stays : planFor p ≡ p
   unfolding planFor
   plan-stays =
       let n = count-all (p .kinds) (omega arith) in
-      let k = kept-all (p .kinds) (omega arith) ∙ kinds-back in
-      let j = projects-back in
+      let k = kept-all (p .kinds) (omega arith) ∙ kinds-back p shaped order (kindForAt p) kind-same in
+      let j = projects-back p shaped order (projectForAt p) project-same in
       λ i. record { cards = p .cards; projects = p .projects; kinds = n i; frame = p .frame; project = j i; kind = k i }
 
   -- ---- and nothing is listed of its bytes, whatever follows them

@@ -1,6 +1,6 @@
 -- "gives a plan that passes 2 to 6": the record order has nothing but 7 to say of the plan that is made.
 -- Assumes nothing.
-use mathlib.Core.Path.{_≡_, refl, sym, ap, _∙_}
+use mathlib.Core.Path.{_≡_, refl, ap, _∙_}
 use mathlib.Core.Bool.{true, not, _&&_}
 use mathlib.Core.List.{List}
 use Prim.Native.Nat.{ℕ, _*_, _≤_, _<_}
@@ -8,7 +8,7 @@ use native.Mathlib.Nat.{mul-pos}
 use native.Mathlib.Decide.{decLt}
 use native.Mathlib.Omega.{arith}
 use lib.Dec.{ltb, leb, eqb}
-use lib.ListN.{getD, replicate, length-replicate, getD-replicate}
+use lib.ListN.{replicate, length-replicate, getD-replicate}
 use borrow.Author.Tests.{ltb-true, leb-true, eqb-false, not-true}
 use Rattle.laws.specs.Tests.{and-left, and-right}
 use Rattle.laws.specs.All.Properties.{all-of}
@@ -17,7 +17,6 @@ use Rattle.laws.specs.Written.Properties.{written-at, written-kept, written-len
 use Rattle.codec.specs.Pack.{unpack}
 use Rattle.codec.specs.Pack.Properties.{unpack-fits}
 use Rattle.codec.specs.Bytes.{numberTo}
-use Rattle.answer.specs.declared.Answer.the-variants.{Good}
 use Rattle.answer.specs.Answer.Properties.{each-of}
 use Rattle.plan.specs.declared.Project.{Project}
 use Rattle.plan.specs.declared.Kind.{Kind}
@@ -26,10 +25,11 @@ use Rattle.plan.specs.Record.{noProject, noKind}
 use Rattle.plan.specs.Order.{projectOf, kindOf, emptyProject, emptyKind, tidyProject, tidyKind, tidyProjects, tidyKinds, unused, ranges}
 use Rattle.plan.specs.Order.{projectInRange, projectsInRange, kindInRangeAt, kindsInRange, budgetsFit, checked, Sized, ProjectInRange}
 use Rattle.plan.specs.Order.{KindInRange}
-use Rattle.plan.specs.Order.Properties.{sizes-of, project-of, kind-of, used-place, kept-empty, no-project-empty, no-kind-empty}
+use Rattle.plan.specs.Order.Properties.{sizes-of, sized-same, project-of, kind-of, used-place, kept-empty, no-project-empty}
+use Rattle.plan.specs.Order.Properties.{no-kind-empty}
 use Rattle.plan_bytes.specs.Parts.{Shaped, kindWidths, kindFields, kindFrom, kindAt, kindsFrom, headed, afterProjects, decoded}
 use Rattle.plan_bytes.specs.RoundTrip.Reads.{Passes}
-use Rattle.rescue.specs.Mended.{raised, lowered, projectFor, kindFor, kept, projectForAt, kindForAt, keptAt, kindsKept, keptTo}
+use Rattle.rescue.specs.Mended.{raised, lowered, projectFor, kindFor, kept, projectForAt, keptAt, kindsKept}
 use Rattle.rescue.specs.Mended.{planFor}
 use Rattle.rescue.specs.Mended.Properties.{lowered-most}
 use Rattle.rescue.specs.Kept.{kept-length, kept-beyond, kept-from}
@@ -188,17 +188,7 @@ pub decoded-damaged : (s : List ℕ) → Sized (headed s) → Damaged (decoded s
 unfolding decoded kindsFrom
 decoded-damaged s c =
     record {
-      counts =
-          record {
-            some-card = c .some-card;
-            cards-most = c .cards-most;
-            some-project = c .some-project;
-            projects-most = c .projects-most;
-            some-kind = c .some-kind;
-            kinds-most = c .kinds-most;
-            some-slice = c .some-slice;
-            frame-most = c .frame-most;
-          };
+      counts = sized-same (decoded s) (headed s) refl refl refl refl c;
       separation-most = λ i l.
           let e = written-at (headed s .kinds) (λ k. kindFrom (kindAt (afterProjects s) k)) (replicate 16 noKind) noKind i l
           (omega (arith, length-replicate 16 noKind, c .kinds-most)) in

@@ -6,11 +6,12 @@ use mathlib.Core.List.{List, [], _∷_, _++_}
 use Prim.Native.Nat.{ℕ, zero, suc, _+_, _*_, _≤_, _<_}
 use native.Mathlib.Omega.{arith}
 use lib.ListN.{length, getD, take, drop, replicate, length-replicate, length-drop}
-use lib.Seq.{getD-drop, take-add}
+use lib.Seq.{take-add}
 use Rattle.laws.specs.Count.{countTo}
 use Rattle.laws.specs.Written.Properties.{written-at}
 use Rattle.codec.specs.Pack.{pack, unpack}
 use Rattle.codec.specs.Bytes.{bytesOf, AreBytes}
+use Rattle.codec.specs.Bytes.Properties.{bytes-behind}
 use Rattle.codec.specs.Place.{placed, fieldsOf}
 use Rattle.codec.specs.Place.Properties.{placed-fields}
 use Rattle.codec.specs.Places.{partsTo}
@@ -30,9 +31,6 @@ count-each : (n : ℕ) → countTo n (λ i. true) ≡ n
 unfolding countTo
 count-each zero = refl
 count-each (suc n) = let h = count-each n in omega arith
-
-bytes-drop : (s : List ℕ) (a : ℕ) → AreBytes s → AreBytes (drop a s)
-bytes-drop s a b i = rw (getD-drop a s i 0) (b (a + i))
 
 module _ (s : List ℕ) (b : AreBytes s) (counts : Sized (headed s)) (long : size (headed s) ≤ length s) where
   total : 3 + 2 * headed s .projects + 5 * headed s .kinds ≤ length s
@@ -54,7 +52,7 @@ module _ (s : List ℕ) (b : AreBytes s) (counts : Sized (headed s)) (long : siz
       let e = written-at (headed s .projects) (λ k. projectFrom (projectAt (afterHeader s) k)) (replicate 8 noProject) noProject j l
       (omega (arith, length-replicate 8 noProject, counts .projects-most)) in
       ap (λ (v : Project). bytesOf 2 (pack projectWidths (v .ceiling ∷ v .budget ∷ projectSpareAt s j ∷ []))) e
-      ∙ placed-fields projectWidths (projectAt (afterHeader s) j) refl (bytes-drop (afterHeader s) (2 * j) (bytes-drop s 3 b))
+      ∙ placed-fields projectWidths (projectAt (afterHeader s) j) refl (bytes-behind (afterHeader s) (bytes-behind s b 3) (2 * j))
       (omega (arith, total, length-drop (2 * j) (afterHeader s), length-drop 3 s))
 
   kind-part : (i : ℕ) → i < headed s .kinds
@@ -66,7 +64,7 @@ module _ (s : List ℕ) (b : AreBytes s) (counts : Sized (headed s)) (long : siz
       ap (λ (v : Kind). bytesOf 5
       (pack kindWidths (v .project ∷ v .separation ∷ v .deadline ∷ v .length ∷ kindSpareAt s (headed s .projects) i ∷ []))) e
       ∙ placed-fields kindWidths (kindAt (afterProjects s) i) refl
-      (bytes-drop (afterProjects s) (5 * i) (bytes-drop s (3 + 2 * headed s .projects) b))
+      (bytes-behind (afterProjects s) (bytes-behind s b (3 + 2 * headed s .projects)) (5 * i))
       (omega (arith, total, length-drop (5 * i) (afterProjects s), length-drop (3 + 2 * headed s .projects) s))
 
   pub applied-none : applied s [] ≡ take (size (headed s)) s

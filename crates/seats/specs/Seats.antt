@@ -22,12 +22,6 @@ rankBy works until n i = rankIn n (λ k. eqb (at works k) (at works i)) (sooner 
 unfoldable pub seatAt : ℕ → ℕ → ℕ
 seatAt card end = cond (ltb card end) (card + 1) 0
 
--- where a kind sits that works for a project, plus 1, and has so many before it; there are eight projects at most
-unfoldable pub seatOn : ℕ → ℕ → List ℕ → List ℕ → ℕ
-seatOn works rank low end =
-    let project = works - 1 in
-    cond (eqb works 0) 0 (cond (ltb 8 works) 0 (seatAt (at low project + rank) (at end project)))
-
 -- where kind i sits: its project's card of its rank, or nowhere; there are eight projects at most
 unfoldable pub seatBy : List ℕ → List ℕ → List ℕ → List ℕ → ℕ → ℕ → ℕ
 seatBy works until low end n i =

@@ -3,12 +3,14 @@
 // Document 01, "Running". What a kind works for, the slices until it is due and where each project's
 // cards begin and end come as arrays, so that nothing is found twice. Every array is answered.
 //
-// A kind's whole standing is one number, and its rank a count of smaller ones without branches: of n
-// kinds, a of them with slices left, that is 16a steps for the ranks and 2n for the rest.
+// A kind's whole standing is one number, and its rank the difference of two counts without branches:
+// how many standings are its project's least or after it, which is counted once for the project, and
+// how many are its own or after it. Of n kinds, a of them with slices left and a project that has a
+// card, for q such projects, that is 16(a + q) steps for the ranks and 2n for the rest.
 ghost use mathlib.Core.Path.{_≡_};
-ghost use Prim.Native.Nat.{ℕ, _≤_, _<_};
-ghost use Rattle.seats.specs.Seats.{at, seatAt, seatOn, seatsBy};
-ghost use Rattle.seats.specs.Ranks.{rankAmong, Standing, Standings};
+ghost use Prim.Native.Nat.{_+_, _-_, _≤_, _<_};
+ghost use Rattle.seats.specs.Seats.{seatAt, seatsBy};
+ghost use Rattle.seats.specs.Ranks.{atOrAfter, Within28Bits, Standing, Standings, Known};
 
 // The most kinds and the most projects that a plan has.
 const KINDS: usize = 16;
@@ -19,12 +21,6 @@ const PROJECTS: usize = 8;
 const OWN: u32 = 1048576;
 
 const ALL: u32 = 268435456;
-
-fn wide(x: u8) -> u16
-    ensures { λ r. ⌜ (r ≡ x) × (r < 256) ⌝ }
-{
-    x as u16
-}
 
 // A kind's whole standing: what it works for, the slices until it is due and its number, in 28 bits.
 fn standing(works: u8, until: u16, number: usize) -> u32
@@ -46,44 +42,43 @@ fn standings(works: &[u8; KINDS], until: &[u16; KINDS], kinds: usize) -> [u32; K
     standings
 }
 
-// How many standings, counted from a project's least one, come before one so far from it. There is
-// no branch in the loop: each comparison is added.
-fn rank(standings: &[u32; KINDS], least: u32, far: u32) -> u8
-    requires { ⌜ (least ≤ 268435456) × ((k : ℕ) → at (now standings) k < 268435456) ⌝ }
-    ensures { λ r. ⌜ r ≡ rankAmong (now (standings .entry)) least far ⌝ }
+// How many standings are x or after it. There is no branch in the loop: what is carried out of 28 bits
+// is added, which on vectors costs less than a comparison.
+fn at_or_after(standings: &[u32; KINDS], x: u32) -> u32
+    requires { ⌜ (x ≤ 268435456) × Within28Bits (now standings) ⌝ }
+    ensures { λ r. ⌜ r ≡ atOrAfter (now (standings .entry)) x ⌝ }
 {
-    let turn = ALL - least;
-    let mut rank: u8 = 0;
+    let turn = ALL - x;
+    let mut count: u32 = 0;
     for k in 0..KINDS {
-        rank += ((standings[k] + turn) % ALL < far) as u8;
+        count += (standings[k] + turn) / ALL;
     }
-    rank
+    count
 }
 
-// A card below the end of a project's, plus 1; else 0.
-fn seat_at(card: u16, end: u8) -> u8
-    ensures { λ r. ⌜ r ≡ seatAt card end ⌝ }
+// The same of a project's least standing, which is counted only where it is not known yet: 0.
+fn first(standings: &[u32; KINDS], known: u32, least: u32) -> u32
+    requires { ⌜ (least ≤ 268435456) × Within28Bits (now standings) × Known (now standings) least known ⌝ }
+    ensures { λ r. ⌜ r ≡ atOrAfter (now (standings .entry)) least ⌝ }
 {
-    if card < wide(end) {
+    if known != 0 {
+        return known;
+    }
+    at_or_after(standings, least)
+}
+
+// Where a kind sits on its project's cards: its rank is how many are its project's least or after it,
+// less how many are its own or after it.
+fn seat(standings: &[u32; KINDS], first: u32, own: u32, low: u8, end: u8) -> u8
+    requires { ⌜ (own ≤ 268435456) × Within28Bits (now standings) × (atOrAfter (now standings) own ≤ first) × (first ≤ 16) ⌝ }
+    ensures { λ r. ⌜ r ≡ seatAt (low + (first - atOrAfter (now (standings .entry)) own)) end ⌝ }
+{
+    let rank = first - at_or_after(standings, own);
+    let card = low as u32 + rank;
+    if card < end as u32 {
         return card as u8 + 1;
     }
     0
-}
-
-// Where a kind sits that works for a project and has so many before it.
-fn seat(works: u8, rank: u8, low: &[u8; PROJECTS], end: &[u8; PROJECTS]) -> u8
-    ensures { λ r. ⌜ r ≡ seatOn works rank (now (low .entry)) (now (end .entry)) ⌝ }
-{
-    let number = wide(works) as usize;
-    if number == 0 {
-        return 0;
-    }
-    if PROJECTS < number {
-        return 0;
-    }
-    let project = number - 1;
-    let card = wide(low[project]) + wide(rank);
-    seat_at(card, end[project])
 }
 
 // Where every kind sits: the card that it takes, plus 1, or 0. A kind works for its project plus 1,
@@ -103,15 +98,23 @@ pub fn seats(
         return seats;
     }
     let standings = standings(works, until, kinds);
+    let mut firsts = [0u32; PROJECTS];
     for i in 0..kinds {
-        let project = works[i];
-        if project == 0 {
+        let number = works[i] as usize;
+        if number == 0 {
             continue;
         }
-        let least = project as u32 * OWN;
-        let far = standings[i] - least;
-        let rank = rank(&standings, least, far);
-        seats[i] = seat(project, rank, low, end);
+        if PROJECTS < number {
+            continue;
+        }
+        let project = number - 1;
+        if end[project] <= low[project] {
+            continue;
+        }
+        let first = first(&standings, firsts[project], number as u32 * OWN);
+        firsts[project] = first;
+        let own = standings[i];
+        seats[i] = seat(&standings, first, own, low[project], end[project]);
     }
     seats
 }

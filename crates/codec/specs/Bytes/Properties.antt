@@ -3,12 +3,12 @@
 use mathlib.Core.Path.{_≡_, refl, sym, ap, ap₂, _∙_}
 use mathlib.Core.List.{List, [], _∷_, _++_}
 use Prim.Native.Nat.{ℕ, zero, suc, _+_, _*_, _-_, _/_, _%_, _^_, _≤_, _<_, min}
-use native.Mathlib.Nat.{pow-suc, pow-succ', div-one, div-div-eq-div-mul, div-lt-iff-lt-mul, lt-of-lt-of-le, pow-le-pow-right}
+use native.Mathlib.Nat.{add-suc, mul-assoc, pow-suc, pow-succ', div-one, div-div-eq-div-mul, div-lt-iff-lt-mul, lt-of-lt-of-le, pow-le-pow-right}
 use native.Mathlib.Numerals.{add-one}
 use native.Mathlib.Omega.{arith}
 use lib.Arith.{digits-lt, digits-div, digits-mod}
 use lib.ListN.{length, getD, take, drop, set, length-append, length-set, List·getD-append}
-use lib.Seq.{take-suc, getD-at, getD-take, getD-drop, length-take-le, set-split, drop-at, drop-length}
+use lib.Seq.{take-suc, getD-at, getD-take, getD-drop, length-take-le, set-split, drop-at, drop-drop, drop-length}
 use Rattle.codec.specs.Bytes.{numberTo, bytesOf, AreBytes}
 
 -- ---- the steps of a loop that reads a number
@@ -32,6 +32,9 @@ unfolding numberTo
 number-bound zero s b = omega arith
 number-bound (suc n) s b = rw pow-suc (digits-lt (number-bound n s b) (b n))
 
+pub bytes-behind : (s : List ℕ) → AreBytes s → (at : ℕ) → AreBytes (drop at s)
+bytes-behind s b at i = omega (arith, getD-drop at s i 0, b (at + i))
+
 -- ---- only the bytes that are read count
 
 pub number-cong : (n : ℕ) (s t : List ℕ) → ((i : ℕ) → i < n → getD s i 0 ≡ getD t i 0) → numberTo n s ≡ numberTo n t
@@ -44,6 +47,37 @@ number-append n s t l = number-cong n (s ++ t) s (λ i q. List·getD-append s t 
 
 pub number-take : (n : ℕ) (s : List ℕ) → numberTo n (take n s) ≡ numberTo n s
 number-take n s = number-cong n (take n s) s (λ i q. getD-take n s i 0 q)
+
+-- ---- bytes read apart
+
+first-there : (s : List ℕ) (at : ℕ) → getD (drop at s) 0 0 ≡ getD s at 0
+first-there s at = getD-drop at s 0 0 ∙ ap (λ (k : ℕ). getD s k 0) (let z : at + 0 ≡ at = omega arith in z)
+
+-- one
+pub number-one : (s : List ℕ) (at x : ℕ) → x ≡ getD s at 0 → x ≡ numberTo 1 (drop at s)
+unfolding numberTo
+number-one s at x e = omega (arith, first-there s at)
+
+-- two
+pub number-two : (s : List ℕ) (at x y : ℕ) → x ≡ getD s at 0 → y ≡ getD s (at + 1) 0 → x * 256 + y ≡ numberTo 2 (drop at s)
+unfolding numberTo
+number-two s at x y e f = omega (arith, first-there s at, getD-drop at s 1 0)
+
+number-split : (n m : ℕ) (s : List ℕ) → numberTo (n + m) s ≡ numberTo n s * 256 ^ m + numberTo m (drop n s)
+number-split n zero s =
+    let z : n + 0 ≡ n = omega arith in
+    ap (λ (k : ℕ). numberTo k s) z ∙ omega (arith, number-none (drop n s))
+number-split n (suc m) s =
+    let p : numberTo n s * 256 ^ suc m ≡ numberTo n s * 256 ^ m * 256 =
+    ap (λ (k : ℕ). numberTo n s * k) (pow-suc 256 m) ∙ sym (mul-assoc (numberTo n s) (256 ^ m) 256) in
+    ap (λ (k : ℕ). numberTo k s) (add-suc n m)
+    ∙ omega (arith, p, number-split n m s, number-suc (n + m) s, number-suc m (drop n s), getD-drop n s m 0)
+
+-- the last m of n + m
+pub number-cut : (n m at : ℕ) (s : List ℕ)
+    → numberTo (n + m) (drop at s) ≡ numberTo n (drop at s) * 256 ^ m + numberTo m (drop (at + n) s)
+number-cut n m at s =
+    number-split n m (drop at s) ∙ ap (λ (l : List ℕ). numberTo n (drop at s) * 256 ^ m + numberTo m l) (drop-drop n at s)
 
 -- ---- there and back
 

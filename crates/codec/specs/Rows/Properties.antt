@@ -1,16 +1,19 @@
--- Laws of rows: their length, each place found again, and the rows stored one after the other.
+-- Laws of rows: their length, each place found again, the rows stored one after the other, and a row stored as it was found.
 -- Assumes nothing.
 use mathlib.Core.Path.{_≡_, refl, sym, ap, ap₂, _∙_}
 use mathlib.Core.List.{List, [], _∷_, _++_, append-assoc, append-nil}
 use Prim.Native.Nat.{ℕ, zero, suc, _+_, _*_, _≤_, _<_}
+use native.Mathlib.Nat.{le-refl, mul-suc, mul-le-mul}
 use native.Mathlib.Omega.{arith}
-use lib.ListN.{length, getD, take, drop, length-append}
-use lib.Seq.{drop-drop, drop-at}
+use lib.ListN.{length, getD, take, drop, length-append, length-drop, take-append-drop}
+use lib.Seq.{drop-drop, drop-at, length-take-le}
 use Rattle.codec.specs.Pack.{Fitting}
+use Rattle.codec.specs.Bytes.{AreBytes}
+use Rattle.codec.specs.Bytes.Properties.{bytes-behind}
 use Rattle.codec.specs.Place.{sizeOf, Whole, placed, fieldsOf}
-use Rattle.codec.specs.Place.Properties.{placed-length, fields-placed}
+use Rattle.codec.specs.Place.Properties.{placed-length, fields-placed, placed-fields}
 use Rattle.codec.specs.Places.{partsTo, putTo}
-use Rattle.codec.specs.Places.Properties.{parts-length, parts-drop, front-put}
+use Rattle.codec.specs.Places.Properties.{parts-length, parts-drop, parts-front, front-put}
 use Rattle.codec.specs.Rows.{Row, placeSize, rowSize, endFrom, rowsSize, rowAt, placeAt, Values, placedAt, rowsBytes, putRows}
 
 row-length : (r : Row) (f : Values) → length (partsTo (r .places) (placedAt r f)) ≡ rowSize r
@@ -30,6 +33,17 @@ rows-end from (r ∷ rs) (f ∷ fs) e =
 
 pub rows-length : (rs : List Row) (fs : List Values) → length fs ≡ length rs → length (rowsBytes rs fs) ≡ rowsSize rs
 rows-length rs fs e = omega (arith, rows-end 0 rs fs e)
+
+-- rows behind rows
+pub rows-append : (rs qs : List Row) (fs gs : List Values) → length fs ≡ length rs
+    → rowsBytes (rs ++ qs) (fs ++ gs) ≡ rowsBytes rs fs ++ rowsBytes qs gs
+unfolding rowsBytes
+rows-append [] qs [] gs e = refl
+rows-append [] qs (f ∷ fs) gs e = absurd (omega arith)
+rows-append (r ∷ rs) qs [] gs e = absurd (omega arith)
+rows-append (r ∷ rs) qs (f ∷ fs) gs e =
+    let a = partsTo (r .places) (placedAt r f) in
+    ap (λ (x : List ℕ). a ++ x) (rows-append rs qs fs gs (omega arith)) ∙ sym (append-assoc a (rowsBytes rs fs) (rowsBytes qs gs))
 
 -- ---- found again
 
@@ -88,3 +102,22 @@ stored-behind (r ∷ rs) (f ∷ fs) from xs e l n p q m =
 pub rows-stored : (rs : List Row) (fs : List Values) (l : List ℕ) → length fs ≡ length rs → rowsSize rs ≤ length l
     → putRows 0 rs fs l ≡ rowsBytes rs fs ++ drop (rowsSize rs) l
 rows-stored rs fs l n m = stored-behind rs fs 0 [] l l n refl refl m
+
+-- rows stored from `from` on stand between what was there
+pub rows-between : (rs : List Row) (fs : List Values) (from : ℕ) (l : List ℕ) → length fs ≡ length rs → endFrom from rs ≤ length l
+    → putRows from rs fs l ≡ take from l ++ rowsBytes rs fs ++ drop (endFrom from rs) l
+rows-between rs fs from l n m =
+    stored-behind rs fs from (take from l) l l n (length-take-le from l (omega (arith, end-after from rs))) (sym (take-append-drop from l)) m
+
+-- a row stored as it was found from `from` on is the bytes there
+pub row-again : (r : Row) (f : Values) (from : ℕ) (s : List ℕ) → Whole (r .widths) → AreBytes s → from + rowSize r ≤ length s
+    → ((i : ℕ) → i < r .places → f i ≡ fieldsOf (r .widths) (drop (from + placeSize r * i) s))
+    → partsTo (r .places) (placedAt r f) ≡ take (rowSize r) (drop from s)
+row-again r f from s w b l h =
+    parts-front (r .places) (placeSize r) (placedAt r f) (drop from s)
+    (λ i k.
+    let at = from + placeSize r * i in
+    let room : placeSize r ≤ length (drop at s) =
+    omega (arith, length-drop at s, mul-suc (placeSize r) i, mul-le-mul (le-refl (placeSize r)) k) in
+    ap (placed (r .widths)) (h i k) ∙ placed-fields (r .widths) (drop at s) w (bytes-behind s b at) room
+    ∙ ap (take (placeSize r)) (sym (drop-drop (placeSize r * i) from s)))

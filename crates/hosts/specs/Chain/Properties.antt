@@ -24,7 +24,7 @@ use Rattle.images.specs.Lent.{room}
 use Rattle.images.specs.Typed.{StateTyped}
 use Rattle.images.specs.Typed.Properties.{release-typed, advance-typed}
 use Rattle.images.specs.RoundTrip.{state-round-trip, state-told}
-use Rattle.parchbeetle.specs.Exports.{stateAnswer, releasesAnswer, showsAnswer, ShowsRow, advancesAnswer}
+use Rattle.rack_calls.specs.Exports.{stateAnswer, releasesAnswer, showsAnswer, ShowsRow, advancesAnswer}
 use Rattle.demands.specs.Run.{Call, show, advance, release, nextAfter, runFrom}
 use Rattle.hosts.specs.Words.{uncounted}
 use Rattle.hosts.specs.Chain.{Seen, lent, Called, Chain, seenOf, allSeen}

@@ -18,7 +18,7 @@ use Rattle.laws.specs.Written.{written}
 use Rattle.laws.specs.Written.Properties.{written-cong, written-at}
 use Rattle.codec.specs.Pack.{unpack}
 use Rattle.codec.specs.Bytes.{numberTo, AreBytes}
-use Rattle.codec.specs.Bytes.Properties.{number-cong, number-suc}
+use Rattle.codec.specs.Bytes.Properties.{bytes-behind, number-cong, number-suc}
 use Rattle.codec.specs.Place.{sizeOf, fieldsOf}
 use Rattle.answer.specs.declared.Answer.{Answer}
 use Rattle.answer.specs.declared.Answer.the-variants.{Good, No}
@@ -44,8 +44,8 @@ use Rattle.images.specs.Image.{projectPlace, kindPlace, slicePlace, unitPlace, 
 use Rattle.images.specs.Image.{sumFrom, unitsFrom, sumsFrom, planFrom, stateFrom, releasedAt, releasedTold}
 use Rattle.images.specs.Lent.{room}
 use Rattle.images.specs.Typed.Properties.{state-found-typed}
-use Rattle.parchbeetle.specs.Outcome.{Outcome}
-use Rattle.parchbeetle.specs.Exports.{stateAnswer, releasesAnswer, showsAnswer, advancesAnswer, Releases, ShowsRow, Advances}
+use Rattle.images.specs.Outcome.{Outcome}
+use Rattle.rack_calls.specs.Exports.{stateAnswer, releasesAnswer, showsAnswer, advancesAnswer, Releases, ShowsRow, Advances}
 use Rattle.demands.specs.Run.{Call, show, advance, release, nextAfter}
 use Rattle.demands.specs.Numbers.{recordOrder, stateOrder, check-numbers}
 use Rattle.demands.specs.SumsTold.{disjoint, apart}
@@ -175,9 +175,6 @@ released-value u b =
     omega (arith, all, b 3, b 4)
 
 -- ---- the changed image is the changed state
-
-bytes-behind : (s : List ℕ) → AreBytes s → (at : ℕ) → AreBytes (drop at s)
-bytes-behind s b at i = omega (arith, getD-drop at s i 0, b (at + i))
 
 module _ (s : List ℕ) (bytes : AreBytes s) (whole : stateSize ≤ length s) (v : ℕ) (byte : v < 256) where
   bytes-still : (x : ℕ) → x < stateSize → AreBytes (set s x v)

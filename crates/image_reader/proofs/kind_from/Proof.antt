@@ -5,23 +5,39 @@ use borrow.Author.Needs.{needs}
 use Rattle.image_reader.proofs.kind_from.Statement.{statement}
 use Rattle.image_reader.proofs.kind_from.Tie as tie
 
-fields-requires : tie.Need-fields-requires
-fields-requires c κs = search needs
+byte-requires : tie.Need-byte-requires
+byte-requires c κs = search needs
 
-cast-t6 : tie.Need-cast-t6
-cast-t6 c = search needs
+add-two-bytes : tie.Need-add-two-bytes
+add-two-bytes c = search needs
 
-cast-t9 : tie.Need-cast-t9
-cast-t9 c = search needs
+two-bytes-requires : tie.Need-two-bytes-requires
+two-bytes-requires c κs = search needs
 
-cast-t12 : tie.Need-cast-t12
-cast-t12 c = search needs
+add-two-bytes-2 : tie.Need-add-two-bytes-2
+add-two-bytes-2 c = search needs
 
-cast-t14 : tie.Need-cast-t14
-cast-t14 c = search needs
+two-bytes-requires-2 : tie.Need-two-bytes-requires-2
+two-bytes-requires-2 c κs = search needs
+
+add-two-bytes-3 : tie.Need-add-two-bytes-3
+add-two-bytes-3 c = search needs
+
+two-bytes-requires-3 : tie.Need-two-bytes-requires-3
+two-bytes-requires-3 c κs = search needs
 
 returns : tie.Need-returns
 returns c = search kind-at
 
 pub kind-from-spec : {M : Type 1} → statement M
-kind-from-spec = tie.close (tie.spec fields-requires cast-t6 cast-t9 cast-t12 cast-t14 returns)
+kind-from-spec =
+    tie.close
+    (tie.spec
+    byte-requires
+    add-two-bytes
+    two-bytes-requires
+    add-two-bytes-2
+    two-bytes-requires-2
+    add-two-bytes-3
+    two-bytes-requires-3
+    returns)

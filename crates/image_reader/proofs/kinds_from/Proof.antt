@@ -5,7 +5,8 @@ use native.Mathlib.Omega.{arith}
 use mathlib.Core.Path.{_≡_}
 use Prim.Native.Nat.{_≤_, _-_}
 use Rattle.images.specs.Image.{kindsFrom}
-use Rattle.laws.specs.Written.Properties.{written-none, written-again, written-stop}
+use Rattle.images.specs.Image.Properties.{kinds-again}
+use Rattle.laws.specs.Written.Properties.{written-none, written-stop}
 use Rattle.image_reader.proofs.kinds_from.Statement.{statement}
 use Rattle.image_reader.proofs.kinds_from.Tie as tie
 
@@ -33,8 +34,26 @@ kind-from-requires c κs = search needs
 mul-kind : tie.Need-mul-kind Inv-loop μ-loop
 mul-kind c = search needs
 
-array-set-from-kind : tie.Need-array-set-from-kind Inv-loop μ-loop
-array-set-from-kind c = search needs
+way-write-given-kind : tie.Need-way-write-given-kind Inv-loop μ-loop
+way-write-given-kind c = search needs
+
+mul-kind-2 : tie.Need-mul-kind-2 Inv-loop μ-loop
+mul-kind-2 c = search needs
+
+way-write-given-kind-2 : tie.Need-way-write-given-kind-2 Inv-loop μ-loop
+way-write-given-kind-2 c = search needs
+
+mul-kind-3 : tie.Need-mul-kind-3 Inv-loop μ-loop
+mul-kind-3 c = search needs
+
+way-write-given-kind-3 : tie.Need-way-write-given-kind-3 Inv-loop μ-loop
+way-write-given-kind-3 c = search needs
+
+mul-kind-4 : tie.Need-mul-kind-4 Inv-loop μ-loop
+mul-kind-4 c = search needs
+
+way-write-given-kind-4 : tie.Need-way-write-given-kind-4 Inv-loop μ-loop
+way-write-given-kind-4 c = search needs
 
 add-i : tie.Need-add-i Inv-loop μ-loop
 add-i c = search needs
@@ -43,7 +62,7 @@ loop-less : tie.Need-loop-less Inv-loop μ-loop
 loop-less c = search needs
 
 loop-again : tie.Need-loop-again Inv-loop μ-loop
-loop-again c = (omega arith, search written-again)
+loop-again c = (omega arith, search kinds-again)
 
 returns : tie.Need-returns Inv-loop μ-loop
 returns c = search written-stop
@@ -60,7 +79,13 @@ kinds-from-spec =
     add-kind-from
     kind-from-requires
     mul-kind
-    array-set-from-kind
+    way-write-given-kind
+    mul-kind-2
+    way-write-given-kind-2
+    mul-kind-3
+    way-write-given-kind-3
+    mul-kind-4
+    way-write-given-kind-4
     add-i
     loop-less
     loop-again

@@ -5,17 +5,17 @@ use borrow.Author.Needs.{needs}
 use Rattle.image_reader.proofs.project_from.Statement.{statement}
 use Rattle.image_reader.proofs.project_from.Tie as tie
 
-fields-requires : tie.Need-fields-requires
-fields-requires c κs = search needs
+byte-requires : tie.Need-byte-requires
+byte-requires c κs = search needs
 
-cast-t6 : tie.Need-cast-t6
-cast-t6 c = search needs
+add-two-bytes : tie.Need-add-two-bytes
+add-two-bytes c = search needs
 
-cast-t8 : tie.Need-cast-t8
-cast-t8 c = search needs
+two-bytes-requires : tie.Need-two-bytes-requires
+two-bytes-requires c κs = search needs
 
 returns : tie.Need-returns
 returns c = search project-at
 
 pub project-from-spec : {M : Type 1} → statement M
-project-from-spec = tie.close (tie.spec fields-requires cast-t6 cast-t8 returns)
+project-from-spec = tie.close (tie.spec byte-requires add-two-bytes two-bytes-requires returns)

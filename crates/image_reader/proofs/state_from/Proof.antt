@@ -5,9 +5,6 @@ use borrow.Author.Needs.{needs}
 use Rattle.image_reader.proofs.state_from.Statement.{statement}
 use Rattle.image_reader.proofs.state_from.Tie as tie
 
-plan-from-requires : tie.Need-plan-from-requires
-plan-from-requires c κs = search needs
-
 slice-from-requires : tie.Need-slice-from-requires
 slice-from-requires c κs = search needs
 
@@ -22,4 +19,4 @@ returns c = search state-from
 
 pub state-from-spec : {M : Type 1} → statement M
 state-from-spec =
-    tie.close (tie.spec plan-from-requires slice-from-requires units-from-requires sums-from-requires returns)
+    tie.close (tie.spec slice-from-requires units-from-requires sums-from-requires returns)

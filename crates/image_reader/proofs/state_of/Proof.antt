@@ -14,11 +14,11 @@ empty-requires c κs = search needs
 returns : tie.Need-returns
 returns c = search state-short
 
-released-told-requires : tie.Need-released-told-requires
-released-told-requires c κs = search needs
-
 plan-from-requires : tie.Need-plan-from-requires
 plan-from-requires c κs = search needs
+
+released-told-requires : tie.Need-released-told-requires
+released-told-requires c κs = search needs
 
 no-state-requires : tie.Need-no-state-requires
 no-state-requires c κs = search needs
@@ -42,8 +42,8 @@ state-of-spec =
     bare-requires
     empty-requires
     returns
-    released-told-requires
     plan-from-requires
+    released-told-requires
     no-state-requires
     empty-requires-2
     returns-2

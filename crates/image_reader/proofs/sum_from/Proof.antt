@@ -5,14 +5,11 @@ use borrow.Author.Needs.{needs}
 use Rattle.image_reader.proofs.sum_from.Statement.{statement}
 use Rattle.image_reader.proofs.sum_from.Tie as tie
 
-fields-requires : tie.Need-fields-requires
-fields-requires c κs = search needs
-
-cast-result : tie.Need-cast-result
-cast-result c = search needs
+two-bytes-requires : tie.Need-two-bytes-requires
+two-bytes-requires c κs = search needs
 
 returns : tie.Need-returns
 returns c = search sum-at
 
 pub sum-from-spec : {M : Type 1} → statement M
-sum-from-spec = tie.close (tie.spec fields-requires cast-result returns)
+sum-from-spec = tie.close (tie.spec two-bytes-requires returns)

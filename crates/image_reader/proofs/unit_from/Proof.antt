@@ -5,17 +5,31 @@ use borrow.Author.Needs.{needs}
 use Rattle.image_reader.proofs.unit_from.Statement.{statement}
 use Rattle.image_reader.proofs.unit_from.Tie as tie
 
-fields-requires : tie.Need-fields-requires
-fields-requires c κs = search needs
+add-two-bytes : tie.Need-add-two-bytes
+add-two-bytes c = search needs
 
-cast-t6 : tie.Need-cast-t6
-cast-t6 c = search needs
+two-bytes-requires : tie.Need-two-bytes-requires
+two-bytes-requires c κs = search needs
 
-cast-t8 : tie.Need-cast-t8
-cast-t8 c = search needs
+add-two-bytes-2 : tie.Need-add-two-bytes-2
+add-two-bytes-2 c = search needs
+
+two-bytes-requires-2 : tie.Need-two-bytes-requires-2
+two-bytes-requires-2 c κs = search needs
+
+byte-requires : tie.Need-byte-requires
+byte-requires c κs = search needs
 
 returns : tie.Need-returns
 returns c = search unit-at
 
 pub unit-from-spec : {M : Type 1} → statement M
-unit-from-spec = tie.close (tie.spec fields-requires cast-t6 cast-t8 returns)
+unit-from-spec =
+    tie.close
+    (tie.spec
+    add-two-bytes
+    two-bytes-requires
+    add-two-bytes-2
+    two-bytes-requires-2
+    byte-requires
+    returns)

@@ -18,8 +18,8 @@ use Rattle.rack.specs.declared.State.{State}
 use Rattle.rack.specs.State.{noState}
 use Rattle.images.specs.declared.PlanFound.{PlanFound}
 use Rattle.images.specs.declared.StateFound.{StateFound}
-use Rattle.images.specs.Image.{planSize, stateSize, planFrom, stateFrom, releasedTold}
-use Rattle.images.specs.Lent.{room, planFound, foundAnswer, stateFound, Stores}
+use Rattle.images.specs.Image.{planSize, stateSize, planFrom, stateFrom, releasedTold, runningOver}
+use Rattle.images.specs.Lent.{room, planFound, foundAnswer, stateFound, Stores, StoresRunning}
 
 -- ---- a buffer against what is needed
 
@@ -112,3 +112,11 @@ stores-short image n s x b l = record { result = short-room s n x b l; buffer = 
 
 pub stores-good : (image : List ℕ) (n : ℕ) (s after : List ℕ) → n ≤ length s → after ≡ image ++ drop n s → Stores image n s Good after
 stores-good image n s after l e = record { result = long-room s n l; buffer = rw (le-ltb (length s) n l) e }
+
+-- ---- what follows the plan stored
+
+pub running-short : (v : State) (s : List ℕ) (x : Answer) → x ≡ bare 9 → length s < stateSize → StoresRunning v s x s
+running-short v s x b l = record { result = short-room s stateSize x b l; buffer = rw (lt-ltb (length s) stateSize l) }
+
+pub running-good : (v : State) (s after : List ℕ) → stateSize ≤ length s → after ≡ runningOver v s → StoresRunning v s Good after
+running-good v s after l e = record { result = long-room s stateSize l; buffer = rw (le-ltb (length s) stateSize l) e }

@@ -24,7 +24,8 @@ use Rattle.plan.specs.Order.{Sized, ProjectInRange, KindInRange, InOrder
 use Rattle.plan.specs.Order.{tidyProjects, tidyKinds}
 use Rattle.plan.specs.Order.{budgets, projectOf, kindOf, sizes, unused, projectInRange, projectsInRange, kindInRangeAt, kindsInRange}
 use Rattle.plan.specs.Order.{budgetsFit, ranges, checked}
-use Rattle.plan.specs.Order.Properties.{within-low, within-high, within-of, sizes-says, sizes-of, project-of, kind-says, kind-of}
+use Rattle.plan.specs.Order.Properties.{within-low, within-high, within-of, sizes-says, sizes-of, sized-same, project-of, kind-says}
+use Rattle.plan.specs.Order.Properties.{kind-of}
 use Rattle.plan.specs.Open.{withBudget, projectThere, inRangeOpen, projectInRangeOpen, projectsInRangeOpen, rangesOpen, checkedOpen}
 use Rattle.plan.specs.Open.{InOrderOpen}
 
@@ -154,18 +155,7 @@ module _ (p : Plan) (j : ℕ) where
       with-there = getD-set-same (p .project) j (record { ceiling = projectOf p j .ceiling; budget = b }) noProject place-there
 
       counts-kept : Sized (withBudget p j b)
-      counts-kept =
-          let s = o .counts in
-          record {
-            some-card = s .some-card;
-            cards-most = s .cards-most;
-            some-project = s .some-project;
-            projects-most = s .projects-most;
-            some-kind = s .some-kind;
-            kinds-most = s .kinds-most;
-            some-slice = s .some-slice;
-            frame-most = s .frame-most;
-          }
+      counts-kept = sized-same (withBudget p j b) p refl refl refl refl (o .counts)
 
       tidy-kept : (i : ℕ) → i < 8 → tidyProject (withBudget p j b) i ≡ true
       tidy-kept i l =

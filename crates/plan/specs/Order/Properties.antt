@@ -80,6 +80,16 @@ sizes-of p s =
       within-of 64 (p .frame) (s .some-slice) (s .frame-most),
     )
 
+-- the counts decide it, whatever the places hold
+module _ (p q : Plan) (cards : p .cards ≡ q .cards) (projects : p .projects ≡ q .projects) (kinds : p .kinds ≡ q .kinds)
+    (frame : p .frame ≡ q .frame) where
+  pub sizes-same : sizes p ≡ sizes q
+  unfolding sizes sized
+  sizes-same = rw (cards, projects, kinds, frame)
+
+  pub sized-same : Sized q → Sized p
+  sized-same s = sizes-says p (sizes-same ∙ sizes-of q s)
+
 -- ---- a place: used, empty, or beyond the used ones and not empty. r is what the test of emptiness answered
 
 pub used-place : (j used n : ℕ) (e : Bool) → used ≡ n → j < used → (ltb j n || e) ≡ true

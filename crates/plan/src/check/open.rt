@@ -3,7 +3,7 @@
 ghost use mathlib.Core.Path.{_≡_};
 ghost use mathlib.Core.Bool.{_&&_, _||_};
 ghost use Prim.Native.Nat.{_≤_, _*_};
-ghost use Rattle.plan.specs.Order.{within};
+ghost use Rattle.plan.specs.Order.{within, kindsInRange};
 ghost use Rattle.plan.specs.Open.{projectThere, projectsInRangeOpen, rangesOpen, checkedOpen};
 use crate::Plan;
 use crate::Project;
@@ -44,6 +44,19 @@ impl Plan {
                 .in_range_open(self.cards, self.frame, skipped) {
                 return Answer::at_project(4, j);
             }
+        }
+        Answer::Good
+    }
+
+    fn kinds_in_range(self) -> Answer
+        requires { ⌜ self .kinds ≤ 16 ⌝ }
+        ensures { λ r. ⌜ r ≡ kindsInRange self ⌝ }
+    {
+        for i in 0..self.kinds {
+            let answer = self.kind[i as usize].in_range(self.projects, i);
+            let Answer::Good = answer else {
+                return answer;
+            };
         }
         Answer::Good
     }

@@ -3,7 +3,7 @@
 use mathlib.Core.Path.{_≡_, refl, sym, ap, ap₂, _∙_}
 use mathlib.Core.Bool.{Bool, true, _&&_, _||_}
 use mathlib.Core.List.{List, [], _∷_, _++_, append-assoc}
-use Prim.Native.Nat.{ℕ, zero, suc, _+_, _*_, _≤_, _<_}
+use Prim.Native.Nat.{ℕ, _+_, _*_, _≤_, _<_}
 use native.Mathlib.Nat.{mul-le-mul}
 use native.Mathlib.Decide.{decLt}
 use native.Mathlib.Omega.{arith}
@@ -22,9 +22,9 @@ use Rattle.answer.specs.declared.Answer.the-variants.{Good}
 use Rattle.plan.specs.Record.{noProject, noKind}
 use Rattle.answer.specs.Answer.{_andThen_}
 use Rattle.answer.specs.Answer.Properties.{andThen-right}
-use Rattle.plan.specs.Order.{projectOf, kindOf, emptyProject, emptyKind, sized, sizes, unused, ranges, checked, InOrder, ProjectInRange}
+use Rattle.plan.specs.Order.{projectOf, kindOf, emptyProject, emptyKind, sizes, unused, ranges, checked, InOrder, ProjectInRange}
 use Rattle.plan.specs.Order.{KindInRange, Sized, tidyProject, tidyKind}
-use Rattle.plan.specs.Order.Properties.{in-order, sizes-of}
+use Rattle.plan.specs.Order.Properties.{in-order, sizes-of, sizes-same}
 use Rattle.codec.specs.Pack.{unpack}
 use Rattle.codec.specs.Bytes.{numberTo}
 use Rattle.codec.specs.Place.{placed, fieldsOf}
@@ -84,11 +84,6 @@ empty-kind v e =
     let d = eqb-true (v .length) 0 (and-right three four t) in
     λ i. record { project = a i; separation = b i; deadline = c i; length = d i }
 
--- the counts decide the first stage
-sizes-same : (p q : Plan) → p .cards ≡ q .cards → p .projects ≡ q .projects → p .kinds ≡ q .kinds → p .frame ≡ q .frame → sizes p ≡ sizes q
-unfolding sizes sized
-sizes-same p q a b c d = rw (a, b, c, d)
-
 -- beyond the used places
 pub unused-place : (j n : ℕ) (e : Bool) → n ≤ j → (ltb j n || e) ≡ true → e ≡ true
 unused-place j n e l t = rw (le-ltb j n l) at t
@@ -112,6 +107,36 @@ order-passes p o =
       project-at = o .project-at;
       kind-at = o .kind-at;
     }
+
+-- n places stored, and empty ones beyond them, are the list l where it has the same
+written-back : {A : Type 0} (empty : A) (m n : ℕ) (f : ℕ → A) (l : List A) → length l ≡ m → n ≤ m
+    → ((k : ℕ) → k < n → f k ≡ getD l k empty) → ((k : ℕ) → n ≤ k → k < m → getD l k empty ≡ empty) → written n f (replicate m empty) ≡ l
+written-back empty m n f l e most used beyond = ext-getD empty (written n f (replicate m empty)) l (long ∙ sym e) same
+  where
+    long : length (written n f (replicate m empty)) ≡ m
+    long = written-length n f (replicate m empty) ∙ length-replicate m empty
+
+    same : (k : ℕ) → k < length (written n f (replicate m empty)) → getD (written n f (replicate m empty)) k empty ≡ getD l k empty
+    same k s =
+        let b : k < m = omega (arith, long, s) in
+        elim (decLt k n) [
+          | yes q ↦ written-at n f (replicate m empty) empty k q (omega (arith, length-replicate m empty, most)) ∙ used k q
+          | no q ↦ written-kept n f (replicate m empty) empty k (omega arith) ∙ getD-replicate m k empty empty b
+              ∙ sym (beyond k (omega arith) b)
+        ]
+
+-- the places of a plan that passes 2 to 6, each stored as it is
+module _ (p : Plan) (shaped : Shaped p) (order : Passes p) where
+  pub projects-back : (f : ℕ → Project) → ((j : ℕ) → j < p .projects → f j ≡ projectOf p j)
+      → written (p .projects) f (replicate 8 noProject) ≡ p .project
+  projects-back f e =
+      written-back noProject 8 (p .projects) f (p .project) (shaped .eight) (order .counts .projects-most) e
+      (λ j l m. empty-project (projectOf p j) (unused-place j (p .projects) (emptyProject (projectOf p j)) l (order .projects-tidy j m)))
+
+  pub kinds-back : (f : ℕ → Kind) → ((i : ℕ) → i < p .kinds → f i ≡ kindOf p i) → written (p .kinds) f (replicate 16 noKind) ≡ p .kind
+  kinds-back f e =
+      written-back noKind 16 (p .kinds) f (p .kind) (shaped .sixteen) (order .counts .kinds-most) e
+      (λ i l m. empty-kind (kindOf p i) (unused-place i (p .kinds) (emptyKind (kindOf p i)) l (order .kinds-tidy i m)))
 
 module _ (p : Plan) (shaped : Shaped p) (order : Passes p) (rest : List ℕ) where
   projects-part : List ℕ
@@ -206,50 +231,15 @@ module _ (p : Plan) (shaped : Shaped p) (order : Passes p) (rest : List ℕ) whe
 
   projects-all : projectsFrom (headed all .projects) (afterHeader all) ≡ p .project
   unfolding projectsFrom
-  projects-all = ap (λ (n : ℕ). projectsFrom n (afterHeader all)) headed-projects
-      ∙ ext-getD noProject (projectsFrom (p .projects) (afterHeader all)) (p .project) (long ∙ sym (shaped .eight)) same
-    where
-      f : ℕ → Project
-      f j = projectFrom (projectAt (afterHeader all) j)
-
-      long : length (written (p .projects) f (replicate 8 noProject)) ≡ 8
-      long = written-length (p .projects) f (replicate 8 noProject)
-
-      same : (j : ℕ) → j < length (written (p .projects) f (replicate 8 noProject))
-          → getD (written (p .projects) f (replicate 8 noProject)) j noProject ≡ projectOf p j
-      same j l =
-          let m : j < 8 = omega (arith, long) in
-          let n = order .counts .projects-most in
-          elim (decLt j (p .projects)) [
-            | yes q ↦ written-at (p .projects) f (replicate 8 noProject) noProject j q (omega (arith, length-replicate 8 noProject))
-                ∙ project-is j q
-            | no q ↦ written-kept (p .projects) f (replicate 8 noProject) noProject j (omega arith)
-                ∙ getD-replicate 8 j noProject noProject m
-                ∙ sym (empty-project (projectOf p j)
-                (unused-place j (p .projects) (emptyProject (projectOf p j)) (omega arith) (order .projects-tidy j m)))
-          ]
+  projects-all =
+      ap (λ (n : ℕ). projectsFrom n (afterHeader all)) headed-projects
+      ∙ projects-back p shaped order (λ j. projectFrom (projectAt (afterHeader all) j)) project-is
 
   kinds-all : kindsFrom (headed all .kinds) (afterProjects all) ≡ p .kind
   unfolding kindsFrom
-  kinds-all = ap (λ (n : ℕ). kindsFrom n (afterProjects all)) headed-kinds
-      ∙ ext-getD noKind (kindsFrom (p .kinds) (afterProjects all)) (p .kind) (long ∙ sym (shaped .sixteen)) same
-    where
-      f : ℕ → Kind
-      f i = kindFrom (kindAt (afterProjects all) i)
-
-      long : length (written (p .kinds) f (replicate 16 noKind)) ≡ 16
-      long = written-length (p .kinds) f (replicate 16 noKind)
-
-      same : (i : ℕ) → i < length (written (p .kinds) f (replicate 16 noKind))
-          → getD (written (p .kinds) f (replicate 16 noKind)) i noKind ≡ kindOf p i
-      same i l =
-          let m : i < 16 = omega (arith, long) in
-          let n = order .counts .kinds-most in
-          elim (decLt i (p .kinds)) [
-            | yes q ↦ written-at (p .kinds) f (replicate 16 noKind) noKind i q (omega (arith, length-replicate 16 noKind)) ∙ kind-is i q
-            | no q ↦ written-kept (p .kinds) f (replicate 16 noKind) noKind i (omega arith) ∙ getD-replicate 16 i noKind noKind m
-                ∙ sym (empty-kind (kindOf p i) (unused-place i (p .kinds) (emptyKind (kindOf p i)) (omega arith) (order .kinds-tidy i m)))
-          ]
+  kinds-all =
+      ap (λ (n : ℕ). kindsFrom n (afterProjects all)) headed-kinds
+      ∙ kinds-back p shaped order (λ i. kindFrom (kindAt (afterProjects all) i)) kind-is
 
   pub decoded-all : decoded all ≡ p
   unfolding decoded

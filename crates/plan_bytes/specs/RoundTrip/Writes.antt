@@ -8,7 +8,7 @@ use native.Mathlib.Nat.{mul-suc, mul-zero}
 use native.Mathlib.Omega.{arith}
 use lib.Dec.{ltb, eqb}
 use lib.ListN.{length, getD, take, drop, replicate, length-replicate, length-drop}
-use lib.Seq.{getD-drop, take-add}
+use lib.Seq.{take-add}
 use borrow.Author.Tests.{eqb-true, ltb-false, not-false}
 use Rattle.laws.specs.Tests.{and-left, and-right}
 use Rattle.laws.specs.All.Properties.{all-at}
@@ -21,6 +21,7 @@ use Rattle.plan.specs.Order.{sizes, ranges, checked, Sized}
 use Rattle.plan.specs.Order.Properties.{sizes-says}
 use Rattle.codec.specs.Pack.{pack, unpack}
 use Rattle.codec.specs.Bytes.{bytesOf, AreBytes}
+use Rattle.codec.specs.Bytes.Properties.{bytes-behind}
 use Rattle.codec.specs.Place.{placed, fieldsOf}
 use Rattle.codec.specs.Place.Properties.{placed-fields}
 use Rattle.codec.specs.Places.{partsTo}
@@ -92,9 +93,6 @@ read-size s e = taken-is s (answer-is s e) ∙ sym (ap size (plan-is s (answer-i
 
 -- ---- the parts, one by one
 
-bytes-drop : (s : List ℕ) (a : ℕ) → AreBytes s → AreBytes (drop a s)
-bytes-drop s a b i = rw (getD-drop a s i 0) (b (a + i))
-
 -- a part stored as it was read, its spare bits zero, is the bytes that were read
 
 header-same : (s : List ℕ) → AreBytes s → 3 ≤ length s → headerSpare s ≡ 0 → headerBytes (headed s) ≡ take 3 s
@@ -159,7 +157,7 @@ module _ (s : List ℕ) (b : AreBytes s) (good : ReadGood s) where
       let e = written-at (headed s .projects) (λ k. projectFrom (projectAt (afterHeader s) k)) (replicate 8 noProject) noProject j l
       (omega (arith, length-replicate 8 noProject)) in
       ap projectBytes e
-      ∙ project-same (projectAt (afterHeader s) j) (bytes-drop (afterHeader s) (2 * j) (bytes-drop s 3 b))
+      ∙ project-same (projectAt (afterHeader s) j) (bytes-behind (afterHeader s) (bytes-behind s b 3) (2 * j))
       (omega (arith, length-drop (2 * j) (afterHeader s), length-drop 3 s)) (project-spare j l)
 
   kind-part : (i : ℕ) → i < headed s .kinds → kindBytesAt (decoded s) i ≡ take 5 (drop (5 * i) (afterProjects s))
@@ -170,7 +168,7 @@ module _ (s : List ℕ) (b : AreBytes s) (good : ReadGood s) where
       let e = written-at (headed s .kinds) (λ k. kindFrom (kindAt (afterProjects s) k)) (replicate 16 noKind) noKind i l
       (omega (arith, length-replicate 16 noKind)) in
       ap kindBytes e
-      ∙ kind-same (kindAt (afterProjects s) i) (bytes-drop (afterProjects s) (5 * i) (bytes-drop s (3 + 2 * headed s .projects) b))
+      ∙ kind-same (kindAt (afterProjects s) i) (bytes-behind (afterProjects s) (bytes-behind s b (3 + 2 * headed s .projects)) (5 * i))
       (omega (arith, length-drop (5 * i) (afterProjects s), length-drop (3 + 2 * headed s .projects) s)) (kind-spare i l)
 
   decoded-back : encoded (decoded s) ≡ take (size (headed s)) s

@@ -13,7 +13,6 @@ use Rattle.rack.specs.declared.Next.{Next}
 use Rattle.rack.specs.Release.{releaseOf}
 use Rattle.rack.specs.Show.{showAnswer, bufferShown, Shows}
 use Rattle.rack.specs.Show.Properties.{show-room}
-use Rattle.rack.specs.Advance.{advanceOf}
 use Rattle.rack.specs.Row.{rowByte, rowOver}
 use Rattle.rack.specs.Row.Properties.{over-at}
 use Rattle.lines.specs.declared.line.Line.the-variants as line
@@ -21,7 +20,7 @@ use Rattle.lines.specs.Ascii.{ascii}
 use Rattle.lines.specs.Text.{decimal}
 use Rattle.lines.specs.Line.{rowText, sliceLine, lineText}
 use Rattle.commands.specs.declared.command.Command.the-variants.{Slice, Release}
-use Rattle.player.specs.Turn.{rowRoom, lineOf, after, Turns}
+use Rattle.player.specs.Turn.{rowRoom, lineOf}
 
 -- two rows that agree on the cards print the same
 row-same : (cards : ℕ) (f g : ℕ → ℕ) → ((card : ℕ) → card < cards → f card ≡ g card) → rowText cards f ≡ rowText cards g
@@ -52,13 +51,11 @@ module _ (s : State) (answer : Answer) (row : List ℕ) (shows : Shows s (replic
       rw (fit, ← row-same (s .plan .cards) (λ (card : ℕ). getD row card 0) (rowByte s) (row-is e))
   told (No w) e = refl
 
-  pub slice-told : (next : Next) → next ≡ advanceOf s →
-      Turns s Slice (record { state = next .state; line = line.Slice answer (s .slice) (s .plan .cards); row = row })
-  unfolding lineOf lineText after
-  slice-told next moves =
-      record { state = ap (λ (n : Next). n .state) moves; line = rw (← (shows .result)) (told answer refl) }
+  pub slice-told : lineText (line.Slice answer (s .slice) (s .plan .cards)) row ≡ lineOf s Slice
+  unfolding lineOf lineText
+  slice-told = rw (← (shows .result)) (told answer refl)
 
 pub release-told : (s : State) (kind e : ℕ) (next : Next) (row : List ℕ) → next ≡ releaseOf s kind e
-    → Turns s (Release kind e) (record { state = next .state; line = line.Release kind e (next .answer); row = row })
-unfolding lineOf lineText after
-release-told s kind e next row q = record { state = ap (λ (n : Next). n .state) q; line = rw (← q) }
+    → lineText (line.Release kind e (next .answer)) row ≡ lineOf s (Release kind e)
+unfolding lineOf lineText
+release-told s kind e next row q = rw (← q)

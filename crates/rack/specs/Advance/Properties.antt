@@ -28,8 +28,6 @@ use Rattle.unit.specs.Step as Step
 use Rattle.unit.specs.Step.{goneAfter}
 use Rattle.unit.specs.Step.Properties.{gone-never}
 use Rattle.plan.specs.declared.Kind.{Kind}
-use Rattle.plan.specs.declared.Plan.{Plan}
-use Rattle.plan.specs.Order.{kindOf}
 use Rattle.rack.specs.declared.State.{State}
 use Rattle.rack.specs.State.{unitOf, kindAt, kindPlaces, InUse, projectPlaces, ProjectInUse, sumAt, Places}
 use Rattle.rack.specs.State.Properties.{refused-keeps, good-moves}
@@ -48,10 +46,6 @@ use Rattle.rack.specs.Advance.{unitAfter, servedFor, sumAfter, advanced,
 
 pub advance-says : (s : State) → advanceAnswer s ≡ Good → Ready s
 advance-says s good = ready-says s good
-
--- what the tests answered, opened
-pub advance-opened : (s : State) (r : Answer) → r ≡ Good → r ≡ advanceAnswer s → Ready s
-advance-opened s r good is = advance-says s (sym is ∙ good)
 
 -- an accepted one hands back the state that follows, and a refusal changes nothing
 pub advance-moves : (s : State) → advanceOf s .answer ≡ Good → advanceOf s .state ≡ advanced s
@@ -239,81 +233,63 @@ module _ (s : State) (r : Ready s) (seat : List ℕ) (es : seat ≡ seatsOf s) (
         (λ j m q. ap (λ (x : ℕ). sumAt s j - x)
         (sym (count-no (countTo i (servedFor s j)) i (servedFor s j) refl (served-other s j i (λ w. q (sym (ec ∙ w)))))))
 
--- ---- the loop: s is the state as it was, plan, seat and n what was laid down before it, and t the state so far
+-- ---- the loop: seat and n are what was laid down before it, and units and sums those of the state that follows, so far
 
-pub record Laid (s : State) (plan : Plan) (seat : List ℕ) (n : ℕ) : Type 0 where
+pub record Laid (s : State) (seat : List ℕ) (n : ℕ) : Type 0 where
   pub ready : Ready s
-  pub plan-is : plan ≡ s .plan
   pub seats : seat ≡ seatsOf s
   pub places : n ≡ kindPlaces s
 
 -- the kinds below i are done
-pub record Ran (s : State) (i : ℕ) (t : State) : Type 0 where
-  pub plan : t .plan ≡ s .plan
-  pub slice : t .slice ≡ s .slice
-  pub unit : t .unit ≡ written i (unitAfter s) (s .unit)
-  pub sum : t .sum ≡ sumsBelow s i
+pub record Ran (s : State) (i : ℕ) (units : List Unit) (sums : List ℕ) : Type 0 where
+  pub unit : units ≡ written i (unitAfter s) (s .unit)
+  pub sum : sums ≡ sumsBelow s i
 
-pub ran-none : (s : State) → Ran s 0 s
-ran-none s = record { plan = refl; slice = refl; unit = written-none (unitAfter s) (s .unit); sum = sums-start s }
+pub ran-none : (s : State) → Ran s 0 (s .unit) (s .sum)
+ran-none s = record { unit = written-none (unitAfter s) (s .unit); sum = sums-start s }
 
-module _ (s : State) (plan : Plan) (seat : List ℕ) (n : ℕ) (laid : Laid s plan seat n) (i : ℕ) (l : i < n) (t : State)
-    (ran : Ran s i t) where
-  kind-is : kindOf plan i ≡ kindAt s i
-  kind-is = ap (λ (p : Plan). kindOf p i) (laid .plan-is)
-
-  pub ran-project : kindOf plan i .project < 8
-  ran-project =
-      let most = lowered-project s (laid .ready) seat (laid .seats) (t .sum) i (ran .sum) n (laid .places) l in
-      omega (arith, most, ap (λ (k : Kind). k .project) kind-is)
+module _ (s : State) (seat : List ℕ) (n : ℕ) (laid : Laid s seat n) (i : ℕ) (l : i < n) (units : List Unit) (sums : List ℕ)
+    (ran : Ran s i units sums) where
+  pub ran-project : kindAt s i .project < 8
+  ran-project = lowered-project s (laid .ready) seat (laid .seats) sums i (ran .sum) n (laid .places) l
 
   -- the unit that is stored: b is whether the kind sits
-  unit-stored : (b : Bool) (k : Kind) (v : Unit) → b ≡ not (eqb (at seat i) 0) → k ≡ kindOf plan i →
-      v ≡ Step.unitAfter b (k .separation) (unitOf t i) → set (t .unit) i v ≡ written (i + 1) (unitAfter s) (s .unit)
-  unit-stored b k v eb ek ev =
-      unit-more s (laid .ready) seat (laid .seats) (t .unit) i (ran .unit) n (laid .places) l b k v eb (ek ∙ kind-is) ev
+  unit-stored : (b : Bool) (v : Unit) → b ≡ not (eqb (at seat i) 0) →
+      v ≡ Step.unitAfter b (kindAt s i .separation) (getD units i noUnit) → set units i v ≡ written (i + 1) (unitAfter s) (s .unit)
+  unit-stored b v eb ev = unit-more s (laid .ready) seat (laid .seats) units i (ran .unit) n (laid .places) l b (kindAt s i) v eb refl ev
 
-  pub ran-same : (b : Bool) (k : Kind) (v : Unit) → b ≡ not (eqb (at seat i) 0) → k ≡ kindOf plan i →
-      v ≡ Step.unitAfter b (k .separation) (unitOf t i) → at seat i ≡ 0 →
-      Ran s (i + 1) (record { plan = t .plan; slice = t .slice; unit = set (t .unit) i v; sum = t .sum })
-  ran-same b k v eb ek ev z = record {
-    plan = ran .plan;
-    slice = ran .slice;
-    unit = unit-stored b k v eb ek ev;
-    sum = sums-same s (laid .ready) seat (laid .seats) (t .sum) i (ran .sum) n (laid .places) l z;
+  pub ran-same : (b : Bool) (v : Unit) → b ≡ not (eqb (at seat i) 0) →
+      v ≡ Step.unitAfter b (kindAt s i .separation) (getD units i noUnit) → at seat i ≡ 0 → Ran s (i + 1) (set units i v) sums
+  ran-same b v eb ev z = record {
+    unit = unit-stored b v eb ev;
+    sum = sums-same s (laid .ready) seat (laid .seats) sums i (ran .sum) n (laid .places) l z;
   }
 
-  module _ (z : at seat i ≡ 0 → ⊥) (c : ℕ) (k : Kind) (ek : k ≡ kindOf plan i) (ec : c ≡ k .project) where
-    its : c ≡ kindAt s i .project
-    its = ec ∙ ap (λ (x : Kind). x .project) (ek ∙ kind-is)
+  module _ (z : at seat i ≡ 0 → ⊥) (c : ℕ) (its : c ≡ kindAt s i .project) where
+    pub ran-sum : 0 < getD sums c 0
+    ran-sum = sums-some s (laid .ready) seat (laid .seats) sums i (ran .sum) n (laid .places) l z c its
 
-    pub ran-sum : 0 < getD (t .sum) c 0
-    ran-sum = sums-some s (laid .ready) seat (laid .seats) (t .sum) i (ran .sum) n (laid .places) l z c its
-
-    pub ran-one : (b : Bool) (v : Unit) → b ≡ not (eqb (at seat i) 0) → v ≡ Step.unitAfter b (k .separation) (unitOf t i) →
-        Ran s (i + 1) (record { plan = t .plan; slice = t .slice; unit = set (t .unit) i v; sum = set (t .sum) c (getD (t .sum) c 0 - 1) })
+    pub ran-one : (b : Bool) (v : Unit) → b ≡ not (eqb (at seat i) 0) →
+        v ≡ Step.unitAfter b (kindAt s i .separation) (getD units i noUnit) →
+        Ran s (i + 1) (set units i v) (set sums c (getD sums c 0 - 1))
     ran-one b v eb ev = record {
-      plan = ran .plan;
-      slice = ran .slice;
-      unit = unit-stored b k v eb ek ev;
-      sum = sums-one s (laid .ready) seat (laid .seats) (t .sum) i (ran .sum) n (laid .places) l z c its;
+      unit = unit-stored b v eb ev;
+      sum = sums-one s (laid .ready) seat (laid .seats) sums i (ran .sum) n (laid .places) l z c its;
     }
 
 -- all are done
-module _ (s : State) (plan : Plan) (seat : List ℕ) (n : ℕ) (laid : Laid s plan seat n) (i : ℕ) (t : State) (ran : Ran s i t) where
-  pub ran-slice : t .slice < plan .frame
-  ran-slice = omega (arith, ran .slice, laid .ready .form .slice-below, ap (λ (p : Plan). p .frame) (laid .plan-is))
+module _ (s : State) (seat : List ℕ) (n : ℕ) (laid : Laid s seat n) where
+  pub laid-slice : s .slice < s .plan .frame
+  laid-slice = laid .ready .form .slice-below
 
-  pub ran-all : (x : ℕ) → i ≤ n → n ≤ i → x ≡ (t .slice + 1) % plan .frame →
-      record { plan = t .plan; slice = x; unit = t .unit; sum = t .sum } ≡ advanced s
+  pub ran-all : (i : ℕ) (units : List Unit) (sums : List ℕ) → Ran s i units sums → (x : ℕ) → i ≤ n → n ≤ i →
+      x ≡ (s .slice + 1) % s .plan .frame → record { plan = s .plan; slice = x; unit = units; sum = sums } ≡ advanced s
   unfolding advanced sumAfter
-  ran-all x a b ex =
+  ran-all i units sums ran x a b turned =
       let done : i ≡ kindPlaces s = omega (arith, laid .places) in
-      let all = written-stop i (kindPlaces s) (unitAfter s) (s .unit) (t .unit) (ran .unit) (omega arith) (omega arith) in
-      let sums = ran .sum ∙ ap (λ (y : ℕ). sumsBelow s y) done in
-      let turned : x ≡ (s .slice + 1) % s .plan .frame = ex ∙ ap₂ (λ (y : ℕ) (p : Plan). (y + 1) % p .frame) (ran .slice) (laid .plan-is) in
-      let same = ran .plan in
-      λ k. record { plan = same k; slice = turned k; unit = all k; sum = sums k }
+      let all = written-stop i (kindPlaces s) (unitAfter s) (s .unit) units (ran .unit) (omega arith) (omega arith) in
+      let last = ran .sum ∙ ap (λ (y : ℕ). sumsBelow s y) done in
+      λ k. record { plan = s .plan; slice = turned k; unit = all k; sum = last k }
 
 -- ---- it is in form
 

@@ -14,7 +14,7 @@ use Rattle.laws.specs.Tests.{and-left, and-right, and-both, told-yes, told-no, 
 use Rattle.laws.specs.Sum.{sumTo}
 use Rattle.laws.specs.Sum.Properties.{sum-more}
 use Rattle.laws.specs.All.{allTo}
-use Rattle.laws.specs.All.Properties.{all-more, all-at, all-of, all-fails}
+use Rattle.laws.specs.All.Properties.{all-at, all-of, all-fails}
 use Rattle.laws.specs.Written.Properties.{written-cong, stored-at}
 use Rattle.answer.specs.declared.Answer.{Answer}
 use Rattle.answer.specs.declared.Answer.the-variants.{Good}
@@ -52,11 +52,6 @@ used-says s i e = ltb-true i (kindPlaces s) e
 pub place-found : (s : State) (i : ℕ) (u b : Bool) → u ≡ used s i →
     b ≡ fitsPlace u (kindAt s i) (unitOf s i) → b ≡ placeInForm s i
 place-found s i u b e q = q ∙ ap (λ (x : Bool). fitsPlace x (kindAt s i) (unitOf s i)) e
-
--- and the places so far with it
-pub place-more : (s : State) (i : ℕ) (b : Bool) → true ≡ allTo i (placeInForm s) → b ≡ placeInForm s i → not b ≡ false →
-    true ≡ allTo (i + 1) (placeInForm s)
-place-more s i b all e t = all-more i (placeInForm s) all (told-yes (placeInForm s i) b e t)
 
 -- ---- the stored sums
 
@@ -134,6 +129,10 @@ ready-says s e =
       sums = sums-say s (not-false (sumsRight s) (refuse-good (not (sumsRight s)) _ (andThen-right ten (sumsTold s) both)));
     }
 
+-- what the check answered, opened
+pub ready-opened : (s : State) (r : Answer) → r ≡ Good → r ≡ ready s → Ready s
+ready-opened s r good is = ready-says s (sym is ∙ good)
+
 -- and nothing more is asked
 pub ready-of : (s : State) → Ready s → ready s ≡ Good
 unfolding ready sumsTold
@@ -158,7 +157,7 @@ module _ (s : State) (i : ℕ) (r : Answer) (u : Bool) (good : r ≡ Good) (is :
 
   -- a kind's place is one of the sixteen
   pub ready-place : i < 16
-  ready-place = place-most s i (ready-says s (sym is ∙ good)) kind-opened
+  ready-place = place-most s i (ready-opened s r good is) kind-opened
 
 -- ---- the pass over the kinds, which goes through places in form: i is how far it is, and l what is left so far
 

@@ -1,7 +1,7 @@
 -- Laws of a release: what an accepted one says, and that nothing less is asked.
 -- Assumes nothing.
 use mathlib.Core.Path.{_≡_, refl, sym, ap, _∙_}
-use mathlib.Core.Bool.{true, not, cond, true≢false}
+use mathlib.Core.Bool.{Bool, true, false, not, cond, true≢false}
 use Prim.Native.Nat.{ℕ, _+_, _*_, _≤_, _<_}
 use mathlib.Core.Logic.{_≢_}
 use native.Mathlib.Decide.{ℕ-discrete}
@@ -11,18 +11,20 @@ use lib.ListN.{set, length-set}
 use lib.Seq.{getD-set-same, getD-set-other}
 use borrow.Author.Tests.{eq-eqb, ne-eqb, not-false}
 use Rattle.laws.specs.Sum.Properties.{sum-bound}
+use Rattle.laws.specs.Tests.{told-yes, told-no}
 use Rattle.answer.specs.declared.Answer.{Answer}
 use Rattle.answer.specs.declared.Answer.the-variants.{Good, No}
 use Rattle.answer.specs.declared.Refusal.{Refusal}
 use Rattle.answer.specs.Answer.{bare, refuse, _andThen_}
-use Rattle.answer.specs.Answer.Properties.{andThen-left, andThen-right, refuse-good}
+use Rattle.answer.specs.Answer.Properties.{andThen-left, andThen-right, refuse-good, opened-no, opened-on}
 use Rattle.unit.specs.declared.Unit.{Unit}
 use Rattle.unit.specs.Start.{startable}
 use Rattle.unit.specs.Start.Properties.{start-says, start-of, start-none-left}
 use Rattle.rack.specs.declared.State.{State}
+use Rattle.rack.specs.declared.Next.{Next}
 use Rattle.unit.specs.Unit.{noUnit}
 use Rattle.rack.specs.State.{unitOf, kindAt, kindPlaces, InUse, used, projectPlaces, sumAt, Places}
-use Rattle.rack.specs.State.Properties.{refused-keeps}
+use Rattle.rack.specs.State.Properties.{next-kept, next-moved, refused-keeps}
 use Rattle.rack.specs.Sums.{leftFor, projectLeft, SumsRight}
 use Rattle.rack.specs.Sums.Properties.{sum-changed, left-own, left-other, left-most, left-none}
 use Rattle.rack.specs.Form.{ready, Ready}
@@ -50,13 +52,10 @@ release-of s i e r = rw (ready-of s (r .ready), used-of s i (r .its-kind), start
 
 -- ---- what the tests answered, opened
 
-pub release-opened : (s : State) (i e : ℕ) (r : Answer) → r ≡ Good → r ≡ releaseAnswer s i e → Releasable s i e
+release-opened : (s : State) (i e : ℕ) (r : Answer) → r ≡ Good → r ≡ releaseAnswer s i e → Releasable s i e
 release-opened s i e r g q = release-says s i e (sym q ∙ g)
 
-pub release-place : (s : State) (i e : ℕ) (r : Answer) → r ≡ Good → r ≡ releaseAnswer s i e → i < 16
-release-place s i e r g q = let o = release-opened s i e r g q in place-most s i (o .ready) (o .its-kind)
-
-pub release-length : (s : State) (i e : ℕ) (r : Answer) → r ≡ Good → r ≡ releaseAnswer s i e → e < 65536
+release-length : (s : State) (i e : ℕ) (r : Answer) → r ≡ Good → r ≡ releaseAnswer s i e → e < 65536
 release-length s i e r g q =
     let o = release-opened s i e r g q in
     let k = o .ready .order .kind-at i (o .its-kind) in
@@ -106,7 +105,7 @@ module _ (s : State) (i e : ℕ) (r : Releasable s i e) where
       let most = r .ready .order .counts .kinds-most in
       omega (arith, r .ready .sums c its-project, changed, none, own, sum-bound n 4095 with-new new-most, most)
 
-pub release-project : (s : State) (i e : ℕ) (r : Answer) → r ≡ Good → r ≡ releaseAnswer s i e → kindAt s i .project < 8
+release-project : (s : State) (i e : ℕ) (r : Answer) → r ≡ Good → r ≡ releaseAnswer s i e → kindAt s i .project < 8
 release-project s i e r g q =
     let o = release-opened s i e r g q in omega (arith, its-project s i e o, o .ready .order .counts .projects-most)
 
@@ -115,11 +114,58 @@ pub release-room : (s : State) (i e j : ℕ) (r : Answer) → r ≡ Good → r �
 release-room s i e j r g q z = omega (arith, room s i e (release-opened s i e r g q), ap (sumAt s) z)
 
 -- the state as the code makes it: j is its project
-pub released-is : (s : State) (i e j : ℕ) → j ≡ kindAt s i .project →
+released-is : (s : State) (i e j : ℕ) → j ≡ kindAt s i .project →
     record { plan = s .plan; slice = s .slice; unit = set (s .unit) i (startedUnit e); sum = set (s .sum) j (sumAt s j + e) }
     ≡ released s i e
 unfolding released
 released-is s i e j z = rw z
+
+-- ---- the exits: k is what the check answered, u whether the kind is in use, and a what comes after that
+
+module _ (s : State) (i e : ℕ) (k : Answer) (is : k ≡ ready s) where
+  pub release-unready : (w : Refusal) → k ≡ No w → _≡_ {A = Next} (record { answer = k; state = s }) (releaseOf s i e)
+  unfolding releaseOf releaseAnswer
+  release-unready w n = next-kept k (releaseAnswer s i e) w (released s i e) s n (opened-no k (ready s) _ w n is)
+
+  module _ (good : k ≡ Good) (u : Bool) (eu : u ≡ used s i) (a : Answer) where
+    pub release-no-kind : not u ≡ true → a ≡ bare 12 → _≡_ {A = Next} (record { answer = a; state = s }) (releaseOf s i e)
+    unfolding releaseOf releaseAnswer
+    release-no-kind t n =
+        let told : used s i ≡ false = told-no (used s i) u eu t in
+        next-kept a (releaseAnswer s i e) _ (released s i e) s n (opened-on k (ready s) _ a good is (rw told n))
+
+    module _ (yes : not u ≡ false) (ea : a ≡ startable (kindAt s i) (unitOf s i) e) where
+      answered : a ≡ releaseAnswer s i e
+      unfolding releaseAnswer
+      answered = opened-on k (ready s) _ a good is (rw (told-yes (used s i) u eu yes) ea)
+
+      pub release-unstarted : (w : Refusal) → a ≡ No w → _≡_ {A = Next} (record { answer = a; state = s }) (releaseOf s i e)
+      unfolding releaseOf
+      release-unstarted w n = next-kept a (releaseAnswer s i e) w (released s i e) s n answered
+
+      module _ (start : a ≡ Good) where
+        pub starts-length : e < 65536
+        starts-length = release-length s i e a start answered
+
+        pub starts-project : kindAt s i .project < 8
+        starts-project = release-project s i e a start answered
+
+        pub starts-room : (j : ℕ) → j ≡ kindAt s i .project → sumAt s j + e < 65536
+        starts-room j z = release-room s i e j a start answered z
+
+        pub release-started : (j : ℕ) → j ≡ kindAt s i .project →
+            _≡_ {A = Next} (record {
+              answer = a;
+              state = record {
+                plan = s .plan;
+                slice = s .slice;
+                unit = set (s .unit) i (startedUnit e);
+                sum = set (s .sum) j (sumAt s j + e);
+              };
+            })
+            (releaseOf s i e)
+        unfolding releaseOf
+        release-started j z = next-moved a (releaseAnswer s i e) _ (released s i e) s start answered (released-is s i e j z)
 
 -- ---- a refusal changes nothing
 

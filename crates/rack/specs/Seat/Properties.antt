@@ -30,11 +30,10 @@ use Rattle.seats.specs.Seats.Properties.{seats-found}
 use Rattle.rack.specs.declared.State.{State}
 use Rattle.rack.specs.State.{unitOf, kindAt, kindPlaces, projectPlaces, InUse, ProjectInUse}
 use Rattle.rack.specs.Form.{Ready}
-use Rattle.rack.specs.Form.Properties.{look-project}
 use Rattle.rack.specs.View.{cardsHeld, lowestCard, endCard, rankOf}
 use Rattle.rack.specs.View.Properties.{lowest-held}
 use Rattle.rack.specs.Rank.{until, working, active, outranks, viewOf, ownView, rank, served}
-use Rattle.rack.specs.Rank.Properties.{sooner-agree, working-left, idle-left, active-is, active-idle}
+use Rattle.rack.specs.Rank.Properties.{sooner-agree, working-left, idle-left, active-working, active-is, active-idle}
 use Rattle.rack.specs.Rank.Properties.{served-rank, idle-unserved, unserved-rank, in-frame}
 use Rattle.rack.specs.Row.{takes, rowByte, rowOver}
 use Rattle.rack.specs.Row.Properties.{row-card, row-first, served-takes, takes-served, takes-below, card-kind, over-written}
@@ -143,7 +142,7 @@ module _ (s : State) (r : Ready s) where
   -- the arrays hold what the state says
   module _ (works untils low end : List ℕ)
       (ew : (k : ℕ) → k < kinds → at works k ≡ worksOf s k)
-      (ed : (k : ℕ) → k < kinds → at untils k ≡ until s k)
+      (ed : (k : ℕ) → k < kinds → working s k ≡ true → at untils k ≡ until s k)
       (el : (j : ℕ) → j < projectPlaces s → at low j ≡ lowestCard (viewOf s j))
       (ee : (j : ℕ) → j < projectPlaces s → at end j ≡ endCard (viewOf s j)) where
     works-working : (k : ℕ) → k < kinds → working s k ≡ true → at works k ≡ project k + 1
@@ -166,7 +165,9 @@ module _ (s : State) (r : Ready s) where
     ranks-agree i l w =
         let mine : ℕ → Bool = λ k. eqb (at works k) (at works i) in
         rank-cong kinds mine (active s (project i)) (sooner (at untils)) (sooner (until s)) i
-        (λ k m. same-project i k l m w) (λ k m e. sooner-agree (at untils) (until s) k i (ed k m) (ed i l))
+        (λ k m. same-project i k l m w)
+        (λ k m e. sooner-agree (at untils) (until s) k i
+        (ed k m (active-working s (project i) k (sym (same-project i k l m w) ∙ e))) (ed i l w))
 
     seat-found : (i : ℕ) → i < kinds → seatBy works untils low end kinds i ≡ seatOf s i
     unfolding seatBy
@@ -181,33 +182,27 @@ module _ (s : State) (r : Ready s) where
             (seat-is s r i w)
         go false w = rw (works-idle i l w) (sym (seat-unserved s i (idle-unserved s i w)))
 
-  -- ---- the arrays as the code fills them: n is how many places it looks through
-
-  pub project-small : (i : ℕ) → i < 16 → project i < 8
-  project-small i l = look-project s i (r .order) l
-
   pub slice-in-frame : s .slice < s .plan .frame
   slice-in-frame = r .form .slice-below
 
-  pub seats-are : (works untils low end seats : List ℕ) (n m : ℕ) → m ≡ kinds → 16 ≤ n → n ≤ 16 →
-      works ≡ written n (worksOf s) (replicate 16 0) → untils ≡ written n (until s) (replicate 16 0) →
+  -- ---- the arrays as the code fills them: of kinds with nothing left untils may say anything
+
+  pub seats-are : (works untils low end seats : List ℕ) (n : ℕ) → n ≡ kinds →
+      ((k : ℕ) → k < kinds → at works k ≡ worksOf s k) → ((k : ℕ) → k < kinds → working s k ≡ true → at untils k ≡ until s k) →
       low ≡ written (projectPlaces s) (lowestAt (s .plan) (s .slice)) (replicate 8 0) →
       end ≡ written (projectPlaces s) (endAt (s .plan) (s .slice)) (replicate 8 0) →
-      seats ≡ seatsBy works untils low end m → seats ≡ seatsOf s
+      seats ≡ seatsBy works untils low end n → seats ≡ seatsOf s
   unfolding seatsOf
-  seats-are works untils low end seats n m em a b ew ed el ee es =
-      seats-found works untils low end kinds seats (r .order .counts .kinds-most) (es ∙ ap (seatsBy works untils low end) em)
+  seats-are works untils low end seats n en ew ed el ee es =
+      seats-found works untils low end kinds seats (r .order .counts .kinds-most) (es ∙ ap (seatsBy works untils low end) en)
       ∙ written-cong kinds (seatBy works untils low end kinds) (seatOf s) (replicate 16 0) each
     where
-      stored : (l : List ℕ) (f : ℕ → ℕ) → l ≡ written n f (replicate 16 0) → (k : ℕ) → k < kinds → at l k ≡ f k
-      stored l f e k q = ap (λ (x : List ℕ). at x k) e ∙ stored-at n 16 f k (omega (arith, r .order .counts .kinds-most)) b
-
       found : (l : List ℕ) (f : ℕ → ℕ) → l ≡ written (projectPlaces s) f (replicate 8 0) → (j : ℕ) → j < projectPlaces s → at l j ≡ f j
       found l f e j q = ap (λ (x : List ℕ). at x j) e ∙ stored-at (projectPlaces s) 8 f j q (r .order .counts .projects-most)
 
       each : (i : ℕ) → i < kinds → seatBy works untils low end kinds i ≡ seatOf s i
       each =
-          seat-found works untils low end (stored works (worksOf s) ew) (stored untils (until s) ed)
+          seat-found works untils low end ew ed
           (λ j l. found low (lowestAt (s .plan) (s .slice)) el j l ∙ lowest-view s j)
           (λ j l. found end (endAt (s .plan) (s .slice)) ee j l ∙ end-view s j)
 

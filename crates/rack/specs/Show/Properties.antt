@@ -3,18 +3,19 @@
 -- Assumes nothing.
 use mathlib.Core.Path.{_≡_, refl, sym, ap, _∙_}
 use mathlib.Core.List.{List, _++_}
-use Prim.Native.Nat.{ℕ, _+_, _-_, _≤_}
+use Prim.Native.Nat.{ℕ, _+_, _-_, _≤_, _<_}
 use native.Mathlib.Omega.{arith}
 use lib.Dec.{ltb}
 use lib.ListN.{length, take, drop, length-append, length-drop}
 use lib.Seq.{drop-at}
-use borrow.Author.Tests.{le-ltb, ltb-false}
+use borrow.Author.Tests.{lt-ltb, le-ltb, ltb-false}
 use Rattle.answer.specs.declared.Answer.{Answer}
 use Rattle.answer.specs.declared.Answer.the-variants.{Good, No}
 use Rattle.answer.specs.declared.Refusal.{Refusal}
-use Rattle.answer.specs.Answer.Properties.{andThen-left, andThen-right, refuse-good}
+use Rattle.answer.specs.Answer.Properties.{andThen-left, andThen-right, refuse-good, opened-no, opened-on}
+use Rattle.answer.specs.Answer.{bare}
 use Rattle.rack.specs.declared.State.{State}
-use Rattle.rack.specs.Form.{ready, Ready}
+use Rattle.rack.specs.Form.{ready}
 use Rattle.rack.specs.Form.Properties.{ready-says, ready-of}
 use Rattle.rack.specs.Row.{rowOf, rowOver}
 use Rattle.rack.specs.Row.Properties.{row-size, over-take}
@@ -38,9 +39,6 @@ module _ (s : State) (room : ℕ) (r : Answer) (good : r ≡ Good) (is : r ≡ s
   show-opened : Showable s room
   show-opened = show-says s room (sym is ∙ good)
 
-  pub show-ready : Ready s
-  show-ready = show-opened .ready
-
   pub show-room : s .plan .cards ≤ room
   show-room = show-opened .enough
 
@@ -55,6 +53,28 @@ pub shown-row : (s : State) (bytes after : List ℕ) (r : Answer) → r ≡ Good
     after ≡ rowOver s bytes → after ≡ bufferShown s bytes
 unfolding bufferShown
 shown-row s bytes after r e q h = rw (← q, e) h
+
+-- the exits: k is what the check answered, and a what comes after that
+module _ (s : State) (bytes : List ℕ) (k : Answer) (is : k ≡ ready s) where
+  pub show-unready : (w : Refusal) → k ≡ No w → Shows s bytes k bytes
+  unfolding showAnswer
+  show-unready w n =
+      let answered = opened-no k (ready s) (roomFor s (length bytes)) w n is in
+      record { result = answered; buffer = shown-kept s bytes k w n answered }
+
+  module _ (good : k ≡ Good) where
+    pub show-no-room : (a : Answer) → a ≡ bare 9 → length bytes < s .plan .cards → Shows s bytes a bytes
+    unfolding showAnswer roomFor
+    show-no-room a n l =
+        let answered = opened-on k (ready s) (roomFor s (length bytes)) a good is (rw (lt-ltb (length bytes) (s .plan .cards) l) n) in
+        record { result = answered; buffer = shown-kept s bytes a _ n answered }
+
+    pub show-row : (after : List ℕ) → s .plan .cards ≤ length bytes → after ≡ rowOver s bytes → Shows s bytes k after
+    unfolding showAnswer roomFor
+    show-row after l row =
+        let room : k ≡ roomFor s (length bytes) = good ∙ rw (le-ltb (length bytes) (s .plan .cards) l) in
+        let answered = opened-on k (ready s) (roomFor s (length bytes)) k good is room in
+        record { result = answered; buffer = shown-row s bytes after k good answered row }
 
 -- a refusal writes nothing
 pub show-refused : (s : State) (bytes after : List ℕ) (a : Answer) (w : Refusal) → Shows s bytes a after → a ≡ No w → after ≡ bytes

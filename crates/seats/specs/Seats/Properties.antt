@@ -4,60 +4,66 @@ use mathlib.Core.Path.{_≡_, sym, _∙_}
 use mathlib.Core.List.{List}
 use Prim.Native.Nat.{ℕ, _+_, _-_, _*_, _≤_, _<_}
 use native.Mathlib.Omega.{arith}
-use lib.ListN.{replicate, getD-replicate}
+use lib.ListN.{set, replicate, getD-replicate}
 use borrow.Author.Tests.{lt-ltb, le-ltb, eq-eqb, ne-eqb}
 use Rattle.laws.specs.Written.{written}
-use Rattle.laws.specs.Written.Properties.{written-same}
-use Rattle.seats.specs.Seats.{at, seatAt, seatOn, seatBy, seatsBy}
-use Rattle.seats.specs.Ranks.{rankAmong, Standings}
-use Rattle.seats.specs.Ranks.Properties.{rank-among}
+use Rattle.laws.specs.Written.Properties.{written-again, written-same}
+use Rattle.seats.specs.Seats.{at, rankBy, seatAt, seatBy, seatsBy}
+use Rattle.seats.specs.Ranks.{atOrAfter, Standings}
+use Rattle.seats.specs.Ranks.Properties.{rank-left}
 
--- ---- a seat found: w is the end of the project's cards
+-- ---- a seat found: c is what is counted at the kind's standing or after it
 
-pub card-below : (card end w : ℕ) → w ≡ end → card < w → card + 1 ≡ seatAt card end
-unfolding seatAt
-card-below card end w e l = rw (lt-ltb card end (rw e at l))
+module _ (low end first mine c : ℕ) (e : c ≡ mine) where
+  pub card-below : low + (first - c) < end → low + (first - c) + 1 ≡ seatAt (low + (first - mine)) end
+  unfolding seatAt
+  card-below l = rw (lt-ltb (low + (first - mine)) end (rw e at l), e)
 
-pub card-past : (card end w : ℕ) → w ≡ end → w ≤ card → 0 ≡ seatAt card end
-unfolding seatAt
-card-past card end w e l = rw (le-ltb card end (rw e at l))
+  pub card-past : end ≤ low + (first - c) → 0 ≡ seatAt (low + (first - mine)) end
+  unfolding seatAt
+  card-past l = rw (le-ltb (low + (first - mine)) end (rw e at l))
 
--- ---- a kind's seat: w is what it works for
+-- ---- kind i's seat among n, as it is stored or passed over
 
-module _ (low end : List ℕ) (works rank w : ℕ) (is : w ≡ works) where
-  pub no-seat : w ≡ 0 → 0 ≡ seatOn works rank low end
-  unfolding seatOn
-  no-seat z = rw (eq-eqb works 0 (sym is ∙ z))
+module _ (works until low end : List ℕ) (n : ℕ) where
+  -- with the first k kinds' seats stored
+  abbrev seated-to : ℕ → List ℕ
+  seated-to k = written k (seatBy works until low end n) (replicate 16 0)
 
-  pub no-project : (w ≡ 0 → ⊥) → 8 < w → 0 ≡ seatOn works rank low end
-  unfolding seatOn
-  no-project h l = rw (ne-eqb works 0 (λ z. h (is ∙ z)), lt-ltb 8 works (rw is at l))
+  module _ (i : ℕ) (m : List ℕ) (e : m ≡ seated-to i) (l : i < n) (b : n ≤ 16) where
+    -- nothing is stored for one that sits nowhere
+    unseated : seatBy works until low end n i ≡ 0 → m ≡ seated-to (i + 1)
+    unseated z = written-same i (seatBy works until low end n) (replicate 16 0) m 0 e (z ∙ sym (getD-replicate 16 i 0 0 (omega arith)))
 
-  -- its project's lowest card and its rank add up to its card
-  pub a-seat : (first r x : ℕ) → (w ≡ 0 → ⊥) → w ≤ 8 → first ≡ at low (w - 1) → r ≡ rank →
-      x ≡ seatAt (first + r) (at end (w - 1)) → x ≡ seatOn works rank low end
-  unfolding seatOn
-  a-seat first r x h l f q z =
-      rw (ne-eqb works 0 (λ y. h (is ∙ y)), le-ltb 8 works (rw is at l), ← is, ← f, ← q) z
+    -- one that has nothing left
+    pub unseated-idle : at works i ≡ 0 → m ≡ seated-to (i + 1)
+    unfolding seatBy
+    unseated-idle z = unseated (rw (eq-eqb (at works i) 0 z))
 
--- ---- kind i's seat among n: w is what it works for
+    -- one that works for none of eight projects
+    pub unseated-strange : 8 < at works i → m ≡ seated-to (i + 1)
+    unfolding seatBy
+    unseated-strange z = unseated (rw (ne-eqb (at works i) 0 (λ y. omega (arith, y)), lt-ltb 8 (at works i) z))
 
-module _ (works until low end : List ℕ) (n i w : ℕ) (is : w ≡ at works i) where
-  seat-idle : w ≡ 0 → seatBy works until low end n i ≡ 0
-  unfolding seatBy
-  seat-idle z = rw (eq-eqb (at works i) 0 (sym is ∙ z))
+    module _ (h : at works i ≡ 0 → ⊥) (g : at works i ≤ 8) where
+      seat-is : seatBy works until low end n i ≡ seatAt (at low (at works i - 1) + rankBy works until n i) (at end (at works i - 1))
+      unfolding seatBy
+      seat-is = rw (ne-eqb (at works i) 0 h, le-ltb 8 (at works i) g)
 
-  -- nothing is stored for one that has nothing left
-  pub seat-passed : (m : List ℕ) → m ≡ written i (seatBy works until low end n) (replicate 16 0) → i < n → n ≤ 16 → w ≡ 0 →
-      m ≡ written (i + 1) (seatBy works until low end n) (replicate 16 0)
-  seat-passed m e l b z =
-      written-same i (seatBy works until low end n) (replicate 16 0) m 0 e (seat-idle z ∙ sym (getD-replicate 16 i 0 0 (omega arith)))
+      -- one whose project has no card
+      pub unseated-project : at end (at works i - 1) ≤ at low (at works i - 1) → m ≡ seated-to (i + 1)
+      unfolding seatAt
+      unseated-project z =
+          let past = le-ltb (at low (at works i - 1) + rankBy works until n i) (at end (at works i - 1)) (omega (arith, z)) in
+          unseated (seat-is ∙ rw past)
 
-  -- by the rank counted
-  pub seat-ranked : (r : List ℕ) (rank x : ℕ) → Standings works until n r → i < n → n ≤ 16 → (w ≡ 0 → ⊥) →
-      rank ≡ rankAmong r (w * 1048576) (at r i - w * 1048576) → x ≡ seatOn w rank low end → x ≡ seatBy works until low end n i
-  unfolding seatOn seatBy
-  seat-ranked r rank x st l b h c s = s ∙ rw (c ∙ rank-among works until n i w is r st l b h, is)
+      -- one whose project has: by the two counts
+      pub seated : (r : List ℕ) (first x : ℕ) → Standings works until n r → first ≡ atOrAfter r (at works i * 1048576) →
+          x ≡ seatAt (at low (at works i - 1) + (first - atOrAfter r (at r i))) (at end (at works i - 1)) →
+          set m i x ≡ seated-to (i + 1)
+      seated r first x st p s =
+          written-again i (seatBy works until low end n) (replicate 16 0) m x e
+          (s ∙ rw (rank-left works until n i r st l b h first p) (sym seat-is))
 
 -- ---- every seat
 

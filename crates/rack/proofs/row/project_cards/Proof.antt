@@ -15,12 +15,12 @@ use Rattle.rack.proofs.row.project_cards.Statement.{statement}
 use Rattle.rack.proofs.row.project_cards.Tie as tie
 
 abbrev Inv-loop : tie.InvT-loop
-Inv-loop slice plan low₀ end₀ cell₀ card₀ j₀ j-end low end cell card j =
+Inv-loop plan slice low₀ end₀ cell₀ card₀ projects j₀ j-end low end cell card j =
     (j ≤ j-end) × (j-end ≡ plan .projects) × (cell ≡ firstCell plan j) × (card ≡ lowestAt plan slice j)
     × (low ≡ written j (lowestAt plan slice) (replicate 8 0)) × (end ≡ written j (endAt plan slice) (replicate 8 0))
 
 abbrev μ-loop : tie.MeasureT-loop
-μ-loop slice plan low₀ end₀ cell₀ card₀ j₀ j-end low end cell card j = j-end - j
+μ-loop plan slice low₀ end₀ cell₀ card₀ projects j₀ j-end low end cell card j = j-end - j
 
 cast-j-end : tie.Need-cast-j-end Inv-loop μ-loop
 cast-j-end c = search needs

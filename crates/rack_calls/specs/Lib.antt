@@ -1,0 +1,4 @@
+-- What the calls on a rack owe: what each answers, and what the lent buffers hold then.
+-- Assumes nothing.
+pub mod Exports
+pub mod OneOutcome

@@ -10,7 +10,7 @@ pub struct Names {
 }
 
 /// Words that have a meaning of their own, and are no names.
-const TAKEN: [&str; 11] = [
+pub(crate) const TAKEN: [&str; 11] = [
     "cards",
     "frame",
     "project",

@@ -46,7 +46,7 @@ fn texts() -> Texts {
     for folder in read_dir(root.join("crates")).unwrap() {
         for file in files_below(&folder.unwrap().path().join("src")) {
             let text = read_to_string(file).unwrap();
-            if text.contains("#[no_mangle]") {
+            if text.contains("#[unsafe(no_mangle)]") {
                 exported += &text;
             }
             code += &text;
@@ -319,7 +319,7 @@ fn proved_rows(images: &str, name: &str) -> Rows {
                     .filter_map(|bits| leading(bits.trim()));
                 found.push((places.parse().unwrap_or(0), widths.collect()));
             }
-            [other] if other.ends_with("Rows") => found.extend(proved_rows(images, other)),
+            [other] if other.ends_with("_rows") => found.extend(proved_rows(images, other)),
             _ => {}
         }
     }
@@ -432,7 +432,7 @@ fn differences(texts: &Texts) -> Vec<String> {
         functions.sort_by(|(one, _), (other, _)| one.cmp(other));
         format!("{functions:?}")
     };
-    let marked = "#[no_mangle]\npub extern \"C\" fn parchbeetle_";
+    let marked = "#[unsafe(no_mangle)]\npub extern \"C\" fn parchbeetle_";
     same(
         "exported functions",
         &[
@@ -499,7 +499,7 @@ fn differences(texts: &Texts) -> Vec<String> {
         ],
     );
 
-    for (image, name) in [("Plan", "planRows"), ("State", "stateRows")] {
+    for (image, name) in [("Plan", "plan_rows"), ("State", "state_rows")] {
         same(
             name,
             &[
@@ -618,8 +618,8 @@ fn one_thing_changed_on_one_side_is_found() {
         (exported, "plan: &[u8], k: &mut [u8]", "plan: &[u8], k: &[u8]"),
         (exported, "plan: &[u8], k: &mut [u8]", "plan: &[u8], k: u64"),
         // One function more, and one that is not exported.
-        (exported, "fn parchbeetle_check(plan", "fn parchbeetle_more() -> u64\n#[no_mangle]\npub extern \"C\" fn parchbeetle_check(plan"),
-        (exported, "#[no_mangle]\npub extern \"C\" fn parchbeetle_advance", "pub fn parchbeetle_advance"),
+        (exported, "fn parchbeetle_check(plan", "fn parchbeetle_more() -> u64\n#[unsafe(no_mangle)]\npub extern \"C\" fn parchbeetle_check(plan"),
+        (exported, "#[unsafe(no_mangle)]\npub extern \"C\" fn parchbeetle_advance", "pub fn parchbeetle_advance"),
         // A function that the bridge has under another number or not at all.
         (bridge, "return parchbeetle_verdict(", "return parchbeetle_fresh("),
         (bridged, "changing(11", "changing(9"),
@@ -636,8 +636,8 @@ fn one_thing_changed_on_one_side_is_found() {
         (code, "pub slice: u8,\n", ""),
         (code, "pub left: u16", "pub left: u32"),
         (code, "[Unit; ", "[Other; "),
-        (images, "unitWidths = 8 ∷ 16", "unitWidths = 16 ∷ 8"),
-        (images, "row 8 projectWidths", "row 9 projectWidths"),
+        (images, "unit_widths = 8 ∷ 16", "unit_widths = 16 ∷ 8"),
+        (images, "row 8 project_widths", "row 9 project_widths"),
         (header, "sum sum[8]", "sum sum[9]"),
         (header, "field(left, 2)        /* slices left of all", "field(left, 4)        /* slices left of all"),
         (header, "field(old_value, 2)", "field(old_value, 1)"),

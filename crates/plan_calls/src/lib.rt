@@ -1,5 +1,7 @@
 // The functions that another language calls on a plan, on numbers and byte slices. A plan crosses as
 // an image in a lent buffer, and every function answers one number.
+#![tactic(auto)]
+
 ghost use Rattle.std.specs.Prelude.{◌≡◌};
 ghost use Rattle.laws.specs.Written.{written};
 ghost use Rattle.answer.specs.Word.{told};
@@ -8,8 +10,7 @@ ghost use Rattle.plan_calls.specs.Exports.{check_answer, Reads, WritesBytes, Wri
 use answer::Answer;
 
 // Whether the plan of an image is in order.
-#[unsafe(no_mangle)]
-pub extern "C" fn parchbeetle_check(plan: &[u8]) -> u64
+pub fn parchbeetle_check(plan: &[u8]) -> u64
     ensures { result ≡ told (check_answer plan.now) 0 }
 {
     let found = image_reader::plan_of(plan);
@@ -23,8 +24,7 @@ pub extern "C" fn parchbeetle_check(plan: &[u8]) -> u64
 }
 
 // Reads plan bytes into an image.
-#[unsafe(no_mangle)]
-pub extern "C" fn parchbeetle_read(bytes: &[u8], plan: &mut [u8]) -> u64
+pub fn parchbeetle_read(bytes: &[u8], plan: &mut [u8]) -> u64
     ensures { Reads bytes.now plan.old result plan.new }
 {
     let reading = plan_reader::read(bytes);
@@ -41,8 +41,7 @@ pub extern "C" fn parchbeetle_read(bytes: &[u8], plan: &mut [u8]) -> u64
 }
 
 // Writes the bytes of an image's plan.
-#[unsafe(no_mangle)]
-pub extern "C" fn parchbeetle_write(plan: &[u8], out: &mut [u8]) -> u64
+pub fn parchbeetle_write(plan: &[u8], out: &mut [u8]) -> u64
     ensures { WritesBytes plan.now out.old result out.new }
 {
     let found = image_reader::plan_of(plan);
@@ -57,8 +56,7 @@ pub extern "C" fn parchbeetle_write(plan: &[u8], out: &mut [u8]) -> u64
 }
 
 // Writes the slot table of an image's plan.
-#[unsafe(no_mangle)]
-pub extern "C" fn parchbeetle_slot_table(plan: &[u8], out: &mut [u8]) -> u64
+pub fn parchbeetle_slot_table(plan: &[u8], out: &mut [u8]) -> u64
     ensures { WritesSlots plan.now out.old result out.new }
 {
     let found = image_reader::plan_of(plan);

@@ -1,5 +1,7 @@
 // The functions that another language calls to run a rack, on numbers and byte slices. A plan and a
 // state cross as images in lent buffers, and every function answers one number.
+#![tactic(auto)]
+
 ghost use Rattle.std.specs.Prelude.{◌≡◌, ◌<◌, min, length};
 ghost use Rattle.answer.specs.Word.{told};
 ghost use Rattle.rack_calls.specs.Exports.{Starts, Releases, ShowsRow, Advances};
@@ -9,8 +11,7 @@ use plan::Plan;
 use rack::State;
 
 // The fresh state of an image's plan, as an image.
-#[unsafe(no_mangle)]
-pub extern "C" fn parchbeetle_fresh(plan: &[u8], state: &mut [u8]) -> u64
+pub fn parchbeetle_fresh(plan: &[u8], state: &mut [u8]) -> u64
     ensures { Starts plan.now state.old result state.new }
 {
     let found = image_reader::plan_of(plan);
@@ -50,8 +51,7 @@ fn limited_length(e: u64) -> u32
 }
 
 // Releases a unit of a kind, in a state's image.
-#[unsafe(no_mangle)]
-pub extern "C" fn parchbeetle_release(state: &mut [u8], kind: u64, e: u64) -> u64
+pub fn parchbeetle_release(state: &mut [u8], kind: u64, e: u64) -> u64
     ensures { Releases state.old kind e result state.new }
 {
     let found = image_reader::state_of(state);
@@ -69,8 +69,7 @@ pub extern "C" fn parchbeetle_release(state: &mut [u8], kind: u64, e: u64) -> u6
 }
 
 // Writes the row of the slice to come, for a state's image.
-#[unsafe(no_mangle)]
-pub extern "C" fn parchbeetle_show(state: &[u8], row: &mut [u8]) -> u64
+pub fn parchbeetle_show(state: &[u8], row: &mut [u8]) -> u64
     ensures { ShowsRow state.now row.old result row.new }
 {
     let found = image_reader::state_of(state);
@@ -83,8 +82,7 @@ pub extern "C" fn parchbeetle_show(state: &[u8], row: &mut [u8]) -> u64
 }
 
 // Runs a slice, in a state's image.
-#[unsafe(no_mangle)]
-pub extern "C" fn parchbeetle_advance(state: &mut [u8]) -> u64
+pub fn parchbeetle_advance(state: &mut [u8]) -> u64
     ensures { Advances state.old result state.new }
 {
     let found = image_reader::state_of(state);

@@ -1,5 +1,7 @@
 // The functions that another language calls to have a plan judged, on numbers and byte slices. A plan
 // crosses as an image in a lent buffer, and every function answers one number.
+#![tactic(auto)]
+
 ghost use Rattle.std.specs.Prelude.{◌≡◌, ◌≤◌, ◌<◌, length};
 ghost use Rattle.laws.specs.Written.{written};
 ghost use Rattle.answer.specs.Word.{told};
@@ -33,8 +35,7 @@ fn put_verdict(width: [u8; Plan::KINDS], slice: [u8; Plan::KINDS], k: &mut [u8])
 
 // The verdict on an image's plan: document 01's k for each kind, a byte each, and then the bad
 // slice of each k.
-#[unsafe(no_mangle)]
-pub extern "C" fn parchbeetle_verdict(plan: &[u8], k: &mut [u8]) -> u64
+pub fn parchbeetle_verdict(plan: &[u8], k: &mut [u8]) -> u64
     ensures { Judges plan.now k.old result k.new }
 {
     let found = image_reader::plan_of(plan);
@@ -57,8 +58,7 @@ pub extern "C" fn parchbeetle_verdict(plan: &[u8], k: &mut [u8]) -> u64
 }
 
 // Writes the figures of a kind of an image's plan, admitted or not. The count is how many k there are.
-#[unsafe(no_mangle)]
-pub extern "C" fn parchbeetle_figures(plan: &[u8], kind: u64, out: &mut [u8]) -> u64
+pub fn parchbeetle_figures(plan: &[u8], kind: u64, out: &mut [u8]) -> u64
     ensures { WritesFigures plan.now kind out.old result out.new }
 {
     let found = image_reader::plan_of(plan);
@@ -80,8 +80,7 @@ pub extern "C" fn parchbeetle_figures(plan: &[u8], kind: u64, out: &mut [u8]) ->
 }
 
 // The least budget of a project of an image's plan, in the bits of a count.
-#[unsafe(no_mangle)]
-pub extern "C" fn parchbeetle_smallest_budget(plan: &[u8], project: u64) -> u64
+pub fn parchbeetle_smallest_budget(plan: &[u8], project: u64) -> u64
     ensures { result ≡ budget_told plan.now project }
 {
     let found = image_reader::plan_of(plan);

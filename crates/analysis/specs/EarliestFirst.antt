@@ -6,8 +6,6 @@ use Rattle.supply.specs.Workload.{workload_part}
 use Rattle.analysis.specs.Setup.{Setup, other}
 use Rattle.analysis.specs.Step.{Priority}
 pub mod Coming
-pub mod Ahead
-pub mod Properties
 
 -- another kind of the project, due no later
 unfoldable pub no_later : Setup → Priority

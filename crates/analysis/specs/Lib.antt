@@ -6,10 +6,10 @@
 --   Step, Reached   what a slice and a release do, and the moments that they lead to
 --   EarliestFirst   who goes first, and the workload W
 --   Admitted        the test: kC + W <= S(k,D)
---   InTime          the theorem: what is left of a unit is at most the slices until it is due
+--   InTime          the theorem, in proofs/: what is left of a unit is at most the slices until it is due
 --
--- To read why: Policy is what the proof asks of a ranking, OnTrack the invariant, kept by every step of any policy; EarliestFirst's own
--- modules show that it is one (Coming counts the units still to come, Ahead what one kind puts ahead of another).
+-- To read why: Policy is what the proof asks of a ranking, OnTrack the invariant, kept by every step of any policy (proofs/Laws); that
+-- earliest deadline first is one is shown there too (Coming counts the units still to come, Ahead what one kind puts ahead of another).
 -- Assumes nothing.
 -- ---- the model
 pub mod Setup
@@ -22,5 +22,3 @@ pub mod Admitted
 -- ---- the invariant
 pub mod Policy
 pub mod OnTrack
--- ---- the theorem
-pub mod InTime

@@ -3,7 +3,6 @@
 use Rattle.std.specs.Prelude.{◌≡◌, ℕ, ◌+◌, ◌≤◌, ◌<◌}
 use Rattle.supply.specs.Supply.{window}
 use Rattle.analysis.specs.Setup.{Setup, Own}
-pub mod Properties
 
 pub record Moment : Type 0 where
   -- the cards that the project holds x slices from now

@@ -6,7 +6,6 @@ use Rattle.analysis.specs.Setup.{Setup, Own}
 use Rattle.analysis.specs.Moment.{Moment, Supplied, UnderWay}
 use Rattle.analysis.specs.Step.{Priority}
 use Rattle.analysis.specs.Policy.{Policy}
-pub mod Properties
 
 module _ {S : Setup} {prior : Priority} {workload : ℕ → ℕ} (P : Policy S prior workload) (m : Moment) where
   -- what it needs, width times, and all that can get ahead of it: the cards held until it is due have room for both

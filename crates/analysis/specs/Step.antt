@@ -4,7 +4,6 @@ use Rattle.std.specs.Prelude.{◌≡◌, ◌≢◌, Bool, true, false, cond, ◌
 use Rattle.laws.specs.Count.{count_to}
 use Rattle.analysis.specs.Setup.{Setup, Own}
 use Rattle.analysis.specs.Moment.{Moment}
-pub mod Properties
 
 -- who goes first: at a moment, kind j's unit before kind i's
 abbrev pub Priority : Type 0

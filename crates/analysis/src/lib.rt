@@ -1,1 +1,3 @@
-// The scheduling theory of one project, as theorems. They stand in specs/; there is no code here.
+// The scheduling theory of one project, as theorems. Definitions stand in specs/, laws and the theorem in proofs/;
+// there is no code here.
+#![tactic(auto)]

@@ -1,19 +1,21 @@
 // What an operation answers, document 01's number, place and excess of an answer, the bad slice
 // beside the excess, and the one number that carries them to another language.
+#![tactic(auto)]
+
 ghost use Rattle.std.specs.Prelude.{◌≡◌, ◌<◌, ◌%◌};
 ghost use Rattle.answer.specs.Answer.{bare, at_project, at_kind, not_admitted, number, place, excess, slice};
 ghost use Rattle.answer.specs.Word.{told};
 
 // Why not: bare, by project, or by kind with its excess and the bad slice. The first field is
 // document 01's number.
-#[derive(Drop)]
+#[derive(Clone, Copy)]
 pub enum Refusal {
     Bare(u8),
     ByProject(u8, u8),
     ByKind(u8, u8, u32, u8),
 }
 
-#[derive(Drop)]
+#[derive(Clone, Copy)]
 pub enum Answer {
     Good,
     No(Refusal),

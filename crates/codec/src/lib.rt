@@ -1,5 +1,7 @@
 // Numbers as bytes and bits, for every format above: the definitions and their laws stand in specs/,
 // and the two functions here read a number's bytes and store them.
+#![tactic(auto)]
+
 ghost use Rattle.std.specs.Prelude.{◌≡◌, ◌≤◌, ◌<◌, min, length};
 ghost use Rattle.codec.specs.Bytes.{number_to, Fills};
 

@@ -3,7 +3,7 @@ ghost use Rattle.std.specs.Prelude.{◌≡◌, ◌<◌};
 ghost use Rattle.commands.specs.Command.{fields_say, command_of};
 
 // A slice, the release of a kind with a length e, or anything else.
-#[derive(Drop)]
+#[derive(Clone, Copy)]
 pub enum Command {
     Slice,
     Release(u8, u16),

@@ -1,5 +1,7 @@
 // The commands of a play, document 01, "The player": what three bytes say, and the bytes that are
 // not taken yet.
+#![tactic(auto)]
+
 mod command;
 mod kept;
 

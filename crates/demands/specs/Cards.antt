@@ -9,9 +9,9 @@ use Rattle.answer.specs.declared.Answer.TheVariants.{Good}
 use Rattle.rack.specs.declared.State.{State}
 use Rattle.rack.specs.State.{InUse}
 use Rattle.rack.specs.Row.{row_byte, row_of, takes}
-use Rattle.rack.specs.Row.Properties.{row_shows, row_takes, row_below, row_is}
+use Rattle.rack.proofs.Laws.Row.{row_shows, row_takes, row_below, row_is}
 use Rattle.rack.specs.Advance.{advance_answer}
-use Rattle.rack.specs.Advance.Properties.{advance_says}
+use Rattle.rack.proofs.Laws.Advance.{advance_says}
 use Rattle.demands.specs.Named.{names_kind, bytes_in, Apart}
 
 module _ (s : State) (good : advance_answer s ≡ Good) where

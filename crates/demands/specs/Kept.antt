@@ -22,7 +22,7 @@ use Rattle.unit.specs.Start.{early}
 use Rattle.rack.specs.Release.{released, release_answer, release_of}
 use Rattle.rack.specs.Row.{row_of}
 use Rattle.rack.specs.Advance.{advance_answer, advance_of}
-use Rattle.rack.specs.Advance.Properties.{advance_moves}
+use Rattle.rack.proofs.Laws.Advance.{advance_moves}
 use Rattle.demands.specs.Run.{Call, show, advance, release, next_after, run_from, after, no_slice, slices_of}
 use Rattle.demands.specs.Since.{Since, never, since_from, fewer}
 use Rattle.demands.specs.Run.Properties.{run_slice, run_plan, At, slices_at}

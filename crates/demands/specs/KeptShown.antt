@@ -1,7 +1,6 @@
 -- The layers together, of what a run from a fresh start on an admitted plan shows, and of whom its cards serve.
 -- Assumes nothing.
-use denote.Slice.{shr_slice_at}
-use Rattle.std.specs.Prelude.{◌≡◌, refl, ◌↔◌, true, false, not, ◌&&◌, List, ℕ, ◌+◌, ◌%◌, ◌<◌, eqb, length, get_or}
+use Rattle.std.specs.Prelude.{◌≡◌, ◌↔◌, true, false, not, ◌&&◌, List, ℕ, ◌+◌, ◌%◌, ◌<◌, eqb, length, get_or}
 use Rattle.std.proofs.Common.{ap, ap₂, ◌∙◌, zero-add, arith}
 use Rattle.std.proofs.Math.Nat.{mod-mod}
 use Rattle.std.proofs.lemmas.List.{get_or-replicate}
@@ -22,7 +21,7 @@ use Rattle.rack.specs.Rank.{working, active, active_kinds}
 use Rattle.rack.specs.Release.{started_unit, released, release_answer, release_of}
 use Rattle.rack.specs.Release.Properties.{release_says, release_unit}
 use Rattle.rack.specs.Row.{row_of, takes}
-use Rattle.rack.specs.Row.Properties.{card_kind}
+use Rattle.rack.proofs.Laws.Row.{card_kind}
 use Rattle.rack.specs.Advance.{advance_of}
 use Rattle.demands.specs.Run.{Call, run_from, after, no_slice, slices_of}
 use Rattle.demands.specs.Run.Properties.{run_plan, slices_at}
@@ -135,14 +134,14 @@ module _ (p : Plan) (admitted : (start_of p).answer ≡ Good) where
       same : s.plan ≡ p
       same = (slices_at no_slice calls fresh x l).plan ∙ start_plan
 
-      shr_slice_at : s.slice ≡ x % p.frame
-      shr_slice_at =
+      at_slice : s.slice ≡ x % p.frame
+      at_slice =
           slice_before calls fresh (start_safe p admitted).ready.form.slice_below x l
           ∙ ap₂ (λ (n : ℕ) (q : Plan). (n + x) % q.frame) (ap (λ (t : State). t.slice) (start_good p admitted)) start_plan
           ∙ ap (λ (n : ℕ). n % p.frame) (zero-add x)
 
       cards : held p j s.slice ≡ held p j x
-      cards = ap (held p j) shr_slice_at ∙ held_turned p j x
+      cards = ap (held p j) at_slice ∙ held_turned p j x
 
       -- what is left of kind i, by the events before
       left : ℕ → ℕ

@@ -1,6 +1,6 @@
 -- The layers together, of the row of sums: what a run from a fresh start on an admitted plan keeps in it.
 -- Assumes nothing.
-use Rattle.std.specs.Prelude.{◌≡◌, ◌≢◌, Bool, ◌&&◌, List, ℕ, ◌+◌, ◌-◌, ◌≤◌, ◌<◌, min, eqb, length, get_or, replicate}
+use Rattle.std.specs.Prelude.{◌≡◌, ◌≢◌, Bool, List, ℕ, ◌+◌, ◌-◌, ◌≤◌, ◌<◌, eqb, length, replicate}
 use Rattle.std.proofs.Math.Path.{refl, ap}
 use Rattle.std.proofs.Common.{sym, ◌∙◌, arith, ext_get_or, eq-eqb, ne_eqb}
 use Rattle.std.proofs.Math.Bool.{true, false, cond}
@@ -15,29 +15,28 @@ use Rattle.plan.specs.Order.{kind_of}
 use Rattle.answer.specs.declared.Answer.TheVariants.{Good}
 use Rattle.answer.specs.Answer.{number}
 use Rattle.rack.specs.declared.State.{State}
-use Rattle.rack.specs.State.{kind_at, kind_places, InUse, ProjectInUse, project_places, sum_at}
+use Rattle.rack.specs.State.{kind_at, kind_places, ProjectInUse, project_places, sum_at}
 use Rattle.rack.specs.State.Properties.{good_moves}
 use Rattle.rack.specs.Sums.{left_for, project_left, left_row}
 use Rattle.rack.specs.Sums.Properties.{left_other}
 use Rattle.rack.specs.Form.{Ready}
-use Rattle.rack.specs.View.{chosen, cards_held, active_in}
-use Rattle.rack.specs.View.Properties.{chosen_active, chosen_count}
-use Rattle.rack.specs.Rank.{served, active, active_kinds, view_of}
-use Rattle.rack.specs.Rank.Properties.{active_project, ranked}
+use Rattle.rack.specs.View.{chosen, active_in}
+use Rattle.rack.proofs.Laws.View.{chosen_active, chosen_count}
+use Rattle.rack.specs.Rank.{served, active_kinds, view_of}
+use Rattle.rack.proofs.Laws.Rank.{active_project, ranked}
 use Rattle.rack.specs.Row.{row_of}
 use Rattle.rack.specs.Start.{start_of}
 use Rattle.rack.specs.Start.Properties.{start_good}
 use Rattle.rack.specs.Release.{release_answer, released, release_of}
 use Rattle.rack.specs.Release.Properties.{release_says, release_sum, release_sum_others}
-use Rattle.rack.specs.Advance.{served_for, sum_after, advanced, advance_answer, advance_of}
-use Rattle.rack.specs.Advance.Properties.{advance_says, advance_moves, sum_after_law, advance_left}
+use Rattle.rack.specs.Advance.{served_for, sum_after, advance_answer, advance_of}
+use Rattle.rack.proofs.Laws.Advance.{advance_says, advance_moves, sum_after_law, advance_left}
 use Rattle.demands.specs.Run.{Call, next_after, after, accepted}
 use Rattle.demands.specs.Run.Properties.{run_plan, now_at}
 use Rattle.demands.specs.View.{cards_from}
 use Rattle.demands.specs.View.Properties.{cards_now}
 use Rattle.demands.specs.Named.{names_project, bytes_in}
 use Rattle.demands.specs.Named.Properties.{project_named}
-use Rattle.demands.specs.Safe.{Safe}
 use Rattle.demands.specs.Safe.Properties.{after_safe}
 use Rattle.demands.specs.SumsTold.{sixteen_exactly}
 

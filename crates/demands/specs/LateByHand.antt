@@ -1,8 +1,7 @@
 -- "In form" is kept from a fresh start on an admitted plan, and by hand it need not be: a state in form, on a plan that is not admitted,
 -- whose advance is accepted and leaves a unit with work left at its deadline; the next call, whichever it is, says 10.
 -- Assumes nothing.
-use Rattle.std.specs.Prelude.{◌≡◌, refl, true, List, [], ◌∷◌, length, replicate}
-use Rattle.std.proofs.Common.{sym, ap, ◌∙◌}
+use Rattle.std.specs.Prelude.{◌≡◌, refl, true, ◌∷◌, replicate}
 use Rattle.laws.specs.Sum.{sum_to}
 use Rattle.laws.specs.Least.{least_to}
 use Rattle.laws.specs.First.{first_to}

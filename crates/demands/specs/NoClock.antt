@@ -1,8 +1,8 @@
 -- Document 02 (ix), "The clock must not run out": what the rules without a clock owe those with one, and what is promised in its place.
 -- Demand 3 for runs without end is in Deadlines, where `slice_tells` and `gone_tells` say what the state counts.
 -- Assumes nothing.
-use Rattle.std.specs.Prelude.{◌≡◌, refl, ◌≢◌, true, false, List, ℕ, ◌≤◌, ◌<◌}
-use Rattle.std.proofs.Common.{sym, ap, ◌∙◌, arith}
+use Rattle.std.specs.Prelude.{◌≡◌, ◌≢◌, true, false, List, ℕ, ◌≤◌, ◌<◌}
+use Rattle.std.proofs.Common.{arith}
 use Rattle.plan.specs.declared.Plan.{Plan}
 use Rattle.plan.specs.Order.{within}
 use Rattle.answer.specs.declared.Answer.TheVariants.{Good}
@@ -12,7 +12,7 @@ use Rattle.rack.specs.State.{unit_of, kind_at}
 use Rattle.rack.specs.Form.{in_form, ready}
 use Rattle.rack.specs.Form.Properties.{ready_says, form_of}
 use Rattle.rack.specs.Start.{start_of}
-use Rattle.rack.specs.Release.{release_answer, release_of}
+use Rattle.rack.specs.Release.{release_of}
 use Rattle.rack.specs.Release.Properties.{release_says, release_none_left}
 use Rattle.demands.specs.Run.{Call, next_after, row_after, after}
 use Rattle.demands.specs.Refusals.{left_fourteen}

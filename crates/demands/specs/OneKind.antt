@@ -1,7 +1,7 @@
 -- A plan that is built from one-kind projects, as the rest of the house sees it: it starts, its bytes are written and read, and each budget
 -- is the smallest.
 -- Assumes nothing.
-use Rattle.std.specs.Prelude.{◌≡◌, List, ◌++◌, ℕ, ◌+◌, ◌*◌, ◌≤◌, ◌<◌, length, replicate}
+use Rattle.std.specs.Prelude.{◌≡◌, List, ◌++◌, ℕ, ◌*◌, ◌≤◌, ◌<◌, length, replicate}
 use Rattle.std.proofs.Common.{sym, ap, subst, ◌∙◌, one-mul, arith}
 use Rattle.std.proofs.Math.Decide.{dec_le}
 use Rattle.std.proofs.lemmas.List.{length-replicate, set-get_or}

@@ -38,9 +38,9 @@ use Rattle.rack.specs.Start.Properties.{start_refused}
 use Rattle.rack.specs.Release.{release_of}
 use Rattle.rack.specs.Release.Properties.{release_refused}
 use Rattle.rack.specs.Show.{Shows}
-use Rattle.rack.specs.Show.Properties.{show_refused}
+use Rattle.rack.proofs.Laws.Show.{show_refused}
 use Rattle.rack.specs.Advance.{advance_of}
-use Rattle.rack.specs.Advance.Properties.{advance_refused}
+use Rattle.rack.proofs.Laws.Advance.{advance_refused}
 use Rattle.rack.specs.OneOutcome.{start_one_outcome, release_one_outcome, show_one_outcome, advance_one_outcome}
 
 -- an answer that is not good, by its number

@@ -3,24 +3,22 @@
 -- Assumes nothing.
 use Rattle.std.specs.Prelude.{◌≡◌, ◌↔◌, false, cond, List, [], ◌∷◌, ◌++◌, ℕ, ◌*◌, ◌≤◌, ◌<◌, length, take, drop}
 use Rattle.std.proofs.Math.Path.{refl}
-use Rattle.std.proofs.Common.{sym, ap, ap₂, ◌∙◌, arith, take-append-drop, take_at}
+use Rattle.std.proofs.Common.{sym, ap, ap₂, ◌∙◌, take-append-drop, take_at}
 use Rattle.answer.specs.declared.Answer.TheVariants.{Good}
 use Rattle.answer.specs.Answer.{number}
 use Rattle.plan.specs.declared.Plan.{Plan}
 use Rattle.plan.specs.Order.{project_of, kind_of, budgets_fit, checked}
 use Rattle.codec.specs.Bytes.{AreBytes}
-use Rattle.plan_bytes.specs.declared.Reading.{Reading}
 use Rattle.plan_bytes.specs.Parts.{Shaped, encoded, headed, decoded, size}
 use Rattle.plan_bytes.specs.Reading.{header_spare, read_of, counts_answer}
 use Rattle.plan_bytes.specs.RoundTrip.{written_read}
 use Rattle.plan_bytes.specs.RoundTrip.Reads.{Passes, order_passes}
 use Rattle.plan_bytes.specs.RoundTrip.Writes.{read_checked, read_shaped}
 use Rattle.plan.specs.Order.Properties.{in_order}
-use Rattle.rescue.specs.declared.Rescued.{Rescued}
-use Rattle.rescue.specs.Entry.{Entry, entry, listed, change}
+use Rattle.rescue.specs.Entry.{entry, listed, change}
 use Rattle.rescue.specs.Entry.Properties.{listed_length}
-use Rattle.rescue.specs.Mended.{kept_at, project_for_at, kind_for_at, plan_for}
-use Rattle.rescue.specs.Rescue.{project_spare_at, kind_spare_at, changes, list_of, list_size, rescued_plan, rescue_answer, rescue_of, list_over}
+use Rattle.rescue.specs.Mended.{kept_at, project_for_at, kind_for_at}
+use Rattle.rescue.specs.Rescue.{project_spare_at, kind_spare_at, changes, list_of, rescued_plan, rescue_answer, rescue_of, list_over}
 use Rattle.rescue.specs.Rescue.Properties.{counts_says}
 use Rattle.rescue.specs.Applied.{entries_in, about, applied}
 use Rattle.rescue.specs.Applied.Properties.{entries_listed}

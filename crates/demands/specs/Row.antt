@@ -14,7 +14,7 @@ use Rattle.rack.specs.State.{InUse}
 use Rattle.rack.specs.Form.{Ready}
 use Rattle.rack.specs.Rank.{active_kinds, served}
 use Rattle.rack.specs.Row.{row_byte, of_project, cards_taken}
-use Rattle.rack.specs.Row.Properties.{served_stands, stands_served, stands_once, taken_cards}
+use Rattle.rack.proofs.Laws.Row.{served_stands, stands_served, stands_once, taken_cards}
 use Rattle.demands.specs.Named.{names_kind, names_project}
 
 module _ (s : State) (ready : Ready s) where

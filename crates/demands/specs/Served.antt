@@ -6,10 +6,10 @@ use Rattle.answer.specs.declared.Answer.TheVariants.{Good}
 use Rattle.rack.specs.declared.State.{State}
 use Rattle.rack.specs.State.{unit_of, InUse}
 use Rattle.rack.specs.Rank.{served}
-use Rattle.rack.specs.Rank.Properties.{served_working, working_left}
+use Rattle.rack.proofs.Laws.Rank.{served_working, working_left}
 use Rattle.rack.specs.Row.{row_of}
 use Rattle.rack.specs.Advance.{advanced, advance_answer}
-use Rattle.rack.specs.Advance.Properties.{advance_says}
+use Rattle.rack.proofs.Laws.Advance.{advance_says}
 use Rattle.demands.specs.Run.{accepted}
 use Rattle.demands.specs.Run.Properties.{now_at}
 use Rattle.demands.specs.Named.{names_kind, bytes_in}

@@ -10,9 +10,9 @@ use Rattle.rack.specs.declared.State.{State}
 use Rattle.rack.specs.declared.Next.{Next}
 use Rattle.rack.specs.Form.{ready}
 use Rattle.rack.specs.Advance.{advance_of}
-use Rattle.rack.specs.Advance.Properties.{advance_says}
+use Rattle.rack.proofs.Laws.Advance.{advance_says}
 use Rattle.rack.specs.Show.{show_answer, buffer_shown, Shows}
-use Rattle.rack.specs.Show.Properties.{show_of, show_first, shown_length, shown_again}
+use Rattle.rack.proofs.Laws.Show.{show_of, show_first, shown_length, shown_again}
 use Rattle.rack.specs.Slice.{Sliced}
 use Rattle.rack.specs.Slice.Properties.{shown_is_sliced, advance_alike, advance_is_slice, advance_short}
 use Rattle.rack.specs.Release.{release_of}

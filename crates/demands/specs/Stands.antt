@@ -13,11 +13,11 @@ use Rattle.rack.specs.declared.State.{State}
 use Rattle.rack.specs.State.{unit_of, kind_at, InUse}
 use Rattle.rack.specs.Form.{Ready}
 use Rattle.rack.specs.View.{View, has_card, active_in, rank_of, takes_card}
-use Rattle.rack.specs.View.Properties.{chosen_of, rank_most}
+use Rattle.rack.proofs.Laws.View.{chosen_of, rank_most}
 use Rattle.rack.specs.Rank.{active_kinds, view_of, rank, served}
-use Rattle.rack.specs.Rank.Properties.{working_left, working_of, active_of, ranked, view_held}
+use Rattle.rack.proofs.Laws.Rank.{working_left, working_of, active_of, ranked, view_held}
 use Rattle.rack.specs.Row.{holds, takes, row_byte}
-use Rattle.rack.specs.Row.Properties.{holds_has, takes_working, takes_holds, row_takes, row_below, row_is, served_stands}
+use Rattle.rack.proofs.Laws.Row.{holds_has, takes_working, takes_holds, row_takes, row_below, row_is, served_stands}
 
 module _ (s : State) (i : ℕ) where
   abbrev j : ℕ

@@ -1,6 +1,6 @@
 -- "The test is sufficient and not necessary. A refused plan may run well; it is refused all the same": a plan that is, and does.
 -- Assumes nothing.
-use Rattle.std.specs.Prelude.{◌≡◌, refl, ◌≢◌, true, List, [], ◌∷◌, ℕ, zero, suc, ◌-◌, ◌≤◌, ◌<◌, length, take, replicate}
+use Rattle.std.specs.Prelude.{◌≡◌, refl, ◌≢◌, true, List, ◌∷◌, ℕ, zero, suc, ◌-◌, ◌≤◌, ◌<◌, length, take, replicate}
 use Rattle.std.proofs.Math.Path.{ap}
 use Rattle.std.proofs.Common.{ap₂, ◌∙◌, arith}
 use Rattle.std.proofs.Math.Decide.{ℕ_discrete}
@@ -19,7 +19,7 @@ use Rattle.plan.specs.Order.{kind_of, InOrder, within, sized, empty_project, emp
 use Rattle.plan.specs.Order.{sizes, unused, projects_in_range, kind_in_range, kinds_in_range, budgets_fit, ranges, checked}
 use Rattle.plan.specs.Order.Properties.{in_order}
 use Rattle.layout.specs.Layout.{cell_at, first_cell, owns, held}
-use Rattle.layout.specs.Layout.Properties.{held_least}
+use Rattle.layout.proofs.Laws.Layout.{held_least}
 use Rattle.supply.specs.Supply.{window, supply}
 use Rattle.supply.specs.Workload.{workload_part}
 use Rattle.supply.specs.Greatest.{greatest_to}
@@ -36,7 +36,7 @@ use Rattle.rack.specs.Start.Properties.{fresh_form, fresh_places}
 use Rattle.rack.specs.Release.{released, release_answer, release_of}
 use Rattle.rack.specs.Release.Properties.{release_says, release_unit, release_others, release_form, release_places}
 use Rattle.rack.specs.Advance.{unit_after, advanced, advance_answer}
-use Rattle.rack.specs.Advance.Properties.{after_left, advance_form, advance_places}
+use Rattle.rack.proofs.Laws.Advance.{after_left, advance_form, advance_places}
 use Rattle.demands.specs.View.{cards_from}
 use Rattle.demands.specs.Stands.{enough_served}
 use Rattle.demands.specs.Run.{Call, run_from, accepted, slices_of}

@@ -23,7 +23,7 @@ use Rattle.rack.specs.State.{unit_of, kind_at}
 use Rattle.rack.specs.Form.{Ready}
 use Rattle.rack.specs.Rank.{working, active_kinds, outranks, rank}
 use Rattle.rack.specs.Row.{holds, row_byte}
-use Rattle.rack.specs.Row.Properties.{stands_held, stands_first, stands_ascending, cards_used}
+use Rattle.rack.proofs.Laws.Row.{stands_held, stands_first, stands_ascending, cards_used}
 use Rattle.demands.specs.Eight.{eight_exactly, eight_slice, eight_no_slice}
 use Rattle.demands.specs.Stands.{stands_says, stands_of, enough_stand}
 

@@ -14,10 +14,9 @@ use Rattle.plan.specs.declared.Plan.{Plan}
 use Rattle.plan.specs.Order.{kind_of, InOrder}
 use Rattle.codec.specs.Place.{fields_of}
 use Rattle.codec.specs.Rows.Properties.{row_fields}
-use Rattle.supply.specs.Supply.Properties.{supply_most}
+use Rattle.supply.proofs.Laws.Supply.{supply_most}
 use Rattle.workload.specs.Workload.{workload}
 use Rattle.workload.specs.Workload.Properties.{workload_most}
-use Rattle.verdict.specs.declared.figures.Figures.{Figures}
 use Rattle.verdict.specs.Verdict.{ceiling_on, held_on}
 use Rattle.verdict.specs.Admission.{given, BadSlice}
 use Rattle.verdict.specs.Figures.{figures_of}

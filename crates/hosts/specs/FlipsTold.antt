@@ -2,14 +2,13 @@
 -- byte of a sum or of slices left in it changed, of which a single flipped bit is a case; and any call on the bytes that then stand
 -- there.
 -- Assumes nothing.
-use Rattle.std.specs.Prelude.{◌≡◌, refl, ◌≢◌, Bool, true, false, cond, List, ℕ, ◌+◌, ◌-◌, ◌/◌, ◌%◌, ◌^◌, ◌≤◌, ◌<◌, eqb, length, get_or, set}
-use Rattle.std.proofs.Common.{sym, ap, subst, ◌∙◌, arith, length-set}
-use Rattle.std.proofs.Math.Decide.{dec_lt}
+use Rattle.std.specs.Prelude.{◌≡◌, ◌≢◌, Bool, true, false, cond, List, ℕ, ◌≤◌, ◌<◌, length, get_or, set}
+use Rattle.std.proofs.Common.{sym, subst, arith, length-set}
 use Rattle.answer.specs.Word.{number_in}
 use Rattle.answer.specs.Numbers.{among}
 use Rattle.codec.specs.Bytes.{AreBytes}
 use Rattle.rack.specs.declared.State.{State}
-use Rattle.rack.specs.State.{unit_of, kind_at, used, project_used}
+use Rattle.rack.specs.State.{unit_of, project_used}
 use Rattle.images.specs.Image.{state_size, state_from}
 use Rattle.images.specs.Typed.Properties.{state_found_typed}
 use Rattle.demands.specs.Run.{Call}

@@ -7,7 +7,7 @@ use Rattle.std.proofs.Math.Path.{sym, ap}
 use Rattle.std.proofs.Common.{subst, ◌∙◌, arith}
 use Rattle.std.proofs.Math.ListN.{take}
 use Rattle.answer.specs.declared.Answer.{Answer}
-use Rattle.answer.specs.declared.Answer.TheVariants.{Good, No}
+use Rattle.answer.specs.declared.Answer.TheVariants.{Good}
 use Rattle.answer.specs.Answer.{number, ◌and_then◌, if_good}
 use Rattle.answer.specs.Answer.Properties.{and_then_left, and_then_right}
 use Rattle.answer.specs.Word.{told, number_in}
@@ -23,7 +23,7 @@ use Rattle.rack.specs.Start.Properties.{start_good}
 use Rattle.rack.specs.Release.{release_of}
 use Rattle.rack.specs.Row.{row_of}
 use Rattle.rack.specs.Show.{show_answer, buffer_shown}
-use Rattle.rack.specs.Show.Properties.{show_first}
+use Rattle.rack.proofs.Laws.Show.{show_first}
 use Rattle.rack.specs.Advance.{advance_of}
 use Rattle.images.specs.Image.{plan_size, state_size, plan_from, state_from, state_image}
 use Rattle.images.specs.Lent.{room}

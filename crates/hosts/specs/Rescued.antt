@@ -1,11 +1,10 @@
 -- What a rescue leaves in the lent image is the plan that it gives: the next call finds it there, and the record order has nothing but 7 to
 -- say of it.
 -- Assumes nothing.
-use Rattle.std.specs.Prelude.{◌≡◌, refl, List, ◌++◌, ℕ, ◌<◌, drop}
-use Rattle.std.proofs.Common.{sym, ap, ◌∙◌}
+use Rattle.std.specs.Prelude.{◌≡◌, List, ℕ, drop}
+use Rattle.std.proofs.Common.{ap, ◌∙◌}
 use Rattle.answer.specs.declared.Answer.TheVariants.{Good}
 use Rattle.answer.specs.Answer.Properties.{and_then_left}
-use Rattle.plan.specs.declared.Plan.{Plan}
 use Rattle.plan.specs.Order.{budgets_fit, checked}
 use Rattle.plan_bytes.specs.Parts.{decoded}
 use Rattle.plan_bytes.specs.RoundTrip.Reads.{Passes}
@@ -13,7 +12,7 @@ use Rattle.rescue.specs.Rescue.{rescued_plan, rescue_answer}
 use Rattle.rescue.specs.Rescue.Properties.{counts_says}
 use Rattle.rescue.specs.Passing.{Damaged, passes_checked, decoded_damaged, made_passes, made_shaped}
 use Rattle.rescue.specs.When.{good_when}
-use Rattle.images.specs.Image.{plan_size, plan_from, plan_image}
+use Rattle.images.specs.Image.{plan_size, plan_from}
 use Rattle.images.specs.Lent.{room}
 use Rattle.images.specs.Typed.{PlanTyped}
 use Rattle.images.specs.Typed.Properties.{passes_typed}

@@ -1,21 +1,19 @@
 -- The number that each exported function gives back, read again by the header's five macros; and the numbers that each function lists.
 -- Assumes nothing.
 use Rattle.std.specs.Prelude.{◌≡◌, refl, true, not, List, ◌∷◌, ℕ, ◌<◌, ltb, length}
-use Rattle.std.proofs.Common.{sym, arith}
+use Rattle.std.proofs.Common.{arith}
 use Rattle.answer.specs.declared.Answer.{Answer}
 use Rattle.answer.specs.declared.Answer.TheVariants.{Good, No}
-use Rattle.answer.specs.Answer.{◌and_then◌, if_good}
+use Rattle.answer.specs.Answer.{if_good}
 use Rattle.answer.specs.Answer.Properties.{and_then_left, and_then_right}
 use Rattle.answer.specs.Word.{told, Decodes}
 use Rattle.answer.specs.Word.Properties.{told_decodes}
 use Rattle.answer.specs.Numbers.{among, covers, small, Numbered}
 use Rattle.answer.specs.Numbers.Properties.{bare_numbered, refuse_numbered, and_then_numbered, wider, numbered_holds}
-use Rattle.plan.specs.Order.{checked}
 use Rattle.plan_bytes.specs.Parts.{size}
 use Rattle.plan_bytes.specs.Reading.{read_of}
 use Rattle.plan_bytes.specs.Writing.{write_answer}
 use Rattle.layout.specs.Table.{table_answer, table_length}
-use Rattle.verdict.specs.Verdict.{judged}
 use Rattle.verdict.specs.Figures.{figures_of}
 use Rattle.smallest_budget.specs.Smallest.{smallest_of}
 use Rattle.rescue.specs.Rescue.{list_size, rescue_answer, rescue_of}

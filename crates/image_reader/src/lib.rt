@@ -1,5 +1,7 @@
 // A plan or a state found in an image. Offsets and widths are those that crate `images` states. Every
 // buffer is answered, whatever its length and its bytes.
+#![tactic(auto)]
+
 ghost use Rattle.std.specs.Prelude.{◌≡◌, ◌+◌, ◌≤◌, ◌<◌, length, drop};
 ghost use Rattle.codec.specs.Bytes.{number_to};
 ghost use Rattle.answer.specs.declared.Answer.TheVariants.{No};

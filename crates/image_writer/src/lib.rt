@@ -1,5 +1,7 @@
 // A plan or a state stored as an image. Offsets and widths are those that crate `images` states.
 // Every buffer is answered, whatever its length.
+#![tactic(auto)]
+
 mod figures;
 
 ghost use Rattle.std.specs.Prelude.{◌≡◌, cond, [], ◌∷◌, ◌++◌, ◌+◌, ◌≤◌, ◌<◌, length, drop};

@@ -4,7 +4,7 @@
 use Rattle.std.specs.Prelude.{◌≡◌, Bool, true, false, cond, ℕ, ◌+◌, ◌*◌, ◌≤◌, ◌<◌, eqb, length, take, drop, replicate}
 use Rattle.std.proofs.Math.Path.{refl, ap}
 use Rattle.std.proofs.Common.{sym, ◌∙◌, ext_get_or, le-leb, lt-ltb}
-use mathlib.Core.List.{List, [], ◌∷◌, ◌++◌, append-nil}
+use mathlib.Core.List.{List, ◌++◌, append-nil}
 use Rattle.std.proofs.Math.Decide.{dec_lt}
 use native.Mathlib.Omega.{arith}
 use Rattle.std.proofs.Math.ListN.{get_or}
@@ -28,8 +28,8 @@ use Rattle.unit.specs.declared.Unit.{Unit}
 use Rattle.rack.specs.declared.State.{State}
 use Rattle.unit.specs.Unit.{no_unit}
 use Rattle.rack.specs.State.{unit_of}
-use Rattle.images.specs.Image.{count_widths, project_widths, kind_widths, slice_widths, unit_widths, plan_rows, state_rows, project_place}
-use Rattle.images.specs.Image.{kind_place, slice_place, unit_place, sum_place, field, project_from, kind_from, slice_from, unit_from, sum_from}
+use Rattle.images.specs.Image.{count_widths, project_widths, kind_widths, unit_widths, plan_rows, state_rows, project_place}
+use Rattle.images.specs.Image.{kind_place, slice_place, unit_place, sum_place, project_from, kind_from, slice_from, unit_from, sum_from}
 use Rattle.images.specs.Image.{projects_from, kinds_from, units_from, sums_from, plan_from, state_from, released_at, released_told}
 use Rattle.images.specs.Image.{count_fields, project_fields}
 use Rattle.images.specs.Image.{kind_fields, unit_fields, plan_values, state_values, plan_image, state_image}

@@ -1,19 +1,21 @@
 // The images of a plan and of a state: bytes of a fixed size, in which both cross to another
 // language. specs/Image.antt has their layout, by which `image_reader` finds and `image_writer`
 // stores: the sizes here are those that its widths make.
+#![tactic(auto)]
+
 use answer::Answer;
 use plan::Plan;
 use rack::State;
 
 // What looking at a plan's image found: the answer, and the plan (all zero where it is refused).
-#[derive(Drop)]
+#[derive(Clone, Copy)]
 pub struct PlanFound {
     pub answer: Answer,
     pub plan: Plan,
 }
 
 // What looking at a state's image found: the answer, and the state (all zero where it is refused).
-#[derive(Drop)]
+#[derive(Clone, Copy)]
 pub struct StateFound {
     pub answer: Answer,
     pub state: State,

@@ -1,1 +1,3 @@
+#![tactic(auto)]
+
 // Laws that every crate above shares. They stand in specs/; there is no code here.

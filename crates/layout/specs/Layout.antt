@@ -7,7 +7,6 @@ use Rattle.laws.specs.Count.{count_to}
 use Rattle.plan.specs.declared.Plan.{Plan}
 use Rattle.plan.specs.Order.{budget_of}
 use Rattle.layout.specs.Cards.{in_run}
-pub mod Properties
 
 -- "cell x is card floor(x/F), slice x mod F": the cell of a card at a slice
 unfoldable pub cell_at : ℕ → ℕ → ℕ → ℕ

@@ -9,7 +9,6 @@ use Rattle.answer.specs.Outcome.{Leaves}
 use Rattle.plan.specs.Order.{checked}
 use Rattle.layout.specs.declared.table.TableWritten.{TableWritten}
 use Rattle.layout.specs.Layout.{slot_of}
-pub mod Properties
 
 -- "The slot table is written card by card, F bytes each": how many bytes that is
 unfoldable pub table_length : Plan → ℕ

@@ -4,7 +4,6 @@ use Rattle.std.specs.Prelude.{ℕ, suc, ◌+◌, cond, List, ltb, eqb, replicate
 use Rattle.laws.specs.Written.{written}
 use Rattle.plan.specs.declared.Plan.{Plan}
 use Rattle.layout.specs.Layout.{cell_at, first_cell, slot_of}
-pub mod Properties
 
 -- each project's first cell, and after the last project's the first free cell
 unfoldable pub first_cells : Plan → List ℕ

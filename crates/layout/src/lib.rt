@@ -1,4 +1,6 @@
 // The layout of budgets onto cards: document 01, "Layout".
+#![tactic(auto)]
+
 mod table;
 
 ghost use Rattle.std.specs.Prelude.{◌≡◌};

@@ -11,7 +11,7 @@ use answer::Answer;
 use plan::Plan;
 
 // What writing a table answers: the record order, then 9; and the count of bytes written.
-#[derive(Drop)]
+#[derive(Clone, Copy)]
 pub struct TableWritten {
     pub answer: Answer,
     pub count: usize,

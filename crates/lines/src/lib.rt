@@ -1,4 +1,6 @@
 // The lines that the player prints, document 01, "The player", as bytes in a lent buffer.
+#![tactic(auto)]
+
 mod line;
 mod text;
 

@@ -9,7 +9,7 @@ use crate::text::{put, put_number};
 use answer::Answer;
 
 // What a line says besides the row's bytes. A row stands beside its line, in an array of its own.
-#[derive(Drop)]
+#[derive(Clone, Copy)]
 pub enum Line {
     // The plan's answer.
     Plan(Answer),

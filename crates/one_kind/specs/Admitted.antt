@@ -15,7 +15,7 @@ use Rattle.plan.specs.declared.Kind.{Kind}
 use Rattle.plan.specs.Order.{project_of, kind_of, budget_of, budgets, budgets_fit, InOrder}
 use Rattle.layout.specs.Cards.{held_from}
 use Rattle.layout.specs.Layout.{first_cell}
-use Rattle.layout.specs.Layout.Properties.{held_from_law}
+use Rattle.layout.proofs.Laws.Layout.{held_from_law}
 use Rattle.supply.specs.Supply.{supply}
 use Rattle.workload.specs.Workload.{part_of, workload}
 use Rattle.workload.specs.Workload.Properties.{part_own, part_foreign}

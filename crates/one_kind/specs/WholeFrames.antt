@@ -8,7 +8,7 @@ use Rattle.laws.specs.Sum.Properties.{sum_cong}
 use Rattle.layout.specs.Cards.{held_from}
 use Rattle.layout.specs.Cards.Properties.{run_period, run_ceiling, run_frame}
 use Rattle.supply.specs.Supply.{window, supply}
-use Rattle.supply.specs.Supply.Properties.{supply_none, supply_whole}
+use Rattle.supply.proofs.Laws.Supply.{supply_none, supply_whole}
 
 module _ (first b F : ℕ) (some : 0 < F) (most : b ≤ F) where
   one_card : (s : ℕ) → held_from first b F s ≤ 1

@@ -3,6 +3,8 @@
 // is a project of its own. Any number and any bytes are answered.
 //
 // The list is bytes, four a kind: the separation and then the length, the high byte first.
+#![tactic(auto)]
+
 ghost use Rattle.std.specs.Prelude.{◌≡◌, ◌+◌, ◌*◌, ◌≤◌, ◌<◌, length};
 ghost use Rattle.one_kind.specs.Divisor.{divisor, divisor_to};
 ghost use Rattle.one_kind.specs.Wanted.{kinds_in, field_at, separation_in, length_in};
@@ -13,7 +15,7 @@ use answer::Answer;
 use plan::{Kind, Plan, Project};
 
 // The answer, and beside it the plan; all zero on a refusal.
-#[derive(Drop)]
+#[derive(Clone, Copy)]
 pub struct Built {
     pub answer: Answer,
     pub plan: Plan,

@@ -2,20 +2,22 @@
 //
 // Document 01, "What the base holds" and the refusals 2 to 7 of "Numbers given back when we say
 // no". A plan goes by value. Every record is answered, whatever its fields hold.
+#![tactic(auto)]
+
 mod check;
 
 ghost use Rattle.std.specs.Prelude.{◌≡◌};
 ghost use Rattle.plan.specs.Record.{no_project, no_kind, no_plan};
 
 // A project's ceiling and budget.
-#[derive(Drop)]
+#[derive(Clone, Copy)]
 pub struct Project {
     pub ceiling: u8,
     pub budget: u16,
 }
 
 // A unit kind: the project it names, and its separation, deadline and length in slices.
-#[derive(Drop)]
+#[derive(Clone, Copy)]
 pub struct Kind {
     pub project: u8,
     pub separation: u16,
@@ -25,7 +27,7 @@ pub struct Kind {
 
 // The counts of cards, projects and kinds, the frame's length, and a place for each project and
 // each kind. Places beyond the counts hold zeros.
-#[derive(Drop)]
+#[derive(Clone, Copy)]
 pub struct Plan {
     pub cards: u8,
     pub projects: u8,

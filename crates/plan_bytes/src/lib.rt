@@ -1,5 +1,7 @@
 // Plan bytes: document 01, "Plan bytes". One layout, specs/Parts.antt, states both directions:
 // `plan_reader` reads by it and `plan_writer` writes by it.
+#![tactic(auto)]
+
 ghost use Rattle.std.specs.Prelude.{◌≡◌};
 ghost use Rattle.plan_bytes.specs.Parts.{size};
 
@@ -53,7 +55,7 @@ pub const BEHIND_PROJECT: u64 = BITS_12 * BEHIND_SEPARATION;
 
 // What reading found: the answer, the plan (all zero where it is refused) and how many bytes it
 // took.
-#[derive(Drop)]
+#[derive(Clone, Copy)]
 pub struct Reading {
     pub answer: Answer,
     pub plan: Plan,
@@ -61,7 +63,7 @@ pub struct Reading {
 }
 
 // What writing did: the answer and the count of bytes written.
-#[derive(Drop)]
+#[derive(Clone, Copy)]
 pub struct Written {
     pub answer: Answer,
     pub count: usize,

@@ -1,5 +1,7 @@
 // Runs plan bytes: plan A read and written, and the refusals that document 01 asks to be run.
 // For each case it prints number, place and count; the gate compares what it prints.
+#![tactic(auto)]
+
 use answer::Answer;
 use plan::Plan;
 

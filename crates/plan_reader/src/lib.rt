@@ -1,5 +1,7 @@
 // Reading a plan from the front of any bytes: 1 for the first three bytes, 2, 1 for the total, 3
 // over every spare bit, then the record's 4, 5/6 and 7. What follows the plan is never looked at.
+#![tactic(auto)]
+
 mod part;
 
 ghost use Rattle.std.specs.Prelude.{◌≡◌, ◌&&◌, ◌+◌, ◌*◌, ◌≤◌, ◌<◌, length};
@@ -14,21 +16,21 @@ use plan::{Kind, Plan, Project};
 use plan_bytes::{HEADER, KIND, PROJECT, Reading, size};
 
 // The projects of a plan, and whether their spare bits are zero.
-#[derive(Drop)]
+#[derive(Clone, Copy)]
 struct Projects {
     project: [Project; 8],
     clean: bool,
 }
 
 // The unit kinds of a plan, and whether their spare bits are zero.
-#[derive(Drop)]
+#[derive(Clone, Copy)]
 struct Kinds {
     kind: [Kind; 16],
     clean: bool,
 }
 
 // A plan with its places, and whether every spare bit in these is zero.
-#[derive(Drop)]
+#[derive(Clone, Copy)]
 struct Placed {
     plan: Plan,
     clean: bool,

@@ -11,19 +11,19 @@ use plan_bytes::{
     BITS_4, BITS_5, BITS_7, BITS_10, BITS_12, HEADER, KIND, PROJECT,
 };
 
-#[derive(Drop)]
+#[derive(Clone, Copy)]
 pub struct Header {
     pub plan: Plan,
     pub spare: u8,
 }
 
-#[derive(Drop)]
+#[derive(Clone, Copy)]
 pub struct ProjectPart {
     pub project: Project,
     pub spare: u8,
 }
 
-#[derive(Drop)]
+#[derive(Clone, Copy)]
 pub struct KindPart {
     pub kind: Kind,
     pub spare: u8,

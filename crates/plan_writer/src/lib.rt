@@ -1,5 +1,7 @@
 // Writing a plan's bytes into a lent buffer: the record order, then 9. On a refusal the buffer
 // keeps every byte; on success it keeps those past the plan's.
+#![tactic(auto)]
+
 mod part;
 
 ghost use Rattle.std.specs.Prelude.{◌≡◌, ◌+◌, ◌*◌, ◌≤◌, ◌++◌, length, drop};

@@ -5,20 +5,25 @@
 // lines are written when their buffer is full, and before more input is waited for. The play ends
 // with its last line, with a read that fails, or with an output that is closed.
 //
-// What a round does is said in specs/Desk.antt. No contract reaches what `libc::read` puts into
+// What a round does is said in specs/Desk.antt. No contract reaches what `Stdin::read` puts into
 // the buffer and what `io::write_all` does with its bytes: each is called once, in `read_more` and
 // in `round`.
+#![tactic(auto)]
+
 ghost use Rattle.std.specs.Prelude.{◌≡◌, ◌+◌, ◌-◌, ◌^◌, ◌≤◌, ◌<◌, length};
 ghost use Rattle.lines.specs.Line.{line_room};
 ghost use Rattle.play.specs.Desk.{is_closed, Fits, arrival_of, count_of, Arrives, course_of, told_of, ended_of, heard_of, Hears, Round};
 ghost use Rattle.play.specs.Desk.{Ends};
 
-use libc::{STDIN_FILENO, STDOUT_FILENO};
 use player::Session;
+use std::io::{Read, Stdin};
+
+// Standard output's number.
+const STDOUT_FILENO: i32 = 1;
 
 // Whether the play goes on, and why it does not: its last line is printed, a read failed, or the
 // output is closed.
-#[derive(Drop)]
+#[derive(Clone, Copy)]
 enum Course {
     On,
     Over,
@@ -41,7 +46,7 @@ impl Course {
 
 // The play so far: its session, where the bytes that are not taken yet stand in the input's
 // buffer, whether the input has ended with them, and whether the play goes on.
-#[derive(Drop)]
+#[derive(Clone, Copy)]
 struct Desk {
     session: Session,
     from: usize,
@@ -51,7 +56,7 @@ struct Desk {
 }
 
 // What a read brings: so many bytes, none at the end of the input, or its failure.
-#[derive(Drop)]
+#[derive(Clone, Copy)]
 enum Arrival {
     Came(usize),
     Failed,
@@ -68,11 +73,14 @@ fn brought(got: isize, asked: &[u8]) -> Arrival
 }
 
 // Reads behind the bytes that are held. There is room, so that 0 means the end of the input.
-fn read_more(input: &mut [u8], held: usize) -> Arrival
+fn read_more(stdin: &mut Stdin, input: &mut [u8], held: usize) -> Arrival
     requires { held < length input.old }
     ensures { Arrives input.old held result input.new }
 {
-    let got = libc::read(STDIN_FILENO, &mut input[held..]);
+    let got = match stdin.read(&mut input[held..]) {
+        Ok(count) => count as isize,
+        Err(_) => -1,
+    };
     brought(got, &input[held..])
 }
 
@@ -100,7 +108,7 @@ fn heard(session: Session, held: usize, arrival: Arrival) -> Desk
 }
 
 // There is no line without more input: reads once.
-fn listen(desk: Desk, input: &mut [u8]) -> Desk
+fn listen(stdin: &mut Stdin, desk: Desk, input: &mut [u8]) -> Desk
     requires { (Fits desk input.old) × (desk.to - desk.from < length input.old) }
     ensures { Hears desk input.old result input.new }
 {
@@ -108,7 +116,7 @@ fn listen(desk: Desk, input: &mut [u8]) -> Desk
     let from = desk.from;
     let to = desk.to;
     let held = commands::keep(input, from, to);
-    let arrival = read_more(input, held);
+    let arrival = read_more(stdin, input, held);
     heard(session, held, arrival)
 }
 
@@ -152,7 +160,7 @@ fn told(desk: Desk, session: Session, taken: usize, written: bool) -> Desk
 }
 
 // Plays what is there and writes the lines, or reads where there is no line.
-fn round(desk: Desk, input: &mut [u8], output: &mut [u8]) -> Desk
+fn round(stdin: &mut Stdin, desk: Desk, input: &mut [u8], output: &mut [u8]) -> Desk
     requires { (Fits desk input.old) × (line_room ≤ length input.old) × (line_room ≤ length output.old) }
     ensures { Round desk input.old output.old result input.new output.new }
 {
@@ -166,7 +174,7 @@ fn round(desk: Desk, input: &mut [u8], output: &mut [u8]) -> Desk
         if session.is_over() {
             return ended(desk);
         }
-        return listen(desk, input);
+        return listen(stdin, desk, input);
     }
     let written = io::write_all(STDOUT_FILENO, &output[..count]);
     let after = progress.session;
@@ -175,7 +183,7 @@ fn round(desk: Desk, input: &mut [u8], output: &mut [u8]) -> Desk
 
 // A proved loop has to end, and nothing says that the input does. So it counts its rounds, up to
 // a number that no run comes to.
-fn play_all(input: &mut [u8], output: &mut [u8]) -> Desk
+fn play_all(stdin: &mut Stdin, input: &mut [u8], output: &mut [u8]) -> Desk
     requires { (line_room ≤ length input.old) × (line_room ≤ length output.old) }
     ensures { Ends result input.new }
 {
@@ -192,14 +200,15 @@ fn play_all(input: &mut [u8], output: &mut [u8]) -> Desk
         if course.is_closed() {
             return desk;
         }
-        desk = round(desk, input, output);
+        desk = round(stdin, desk, input, output);
         rounds += 1;
     }
     desk
 }
 
-fn main() {
+fn main(rt: HostRuntime) {
+    let mut stdin = rt.stdin();
     let mut input = io::buffer();
     let mut output = io::buffer();
-    play_all(&mut input, &mut output);
+    play_all(&mut stdin, &mut input, &mut output);
 }

@@ -11,7 +11,7 @@ use lines::Line;
 use rack::State;
 
 // Before the plan, among the commands, or after the last line.
-#[derive(Drop)]
+#[derive(Clone, Copy)]
 pub enum Stage {
     Opening,
     Running,
@@ -19,14 +19,14 @@ pub enum Stage {
 }
 
 // Where a play stands.
-#[derive(Drop)]
+#[derive(Clone, Copy)]
 pub struct Session {
     pub stage: Stage,
     pub state: State,
 }
 
 // What playing leaves: the session, the bytes taken, and the count of bytes printed.
-#[derive(Drop)]
+#[derive(Clone, Copy)]
 pub struct Progress {
     pub session: Session,
     pub taken: usize,

@@ -12,7 +12,6 @@ use Rattle.rack.specs.declared.Next.{Next}
 use Rattle.rack.specs.State.{unit_of, kind_at, kind_places, project_places, sum_at, next_of}
 use Rattle.rack.specs.Form.{ready}
 use Rattle.rack.specs.Rank.{served}
-pub mod Properties
 
 -- kind i's unit: "Each chosen kind's left falls by one", and one slice more is gone, held at T
 unfoldable pub unit_after : State → ℕ → Unit

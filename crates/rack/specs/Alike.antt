@@ -5,7 +5,6 @@ use Rattle.plan.specs.Order.{budget_of}
 use Rattle.layout.specs.Layout.{first_cell}
 use Rattle.rack.specs.declared.State.{State}
 use Rattle.rack.specs.State.{unit_of, kind_at, kind_places, InUse}
-pub mod Properties
 
 -- kind i is one of project j's
 pub record Mine (j : ℕ) (s : State) (i : ℕ) : Type 0 where

@@ -9,7 +9,6 @@ use Rattle.rack.specs.declared.form.Found.{Found}
 use Rattle.rack.specs.State.{unit_of}
 use Rattle.rack.specs.Rank.{until}
 use Rattle.rack.specs.Seat.{works_of}
-pub mod Properties
 
 -- of a kind with slices left, the slices until it is due; else 0
 unfoldable pub due_of : State → ℕ → ℕ

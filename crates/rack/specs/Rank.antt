@@ -9,7 +9,6 @@ use Rattle.unit.specs.Step.{until_due}
 use Rattle.rack.specs.declared.State.{State}
 use Rattle.rack.specs.State.{unit_of, kind_at, kind_places}
 use Rattle.rack.specs.View.{View, rank_of, chosen}
-pub mod Properties
 
 -- "slices left until the deadline" of kind i
 abbrev pub until : State → ℕ → ℕ

@@ -9,7 +9,6 @@ use Rattle.rack.specs.declared.State.{State}
 use Rattle.rack.specs.State.{kind_at}
 use Rattle.rack.specs.View.{takes_card, byte_on}
 use Rattle.rack.specs.Rank.{view_of, own_view}
-pub mod Properties
 
 -- whether project j holds a card at a slice of the frame
 unfoldable pub holds : Plan → ℕ → ℕ → ℕ → Bool

@@ -12,7 +12,6 @@ use Rattle.rack.specs.declared.State.{State}
 use Rattle.rack.specs.State.{unit_of, kind_at, kind_places}
 use Rattle.rack.specs.View.{lowest_card}
 use Rattle.rack.specs.Rank.{own_view, rank, served}
-pub mod Properties
 
 -- ---- the seats
 

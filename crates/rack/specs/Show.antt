@@ -7,7 +7,6 @@ use Rattle.answer.specs.Outcome.{Leaves}
 use Rattle.rack.specs.declared.State.{State}
 use Rattle.rack.specs.Form.{ready, Ready}
 use Rattle.rack.specs.Row.{row_over}
-pub mod Properties
 
 -- "9: buffer shorter than needed", for a lent row of that many bytes
 unfoldable pub room_for : State → ℕ → Answer

@@ -6,7 +6,6 @@ use Rattle.laws.specs.First.{first_to}
 use Rattle.laws.specs.Ranking.{rank_in, first_in}
 use Rattle.layout.specs.Cards.{cards_below, held_from, in_run}
 use Rattle.layout.specs.Layout.{cell_at}
-pub mod Properties
 
 -- what a project sees of a state
 pub record View : Type 0 where

@@ -9,7 +9,7 @@ use answer::Answer;
 use plan::Plan;
 
 // What a check finds: its answer, and what the seats go by.
-#[derive(Drop)]
+#[derive(Clone, Copy)]
 pub(crate) struct Found {
     pub(crate) answer: Answer,
     pub(crate) works: [u8; Plan::KINDS],

@@ -4,6 +4,8 @@
 // 02 (vii), the row of sums and the refusal 16, and (ix), the slice within the frame in place of a
 // clock. A state goes in by value and the next one is handed back. Every record is answered,
 // whatever its fields hold.
+#![tactic(auto)]
+
 mod advance;
 mod form;
 mod release;
@@ -21,7 +23,7 @@ use verdict::judge;
 
 // The plan that runs, the slice within its frame, a place for each kind's unit, and a place for each
 // project's sum of slices left. Places beyond the plan's kinds and projects hold zeros.
-#[derive(Drop)]
+#[derive(Clone, Copy)]
 pub struct State {
     pub plan: Plan,
     pub slice: u8,
@@ -30,7 +32,7 @@ pub struct State {
 }
 
 // What a call answers, and the state that it hands back.
-#[derive(Drop)]
+#[derive(Clone, Copy)]
 pub struct Next {
     pub answer: Answer,
     pub state: State,

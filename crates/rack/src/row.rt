@@ -21,7 +21,7 @@ use plan::Plan;
 use seats::seats;
 
 // Each project's lowest card in this slice, and the card after its last.
-#[derive(Drop)]
+#[derive(Clone, Copy)]
 struct Cards {
     low: [u8; 8],
     end: [u8; 8],

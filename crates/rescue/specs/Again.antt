@@ -1,6 +1,6 @@
 -- "A plan already in order gives an empty list", 7 or not: rescuing the bytes of a plan that passes 2 to 6 changes nothing.
 -- Assumes nothing.
-use Rattle.std.specs.Prelude.{◌≡◌, true, not, length, drop, replicate}
+use Rattle.std.specs.Prelude.{◌≡◌, true, length, drop, replicate}
 use Rattle.std.proofs.Math.Path.{refl, ap, ap₂}
 use Rattle.std.proofs.Common.{sym, ◌∙◌, arith}
 use mathlib.Core.List.{List, [], ◌++◌}

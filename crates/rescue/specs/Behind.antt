@@ -1,16 +1,14 @@
 -- Rescuing looks at no byte behind the header's total; nor does applying a list.
 -- Assumes nothing.
-use Rattle.std.specs.Prelude.{◌≡◌, refl, Bool, cond, ℕ, zero, suc, ◌+◌, ◌*◌, ◌≤◌, ◌<◌, length, take, drop}
+use Rattle.std.specs.Prelude.{◌≡◌, refl, ℕ, zero, suc, ◌≤◌, ◌<◌, length, take}
 use Rattle.std.proofs.Math.Path.{sym, ap}
 use Rattle.std.proofs.Common.{ap₂, ◌∙◌, arith}
-use mathlib.Core.List.{List, [], ◌∷◌, ◌++◌}
+use mathlib.Core.List.{List, ◌++◌}
 use Rattle.std.proofs.Math.ListN.{get_or, length-append, get_or-append}
 use Rattle.std.proofs.Math.Seq.{length-take-le, get_or-take}
 use borrow.Author.Tests.{le-ltb}
-use Rattle.codec.specs.Pack.{pack}
-use Rattle.codec.specs.Bytes.{bytes_of}
 use Rattle.plan.specs.declared.Plan.{Plan}
-use Rattle.plan_bytes.specs.Parts.{header_widths, project_widths, kind_widths, headed, decoded, size}
+use Rattle.plan_bytes.specs.Parts.{headed, decoded, size}
 use Rattle.plan_bytes.specs.Reading.{header_spare, project_spare, kind_spare, counts_answer}
 use Rattle.plan_bytes.specs.RoundTrip.Behind.{header_same, headed_same, project_same, kind_same, decoded_same}
 use Rattle.rescue.specs.Entry.{Entry, change, entries_to}

@@ -2,7 +2,7 @@
 -- Assumes nothing.
 use Rattle.std.specs.Prelude.{◌≡◌, Bool, ℕ, ◌<◌, eqb}
 use Rattle.std.proofs.Math.Path.{refl, ap, ap₂}
-use Rattle.std.proofs.Common.{sym, ◌∙◌}
+use Rattle.std.proofs.Common.{◌∙◌}
 use Rattle.std.proofs.Math.Bool.{true, false, cond}
 use mathlib.Core.List.{List, [], ◌∷◌, ◌++◌, append-nil}
 use Rattle.plan.specs.declared.Project.{Project}

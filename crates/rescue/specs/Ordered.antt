@@ -1,6 +1,6 @@
 -- The list is in the stated order, names no field of a place twice, and has at most 57 entries; and each entry says what it may.
 -- Assumes nothing.
-use Rattle.std.specs.Prelude.{◌≡◌, Bool, List, ◌++◌, ℕ, ◌+◌, ◌*◌, ◌≤◌, ◌<◌, length}
+use Rattle.std.specs.Prelude.{Bool, List, ◌++◌, ℕ, ◌+◌, ◌*◌, ◌≤◌, ◌<◌, length}
 use Rattle.std.proofs.Math.Path.{refl}
 use Rattle.std.proofs.Math.Bool.{true, false}
 use native.Mathlib.Omega.{arith}
@@ -9,7 +9,7 @@ use Rattle.plan.specs.declared.Kind.{Kind}
 use Rattle.plan.specs.declared.Plan.{Plan}
 use Rattle.plan.specs.Order.{project_of, kind_of}
 use Rattle.plan_bytes.specs.Reading.{header_spare}
-use Rattle.rescue.specs.Entry.{Entry, entry, change, entries_to}
+use Rattle.rescue.specs.Entry.{entry, change, entries_to}
 use Rattle.rescue.specs.Mended.{project_for_at, kind_for_at, kept_at}
 use Rattle.rescue.specs.Rescue.{project_spare_at, kind_spare_at, project_spare_change, spare_entries, kind_spare_change, project_entries}
 use Rattle.rescue.specs.Rescue.{project_changes, kind_entries, kind_changes, changes_in}

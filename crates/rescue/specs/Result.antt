@@ -1,24 +1,22 @@
 -- "the list applied to the original gives the result".
 -- Assumes nothing.
-use Rattle.std.specs.Prelude.{◌≡◌, Bool, ℕ, ◌≤◌, ◌<◌}
+use Rattle.std.specs.Prelude.{◌≡◌, Bool, ℕ, ◌<◌}
 use Rattle.std.proofs.Math.Path.{refl, sym, ap, ap₂}
-use Rattle.std.proofs.Common.{◌∙◌, arith}
+use Rattle.std.proofs.Common.{◌∙◌}
 use Rattle.std.proofs.Math.Bool.{true, false, not, cond}
 use mathlib.Core.List.{List, [], ◌∷◌, ◌++◌}
 use Rattle.laws.specs.Count.{count_to}
 use Rattle.laws.specs.Count.Properties.{count_cong}
 use Rattle.codec.specs.Pack.{pack}
 use Rattle.codec.specs.Bytes.{bytes_of}
-use Rattle.codec.specs.Places.{parts_to}
-use Rattle.plan.specs.declared.Project.{Project}
 use Rattle.plan.specs.declared.Kind.{Kind}
 use Rattle.plan.specs.declared.Plan.{Plan}
 use Rattle.plan.specs.Order.{project_of, kind_of}
 use Rattle.plan_bytes.specs.Parts.{header_widths, project_widths, kind_widths, header_bytes, project_bytes, kind_bytes, project_bytes_at}
-use Rattle.plan_bytes.specs.Parts.{kind_bytes_at, encoded}
+use Rattle.plan_bytes.specs.Parts.{encoded}
 use Rattle.plan_bytes.specs.Reading.{header_spare}
-use Rattle.rescue.specs.Entry.{Entry, entry, listed, change}
-use Rattle.rescue.specs.Mended.{kind_for, project_for_at, kind_for_at, kept_at, kinds_kept, kept_to, plan_for}
+use Rattle.rescue.specs.Entry.{Entry, entry, change}
+use Rattle.rescue.specs.Mended.{kind_for, project_for_at, kind_for_at, kept_at, kinds_kept, plan_for}
 use Rattle.rescue.specs.Rescue.{project_spare_at, kind_spare_at, changes_in}
 use Rattle.rescue.specs.Applied.{about, after, some, drops, header_after, project_after, kind_after, parts_after}
 use Rattle.rescue.specs.Applied.Properties.{after_change, parts_cong}

@@ -1,8 +1,8 @@
 -- An empty list applied to plan bytes gives these bytes: applying touches nothing but what the list names.
 -- Assumes nothing.
-use Rattle.std.specs.Prelude.{◌≡◌, Bool, true, false, not, cond, ℕ, zero, suc, ◌+◌, ◌*◌, ◌≤◌, ◌<◌, length, drop, replicate}
+use Rattle.std.specs.Prelude.{◌≡◌, true, ℕ, zero, suc, ◌+◌, ◌*◌, ◌≤◌, ◌<◌, length, drop, replicate}
 use Rattle.std.proofs.Math.Path.{refl, sym, ap}
-use Rattle.std.proofs.Common.{ap₂, ◌∙◌, arith, take-add}
+use Rattle.std.proofs.Common.{◌∙◌, arith, take-add}
 use mathlib.Core.List.{List, [], ◌∷◌, ◌++◌}
 use Rattle.std.proofs.Math.ListN.{get_or, take, length-replicate, length-drop}
 use Rattle.laws.specs.Count.{count_to}
@@ -12,18 +12,16 @@ use Rattle.codec.specs.Bytes.{bytes_of, AreBytes}
 use Rattle.codec.specs.Bytes.Properties.{bytes_behind}
 use Rattle.codec.specs.Place.{placed, fields_of}
 use Rattle.codec.specs.Place.Properties.{placed_fields}
-use Rattle.codec.specs.Places.{parts_to}
 use Rattle.codec.specs.Places.Properties.{parts_front}
 use Rattle.plan.specs.declared.Project.{Project}
 use Rattle.plan.specs.declared.Kind.{Kind}
 use Rattle.plan.specs.Record.{no_project, no_kind}
-use Rattle.plan.specs.Order.{project_of, kind_of, Sized}
+use Rattle.plan.specs.Order.{Sized}
 use Rattle.plan_bytes.specs.Parts.{header_widths, project_widths, kind_widths, header_fields, project_fields, kind_fields, project_from, kind_from}
 use Rattle.plan_bytes.specs.Parts.{project_at, kind_at, projects_from, kinds_from, headed, after_header, after_projects, decoded, size}
 use Rattle.plan_bytes.specs.Reading.{header_spare, project_spare, kind_spare}
 use Rattle.rescue.specs.Rescue.{project_spare_at, kind_spare_at}
-use Rattle.rescue.specs.Applied.{entries_in, about, after, some, drops, header_after, project_after, kind_after, applied}
-use Rattle.rescue.specs.Applied.Properties.{parts_cong}
+use Rattle.rescue.specs.Applied.{entries_in, about, after, some, header_after, project_after, kind_after, applied}
 
 count_each : (n : ℕ) → count_to n (λ i. true) ≡ n
 unfolding count_to

@@ -17,7 +17,7 @@ use Rattle.plan.specs.Order.{kind_in_range_at, kinds_in_range, budgets_fit, rang
 use Rattle.plan_bytes.specs.Parts.{headed, decoded, size}
 use Rattle.plan_bytes.specs.Reading.{spare_zero, body_answer, read_answer, read_of, counts_answer}
 use Rattle.rescue.specs.Mended.{kept_at, plan_for}
-use Rattle.rescue.specs.Rescue.{list_size, rescued_plan, rest_answer, rescue_answer, rescue_of}
+use Rattle.rescue.specs.Rescue.{list_size, rescued_plan, rest_answer, rescue_answer}
 
 -- ---- answers and their numbers
 

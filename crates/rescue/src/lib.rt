@@ -1,6 +1,8 @@
 // Rescuing a damaged plan file: document 02 (viii). Bytes that pass 1 and 2 are made into a plan that
 // passes 2 to 6, and each change is listed in six bytes. Any bytes and any buffer are answered; what
 // follows the plan's bytes is never looked at.
+#![tactic(auto)]
+
 mod entries;
 mod mended;
 
@@ -13,7 +15,7 @@ use answer::Answer;
 use plan::Plan;
 
 // The answer, the plan (all zero on a refusal) and how many bytes of the list were written.
-#[derive(Drop)]
+#[derive(Clone, Copy)]
 pub struct Rescued {
     pub answer: Answer,
     pub plan: Plan,

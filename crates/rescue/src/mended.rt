@@ -7,7 +7,7 @@ ghost use Rattle.rescue.specs.Mended.{raised, lowered, project_for, project_for_
 
 use plan::{Kind, Plan, Project};
 
-#[derive(Drop)]
+#[derive(Clone, Copy)]
 struct Kinds {
     kind: [Kind; Plan::KINDS],
     count: u8,

@@ -7,6 +7,8 @@
 // how many standings are its project's least or after it, which is counted once for the project, and
 // how many are its own or after it. Of n kinds, a of them with slices left and a project that has a
 // card, for q such projects, that is 16(a + q) steps for the ranks and 2n for the rest.
+#![tactic(auto)]
+
 ghost use Rattle.std.specs.Prelude.{◌≡◌, ◌+◌, ◌-◌, ◌≤◌, ◌<◌};
 ghost use Rattle.seats.specs.Seats.{seat_at, seats_by};
 ghost use Rattle.seats.specs.Ranks.{at_or_after, Within28Bits, Standing, Standings, Known};

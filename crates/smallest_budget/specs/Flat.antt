@@ -4,12 +4,12 @@
 use Rattle.std.specs.Prelude.{◌≡◌}
 use Rattle.std.proofs.Math.Path.{sym, ap}
 use Rattle.std.proofs.Common.{◌∙◌, le-div_iff_mul-le, arith}
-use Prim.Native.Nat.{ℕ, ◌+◌, ◌*◌, ◌/◌, ◌<◌, min}
+use Prim.Native.Nat.{ℕ, ◌+◌, ◌*◌, ◌<◌, min}
 use Rattle.laws.specs.Sum.Properties.{sum_cong}
 use Rattle.layout.specs.Cards.{held_from}
 use Rattle.layout.specs.Cards.Properties.{run_least, run_ceiling}
-use Rattle.supply.specs.Supply.{window, supply, bad_slice}
-use Rattle.supply.specs.Supply.Properties.{supply_attained, bad_only}
+use Rattle.supply.specs.Supply.{window, supply}
+use Rattle.supply.proofs.Laws.Supply.{supply_attained, bad_only}
 use Rattle.supply.specs.Fit.{named_width, named_slice}
 
 run_flat : (first q frame s : ℕ) → 0 < frame → held_from first (q * frame) frame s ≡ q

@@ -9,7 +9,7 @@ use Rattle.laws.specs.Sum.Properties.{sum_le}
 use Rattle.layout.specs.Cards.{held_from}
 use Rattle.supply.specs.Supply.{window, supply}
 use Rattle.supply.specs.Fit.{fits_at, least_width}
-use Rattle.supply.specs.Fit.Properties.{width_most, width_fits, width_some}
+use Rattle.supply.proofs.Laws.Fit.{width_most, width_fits, width_some}
 use Rattle.smallest_budget.specs.Staying.{least_le_least, count_more}
 
 -- ---- more cards at every slice, more supply

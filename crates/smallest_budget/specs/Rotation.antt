@@ -15,7 +15,7 @@ use Rattle.laws.specs.Count.Properties.{count_cong}
 use Rattle.layout.specs.Cards.{held_from}
 use Rattle.layout.specs.Cards.Properties.{run_period}
 use Rattle.supply.specs.Supply.{window, supply}
-use Rattle.supply.specs.Supply.Properties.{window_turn}
+use Rattle.supply.proofs.Laws.Supply.{window_turn}
 use Rattle.supply.specs.Greatest.{greatest_to}
 use Rattle.supply.specs.Fit.{fits_at, least_width, allowed_length, least_excess}
 use Rattle.smallest_budget.specs.Turning.{least_turned}

@@ -4,6 +4,8 @@
 // A project's supply does not depend on its first cell, so its cells are laid from cell 0 on; and a
 // greater budget never takes a fit away, so the least one is found by halving: at most ten
 // judgements of the project's kinds, the one at qF among them.
+#![tactic(auto)]
+
 ghost use Rattle.std.specs.Prelude.{◌≡◌, cond, ◌+◌, ◌*◌, ◌≤◌, ◌<◌};
 ghost use Rattle.answer.specs.declared.Answer.TheVariants.{Good};
 ghost use Rattle.answer.specs.Answer.{◌and_then◌};
@@ -17,7 +19,7 @@ use answer::Answer;
 use plan::Plan;
 
 // The answer, and beside it the least budget; 0 on a refusal.
-#[derive(Drop)]
+#[derive(Clone, Copy)]
 pub struct Smallest {
     pub answer: Answer,
     pub budget: u16,
@@ -51,7 +53,7 @@ fn cards_with(budget: u16, frame: u8) -> [u8; Plan::FRAME]
 // What is asked of each kind: its project, its length, its deadline and its workload. No budget
 // changes them, and as arrays of numbers they are lent, so that no record is copied for a budget
 // that is tried.
-#[derive(Drop)]
+#[derive(Clone, Copy)]
 struct Asked {
     owner: [u8; Plan::KINDS],
     length: [u16; Plan::KINDS],

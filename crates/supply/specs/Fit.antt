@@ -9,7 +9,6 @@ use Rattle.supply.specs.Greatest.{greatest_to}
 use Rattle.supply.specs.declared.Fit.{Fit}
 use Rattle.supply.specs.declared.Supplied.{Supplied}
 use Rattle.supply.specs.declared.Least.{Least}
-pub mod Properties
 
 module _ (frame : ℕ) (h : ℕ → ℕ) (length workload deadline : ℕ) where
   -- "Kind i fits at k when kCi + W <= S(k,Di)"

@@ -5,7 +5,6 @@
 use Rattle.std.specs.Prelude.{◌≡◌, ℕ, ◌+◌, min}
 use Rattle.laws.specs.Sum.{sum_to}
 use Rattle.laws.specs.Least.{least_to, least_place}
-pub mod Properties
 
 -- "h(s) .., taken modulo F": a frame later as many cards are held
 abbrev pub Periodic : ℕ → (ℕ → ℕ) → Type 0

@@ -1,6 +1,8 @@
 // The supply of a project, what its other kinds add to the workload, and the least k at which a
 // unit fits, with the bad slice to arrive in. Document 01, "Supply and verdict". Every argument is
 // answered.
+#![tactic(auto)]
+
 ghost use Rattle.std.specs.Prelude.{◌≡◌, ◌+◌, ◌-◌, ◌*◌, ◌≤◌, ◌<◌, min, replicate};
 ghost use Rattle.laws.specs.Written.{written};
 ghost use Rattle.supply.specs.Workload.{whole_units, workload_part};
@@ -9,7 +11,7 @@ ghost use Rattle.supply.specs.Fit.{held_at, least_with, short_by, fit_of, suppli
 // The least k at which a unit fits, or 0 where there is none, and then the excess. Document 01's
 // k is a width here: the most cards that count at one slice. The slice is the bad one to arrive in,
 // for that k or for the one that the excess names.
-#[derive(Drop)]
+#[derive(Clone, Copy)]
 pub struct Fit {
     pub width: u8,
     pub excess: u64,
@@ -22,7 +24,7 @@ impl Fit {
 }
 
 // The least of the values so far, and the slice that stands beside it.
-#[derive(Drop)]
+#[derive(Clone, Copy)]
 struct Least {
     value: usize,
     slice: u8,
@@ -216,7 +218,7 @@ pub fn least_fit(
 }
 
 // S(k,t), and the bad slice to arrive in for it.
-#[derive(Drop)]
+#[derive(Clone, Copy)]
 pub struct Supplied {
     pub value: u32,
     pub slice: u8,

@@ -1,5 +1,7 @@
 // Runs document 01's table P1 to P11 and document 02's rows S1 to S8, K1 to K8 and R1 to R5 and
 // prints what comes out; the gate compares. The same table is one proved claim, specs/Table.antt.
+#![tactic(auto)]
+
 ghost use Rattle.std.specs.Prelude.{◌≤◌};
 
 use answer::Answer;

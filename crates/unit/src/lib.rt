@@ -3,6 +3,8 @@
 //
 // Document 01, "Running", "In form" and the refusals 13 and 14; document 02 (ix), slices gone in
 // place of a clock. Every record is answered, whatever its fields hold.
+#![tactic(auto)]
+
 mod form;
 mod start;
 mod step;
@@ -11,7 +13,7 @@ ghost use Rattle.std.specs.Prelude.{◌≡◌};
 ghost use Rattle.unit.specs.Unit.{no_unit};
 
 // A kind's last unit. It takes six bytes.
-#[derive(Drop)]
+#[derive(Clone, Copy)]
 pub struct Unit {
     pub gone: u16,
     pub left: u16,

@@ -12,7 +12,7 @@ use plan::Plan;
 
 // The answer, and beside it how many k there are, the workload, and S(k,D) and its bad slice with
 // those of k at place k - 1. Places beyond the ceiling hold 0, and on a refusal everything does.
-#[derive(Drop)]
+#[derive(Clone, Copy)]
 pub struct Figures {
     pub answer: Answer,
     pub widths: u8,

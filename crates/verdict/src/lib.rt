@@ -1,5 +1,7 @@
 // The admission verdict: document 01, "Supply and verdict". Any record is answered: the record
 // order first, then 8 with the first kind that has no k.
+#![tactic(auto)]
+
 mod figures;
 
 ghost use Rattle.std.specs.Prelude.{◌≡◌, ◌+◌, ◌*◌, ◌≤◌, ◌<◌, eqb};
@@ -16,7 +18,7 @@ use supply::Fit;
 // The answer, and beside it document 01's k for each kind: the most cards that count at one
 // slice, hence a width; and the bad slice to arrive in for that k. Places beyond the kinds hold 0,
 // and on a refusal every place does.
-#[derive(Drop)]
+#[derive(Clone, Copy)]
 pub struct Verdict {
     pub answer: Answer,
     pub width: [u8; Plan::KINDS],

@@ -1,5 +1,7 @@
 // The workload of a plan's kind: document 01, "Supply and verdict". Any record and any kind number
 // is answered. A place that the record does not have holds zeros, and adds nothing.
+#![tactic(auto)]
+
 ghost use Rattle.std.specs.Prelude.{◌≡◌, ◌≤◌, ◌<◌, min};
 ghost use Rattle.plan.specs.Order.{kind_of};
 ghost use Rattle.workload.specs.Workload.{workload};

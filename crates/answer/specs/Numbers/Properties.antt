@@ -1,13 +1,13 @@
 -- Laws of numbered answers: each refusal that is made, refusals in an order, and the word that carries one.
 -- Assumes nothing.
 use Prim.Native.Nat.{ℕ, zero, suc, ◌<◌}
-use Rattle.std.specs.Prelude.{◌≡◌, refl, ◌≢◌, Bool, true, false, ◌&&◌, ◌||◌, List, [], ◌∷◌, eqb, ltb}
+use Rattle.std.specs.Prelude.{◌≡◌, refl, ◌≢◌, Bool, true, false, ◌||◌, List, [], ◌∷◌, eqb, ltb}
 use Rattle.std.proofs.Common.{sym, ap, ◌∙◌, true≢false, arith, eqb-true, ltb-true}
 use Rattle.laws.specs.Tests.{and_left, and_right}
 use Rattle.answer.specs.declared.Answer.{Answer}
 use Rattle.answer.specs.declared.Answer.TheVariants.{Good, No}
 use Rattle.answer.specs.declared.Refusal.{Refusal}
-use Rattle.answer.specs.Answer.{bare, at_project, at_kind, not_admitted, number, place, excess, refuse, ◌and_then◌, each_to}
+use Rattle.answer.specs.Answer.{bare, at_project, at_kind, not_admitted, number, refuse, ◌and_then◌, each_to}
 use Rattle.answer.specs.Word.{Holds}
 use Rattle.answer.specs.Numbers.{among, covers, small, placed, Numbered}
 

@@ -1,7 +1,7 @@
 -- A number and its bytes are inverse, over any count of bytes.
 -- Assumes nothing.
 use Rattle.std.specs.Prelude.{◌≡◌, refl, List, [], ◌∷◌, ◌++◌, ℕ, zero, suc, ◌+◌, ◌*◌, ◌-◌, ◌/◌, ◌%◌, ◌^◌, ◌≤◌, ◌<◌, min, length, get_or, take, drop, set}
-use Rattle.std.proofs.Common.{sym, ap, ap₂, ◌∙◌, add-suc, mul_assoc, pow-suc, div-one, div-lt_iff_lt-mul, lt_of_lt_of_le, add-one, arith, length-append, length-set, take-suc, get_or-take, get_or-drop, length-take-le, drop_at, drop-drop}
+use Rattle.std.proofs.Common.{sym, ap, ap₂, ◌∙◌, add-suc, mul_assoc, pow-suc, div-one, div-lt_iff_lt-mul, lt_of_lt_of_le, add-one, arith, length-append, take-suc, get_or-take, get_or-drop, length-take-le, drop_at, drop-drop}
 use Rattle.std.proofs.Math.Nat.{pow-succ', div-div-eq-div-mul, pow-le-pow_right}
 use Rattle.std.proofs.Math.Arith.{digits_lt, digits_div, digits_mod}
 use Rattle.std.proofs.Math.ListN.{get_or-append}

@@ -1,11 +1,11 @@
 -- Storing and finding the fields of a place are inverse.
 -- Assumes nothing.
-use Rattle.std.specs.Prelude.{◌≡◌, refl, List, ◌++◌, ℕ, zero, suc, ◌+◌, ◌*◌, ◌%◌, ◌^◌, ◌≤◌, ◌<◌, length, take}
+use Rattle.std.specs.Prelude.{◌≡◌, refl, List, ◌++◌, ℕ, zero, suc, ◌*◌, ◌%◌, ◌^◌, ◌≤◌, ◌<◌, length, take}
 use Rattle.std.proofs.Common.{sym, ap, ◌∙◌, pow-suc, mul-suc, mod-eq_of_lt, arith, pow-add}
 use Rattle.codec.specs.Pack.{bits, pack, unpack, Fitting}
 use Rattle.codec.specs.Pack.Properties.{pack_bound, unpack_pack, pack_unpack, unpack_fits}
 use Rattle.codec.specs.Bytes.{number_to, bytes_of, AreBytes}
-use Rattle.codec.specs.Bytes.Properties.{bytes_length, number_append, number_cong, number_bytes, number_bound, bytes_number}
+use Rattle.codec.specs.Bytes.Properties.{bytes_length, number_append, number_bytes, number_bound, bytes_number}
 use Rattle.codec.specs.Place.{size_of, Whole, placed, fields_of}
 
 pub placed_length : (ws vs : List ℕ) → length (placed ws vs) ≡ size_of ws

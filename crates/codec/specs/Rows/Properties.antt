@@ -1,11 +1,11 @@
 -- Laws of rows: their length, each place found again, the rows stored one after the other, and a row stored as it was found.
 -- Assumes nothing.
 use Rattle.std.specs.Prelude.{◌≡◌, refl, List, [], ◌∷◌, ◌++◌, ℕ, zero, suc, ◌+◌, ◌*◌, ◌≤◌, ◌<◌, length, get_or, take, drop}
-use Rattle.std.proofs.Common.{sym, ap, ap₂, ◌∙◌, append_assoc, append-nil, le_refl, mul-suc, mul-le-mul, arith, length-append, length-drop, take-append-drop, drop-drop, drop_at, length-take-le}
+use Rattle.std.proofs.Common.{sym, ap, ◌∙◌, append_assoc, append-nil, le_refl, mul-suc, mul-le-mul, arith, length-append, length-drop, take-append-drop, drop-drop, drop_at, length-take-le}
 use Rattle.codec.specs.Pack.{Fitting}
 use Rattle.codec.specs.Bytes.{AreBytes}
 use Rattle.codec.specs.Bytes.Properties.{bytes_behind}
-use Rattle.codec.specs.Place.{size_of, Whole, placed, fields_of}
+use Rattle.codec.specs.Place.{Whole, placed, fields_of}
 use Rattle.codec.specs.Place.Properties.{placed_length, fields_placed, placed_fields}
 use Rattle.codec.specs.Places.{parts_to, put_to}
 use Rattle.codec.specs.Places.Properties.{parts_length, parts_drop, parts_front, front_put}

@@ -1,6 +1,6 @@
 -- A run by the rules with a clock: the same calls, each on the state that the last gave back.
 -- Assumes nothing.
-use Rattle.std.specs.Prelude.{Bool, true, false, ◌||◌, List, [], ◌∷◌, ℕ, ◌+◌, eqb, length}
+use Rattle.std.specs.Prelude.{Bool, false, ◌||◌, List, [], ◌∷◌, ℕ, ◌+◌, eqb, length}
 use Rattle.plan.specs.declared.Plan.{Plan}
 use Rattle.answer.specs.Answer.{number}
 use Rattle.demands.specs.Run.{Call, show, advance, release}

@@ -13,7 +13,7 @@ use native.Mathlib.Omega.{arith}
 use Rattle.std.proofs.Math.Dec.{ltb, eqb}
 use lib.ListN.{length, drop, replicate, set, length-set}
 use Rattle.std.proofs.Math.Seq.{get_or-set_same, get_or-set_other}
-use borrow.Author.Tests.{lt-ltb, le-ltb, le-leb, eq-eqb, ne_eqb, eqb-true, eqb-false, not-true, not-false}
+use borrow.Author.Tests.{lt-ltb, le-ltb, le-leb, eq-eqb, ne_eqb, eqb-false, not-true}
 use Rattle.laws.specs.Tests.{and_both, and_right}
 use Rattle.laws.specs.Sum.{sum_to}
 use Rattle.laws.specs.Sum.Properties.{sum_cong}
@@ -42,9 +42,9 @@ use Rattle.rack.specs.State.{unit_of, kind_at, InUse, sum_at, Places}
 use Rattle.rack.specs.Sums as Sums
 use Rattle.rack.specs.Form as Form
 use Rattle.rack.specs.Form.{Ready}
-use Rattle.rack.specs.Form.Properties.{ready_of, form_of, unit_form}
-use Rattle.rack.specs.View.{Same, chosen, byte_on}
-use Rattle.rack.specs.View.Properties.{same_chosen, same_byte}
+use Rattle.rack.specs.Form.Properties.{ready_of, unit_form}
+use Rattle.rack.specs.View.{Same, chosen}
+use Rattle.rack.proofs.Laws.View.{same_chosen, same_byte}
 use Rattle.rack.specs.Rank as Rank
 use Rattle.rack.specs.Row as Row
 use Rattle.rack.specs.Release as Release
@@ -52,7 +52,7 @@ use Rattle.rack.specs.Release.{Releasable}
 use Rattle.rack.specs.Release.Properties.{release_unit, release_others}
 use Rattle.rack.specs.Show as Show
 use Rattle.rack.specs.Advance as Advance
-use Rattle.rack.specs.Advance.Properties.{unit_after_law, after_released, after_gone, after_left}
+use Rattle.rack.proofs.Laws.Advance.{unit_after_law, after_released, after_gone, after_left}
 use Rattle.unit.specs.Step.Properties.{gone_never, gone_more}
 use Rattle.demands.specs.AbsoluteClock.State as Old
 use Rattle.demands.specs.AbsoluteClock.Form as OldForm

@@ -1,10 +1,10 @@
 -- Two runs side by side, by the rules with a clock and without: until the clock ends at an advance their states are beside each other.
 -- Assumes nothing.
-use Rattle.std.specs.Prelude.{◌≡◌, ◌≢◌, Bool, true, false, ◌||◌, List, [], ◌∷◌, ℕ, ◌+◌, ◌≤◌, ◌<◌, eqb, length}
+use Rattle.std.specs.Prelude.{◌≡◌, ◌≢◌, Bool, true, false, ◌||◌, List, [], ◌∷◌, ℕ, ◌+◌, ◌≤◌, ◌<◌, length}
 use Rattle.std.proofs.Math.Path.{refl, sym}
 use Rattle.std.proofs.Common.{ap, ◌∙◌, true≢false, mod-eq_of_lt, arith}
 use Rattle.std.proofs.lemmas.List.{get_or-replicate, length-replicate}
-use borrow.Author.Tests.{eq-eqb, ne_eqb, eqb-false}
+use borrow.Author.Tests.{ne_eqb, eqb-false}
 use Rattle.plan.specs.declared.Plan.{Plan}
 use Rattle.answer.specs.declared.Answer.{Answer}
 use Rattle.answer.specs.declared.Answer.TheVariants.{Good, No}
@@ -12,13 +12,13 @@ use Rattle.answer.specs.Answer.{number}
 use Rattle.unit.specs.declared.Unit.{Unit}
 use Rattle.unit.specs.Unit.{no_unit}
 use Rattle.rack.specs.declared.State.{State}
-use Rattle.rack.specs.State.{fresh_of, InUse}
+use Rattle.rack.specs.State.{fresh_of}
 use Rattle.rack.specs.Form.Properties.{ready_of}
-use Rattle.rack.specs.Start.{start_answer, start_of}
+use Rattle.rack.specs.Start.{start_of}
 use Rattle.rack.specs.Start.Properties.{start_good}
-use Rattle.rack.specs.Release.{release_answer, released, release_of}
+use Rattle.rack.specs.Release.{release_answer, release_of}
 use Rattle.rack.specs.Release.Properties.{release_says}
-use Rattle.rack.specs.Advance.{advanced, advance_answer, advance_of}
+use Rattle.rack.specs.Advance.{advance_answer, advance_of}
 use Rattle.demands.specs.Run.{Call, show, advance, release, next_after, row_after, run_from}
 use Rattle.demands.specs.Safe.{Safe}
 use Rattle.demands.specs.Safe.Properties.{start_safe, advance_safe, release_safe}

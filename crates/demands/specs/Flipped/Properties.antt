@@ -1,15 +1,14 @@
 -- A state that is ready with one sum or one kind's slices left changed is not: it is out of form, or a sum differs.
 -- Assumes nothing.
-use Rattle.std.specs.Prelude.{◌≡◌, ◌≢◌, Bool, true, false, not, ◌&&◌, List, [], ◌∷◌, eqb, leb, length, set}
+use Rattle.std.specs.Prelude.{◌≡◌, ◌≢◌, Bool, true, false, not, ◌&&◌, eqb, leb}
 use Rattle.std.proofs.Math.Path.{refl, ap}
 use Rattle.std.proofs.Common.{sym, ap₂, ◌∙◌, true≢false, arith, get_or-set_same, get_or-set_other, le-ltb, le-leb, leb-true}
 use Rattle.std.proofs.Math.Bool.{cond}
-use Prim.Native.Nat.{ℕ, ◌+◌, ◌≤◌, ◌<◌}
+use Prim.Native.Nat.{ℕ, ◌≤◌, ◌<◌}
 use Rattle.std.proofs.Math.Decide.{dec_lt, ℕ_discrete}
 use Rattle.laws.specs.Tests.{and_left, and_right, and_both}
-use Rattle.laws.specs.Sum.{sum_to}
 use Rattle.answer.specs.declared.Answer.{Answer}
-use Rattle.answer.specs.declared.Answer.TheVariants.{Good, No}
+use Rattle.answer.specs.declared.Answer.TheVariants.{Good}
 use Rattle.answer.specs.Answer.{bare, refuse, ◌and_then◌}
 use Rattle.plan.specs.Order.{checked}
 use Rattle.plan.specs.Order.Properties.{in_order_good}
@@ -25,11 +24,11 @@ use Rattle.rack.specs.Sums.Properties.{sums_say, sum_changed, left_own}
 use Rattle.rack.specs.Form.{InForm, Ready, in_form, sums_told, ready}
 use Rattle.rack.specs.Form.Properties.{form_says, form_of, used_of, not_used, project_used_law, project_unused}
 use Rattle.rack.specs.Release.{release_answer, release_of}
-use Rattle.rack.specs.Show.{show_answer, buffer_shown, Shows}
-use Rattle.rack.specs.Show.Properties.{show_refused}
+use Rattle.rack.specs.Show.{show_answer}
+use Rattle.rack.proofs.Laws.Show.{show_refused}
 use Rattle.rack.specs.Advance.{advance_of}
 use Rattle.demands.specs.Run.{Call, show, advance, release, next_after}
-use Rattle.demands.specs.Flipped.{with_sum, left_as, with_left, sum_told_number, could_be_left, left_told_number, Told}
+use Rattle.demands.specs.Flipped.{with_sum, left_as, with_left, sum_told_number, left_told_number, Told}
 
 -- ---- what the state's own refusal settles
 

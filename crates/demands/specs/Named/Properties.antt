@@ -9,7 +9,7 @@ use Rattle.laws.specs.Sum.{sum_to}
 use Rattle.laws.specs.Sum.Properties.{sum_none, sum_split, sum_cong}
 use Rattle.plan.specs.declared.Plan.{Plan}
 use Rattle.layout.specs.Layout.{held}
-use Rattle.layout.specs.Layout.Properties.{held_ceiling}
+use Rattle.layout.proofs.Laws.Layout.{held_ceiling}
 use Rattle.rack.specs.Rank.{active_kinds, served}
 use Rattle.rack.specs.Row.{row_byte}
 use Rattle.demands.specs.Run.{Accepted}

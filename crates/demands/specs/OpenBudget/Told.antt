@@ -24,7 +24,7 @@ use Rattle.plan.specs.Order.{budgets_fit}
 use Rattle.plan.specs.Open.{with_budget, checked_open, InOrderOpen}
 use Rattle.plan.specs.Open.Properties.{open_order_law, open_order_good}
 use Rattle.supply.specs.Fit.{least_width}
-use Rattle.supply.specs.Fit.Properties.{width_most, width_fits, width_some, excess_within, excess_allows, excess_greatest}
+use Rattle.supply.proofs.Laws.Fit.{width_most, width_fits, width_some, excess_within, excess_allows, excess_greatest}
 use Rattle.workload.specs.Workload.{workload}
 use Rattle.verdict.specs.Verdict.{ceiling_on}
 use Rattle.verdict.specs.Admission.Properties.{each_no}

@@ -22,7 +22,7 @@ use Rattle.plan.specs.Open.{with_budget, project_there, in_range_open, projects_
 use Rattle.plan.specs.Open.Properties.{with_other, with_there}
 use Rattle.layout.specs.Cards.{held_from}
 use Rattle.layout.specs.Layout.{first_cell}
-use Rattle.layout.specs.Layout.Properties.{held_from_law}
+use Rattle.layout.proofs.Laws.Layout.{held_from_law}
 use Rattle.supply.specs.Supply.{supply}
 use Rattle.supply.specs.Fit.{least_width, least_excess, named_slice}
 use Rattle.workload.specs.Workload.{besides, part_of, workload}

@@ -10,12 +10,12 @@ use Rattle.layout.specs.Layout.{held}
 use Rattle.rack.specs.Form.{Ready}
 use Rattle.rack.specs.View.{cards_held}
 use Rattle.rack.specs.Rank.{view_of}
-use Rattle.rack.specs.Rank.Properties.{view_held}
+use Rattle.rack.proofs.Laws.Rank.{view_held}
 use Rattle.rack.specs.Row.{row_byte}
-use Rattle.rack.specs.Row.Properties.{row_size, row_shows}
+use Rattle.rack.proofs.Laws.Row.{row_size, row_shows}
 use Rattle.rack.specs.Release.{released, release_answer}
 use Rattle.rack.specs.Advance.{advanced, advance_answer}
-use Rattle.rack.specs.Advance.Properties.{advance_says}
+use Rattle.rack.proofs.Laws.Advance.{advance_says}
 use Rattle.demands.specs.Shown.Along.{along_shown}
 use Rattle.demands.specs.View.{cards_from}
 use Rattle.demands.specs.View.Properties.{cards_now, cards_later, cards_kept}

@@ -1,6 +1,6 @@
 -- A fresh start on an admitted plan is safe, every call keeps it so, and what that says of a kind.
 -- Assumes nothing.
-use Rattle.std.specs.Prelude.{◌≡◌, refl, List, ℕ, ◌≤◌, ◌<◌, length}
+use Rattle.std.specs.Prelude.{◌≡◌, refl, List, ℕ, ◌≤◌, ◌<◌}
 use Rattle.std.proofs.Common.{ap, arith, eq-eqb}
 use Rattle.std.proofs.lemmas.List.{get_or-replicate}
 use Rattle.plan.specs.declared.Plan.{Plan}
@@ -20,11 +20,11 @@ use Rattle.rack.specs.Start.Properties.{start_good, fresh_form, fresh_places}
 use Rattle.rack.specs.Release.{released, release_answer}
 use Rattle.rack.specs.Release.Properties.{release_says, release_form, release_places}
 use Rattle.rack.specs.Advance.{unit_after, advanced}
-use Rattle.rack.specs.Advance.Properties.{unit_after_law, advance_places, advance_form}
+use Rattle.rack.proofs.Laws.Advance.{unit_after_law, advance_places, advance_form}
 use Rattle.analysis.specs.Setup.{Own}
 use Rattle.analysis.specs.Moment.{Idle}
 use Rattle.analysis.specs.Reached.{idle, slice, release}
-use Rattle.analysis.specs.InTime.{in_time}
+use Rattle.analysis.proofs.InTime.{in_time}
 use Rattle.demands.specs.View.{setup_of, moment_of}
 use Rattle.demands.specs.View.Properties.{view_admitted, cards_supplied}
 use Rattle.demands.specs.View.Steps.{slice_step, release_step}

@@ -1,6 +1,6 @@
 -- Laws of what a run shows: a run is the events that it shows, one after the other, and they tell what is left of each unit.
 -- Assumes nothing.
-use Rattle.std.specs.Prelude.{◌≡◌, refl, List, [], length, get_or}
+use Rattle.std.specs.Prelude.{◌≡◌, List, length, get_or}
 use Rattle.std.proofs.Common.{sym, ap, ◌∙◌, true≢false, add-zero, add_assoc, mod-lt, mod-eq_of_lt, one-add, arith, eq-eqb, ne_eqb}
 use Rattle.std.proofs.Math.Bool.{true, false}
 use Prim.Native.Nat.{ℕ, zero, suc, ◌+◌, ◌-◌, ◌%◌, ◌<◌, min}

@@ -15,7 +15,7 @@ use Rattle.unit.specs.Start.{early}
 use Rattle.rack.specs.Release.{release_answer, released, release_of, Releasable}
 use Rattle.rack.specs.Release.Properties.{release_says, release_unit, release_others}
 use Rattle.rack.specs.Advance.{advanced, advance_answer, advance_of}
-use Rattle.rack.specs.Advance.Properties.{advance_says}
+use Rattle.rack.proofs.Laws.Advance.{advance_says}
 use Rattle.demands.specs.Run.{Call, show, advance, release, next_after, run_from}
 use Rattle.demands.specs.View.Steps.{sliced_released, sliced_gone, new_gone}
 use Rattle.demands.specs.Safe.{Safe}

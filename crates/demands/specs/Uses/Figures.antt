@@ -10,7 +10,7 @@ use Rattle.laws.specs.All.{all_to}
 use Rattle.laws.specs.Written.{written}
 use Rattle.laws.specs.Ranking.{rank_in, first_in, sooner}
 use Rattle.answer.specs.declared.Answer.TheVariants.{Good}
-use Rattle.answer.specs.Answer.{bare, number, place, excess, each_to}
+use Rattle.answer.specs.Answer.{number, place, excess, each_to}
 use Rattle.answer.specs.Numbers.{among, placed}
 use Rattle.plan.specs.declared.Plan.{Plan}
 use Rattle.plan.specs.Example.{kind, like_a, plan_a, plan_b, bytes_a}

@@ -1,7 +1,7 @@
 -- The statements on the rules without a clock, on plan A and the player's example.
 -- Assumes nothing.
-use Rattle.std.specs.Prelude.{◌≡◌, refl, ◌≢◌, true, false, List, [], ◌∷◌, ℕ, ◌≤◌, ◌<◌, length, replicate}
-use Rattle.std.proofs.Common.{sym, ap, ◌∙◌, arith}
+use Rattle.std.specs.Prelude.{◌≡◌, refl, true, false, List, [], ◌∷◌, ℕ, ◌<◌}
+use Rattle.std.proofs.Common.{ap, ◌∙◌, arith}
 use Rattle.laws.specs.Sum.{sum_to}
 use Rattle.laws.specs.Least.{least_to}
 use Rattle.laws.specs.First.{first_to}
@@ -29,7 +29,7 @@ use Rattle.rack.specs.View.{has_card, cards_held, rank_of, chosen, takes_card, b
 use Rattle.rack.specs.Start.{start_answer}
 use Rattle.rack.specs.Release.{release_of}
 use Rattle.rack.specs.Advance.{advance_of}
-use Rattle.demands.specs.Run.{Call, show, advance, release, next_after, row_after, after}
+use Rattle.demands.specs.Run.{show, release, next_after, row_after, after}
 use Rattle.demands.specs.AbsoluteClock.State as Old
 use Rattle.demands.specs.AbsoluteClock.Form as OldForm
 use Rattle.demands.specs.AbsoluteClock.Rank as OldRank
@@ -40,7 +40,7 @@ use Rattle.demands.specs.AbsoluteClock.Advance as OldAdvance
 use Rattle.demands.specs.AbsoluteClock.Run as OldRun
 use Rattle.demands.specs.NoClock.{as_before, beside_before, a_billion_slices, in_form_kept, left_is_early, accepted_clear}
 use Rattle.demands.specs.LateByHand.{both_ask, not_admitted, advance_accepted, next_says_ten}
-use Rattle.demands.specs.Uses.Figures.{running, releases, three_slices, four_slices}
+use Rattle.demands.specs.Uses.Figures.{running, releases, four_slices}
 
 -- ---- what is computed by the old rules
 

@@ -1,7 +1,7 @@
 -- Plans of one-kind projects in use: each statement applied to small lists at its tightest. Document 000's opening kinds on two cards have
 -- F = 3 and fill both; a list whose sum of C/T is exactly m is built; one that is within m and not of multiples gets 7.
 -- Assumes nothing.
-use Rattle.std.specs.Prelude.{◌≡◌, refl, ◌≢◌, false, List, [], ◌∷◌, ◌++◌, ℕ, zero, suc, ◌+◌, ◌*◌, ◌/◌, ◌≤◌, ◌<◌, length, take}
+use Rattle.std.specs.Prelude.{◌≡◌, refl, ◌≢◌, false, List, [], ◌∷◌, ◌++◌, ℕ, zero, suc, ◌*◌, ◌/◌, ◌≤◌, ◌<◌, length, take}
 use Rattle.std.proofs.Common.{ap, ◌∙◌, arith}
 use Rattle.std.specs.Int.{◌∣◌}
 use Rattle.std.proofs.Math.Nat.{dvd_antisymm, dvd_refl, dvd_of_mod-eq-zero}
@@ -50,7 +50,7 @@ use Rattle.rack.specs.Rank.{working, active, active_kinds, outranks, view_of, ra
 use Rattle.rack.specs.Row.{holds, byte_by, row_byte, row_of, row_over}
 use Rattle.rack.specs.Start.{start_answer, start_of}
 use Rattle.rack.specs.Release.{release_answer, released, release_of}
-use Rattle.rack.specs.Advance.{unit_after, served_for, sum_after, advanced, advance_answer, advance_of}
+use Rattle.rack.specs.Advance.{unit_after, served_for, sum_after, advanced, advance_of}
 use Rattle.demands.specs.Run.{Call, advance, after, run_from, accepted_in, slices_of}
 use Rattle.demands.specs.Named.{names_kind, bytes_naming}
 use Rattle.demands.specs.Outcomes.{building, building_refused}

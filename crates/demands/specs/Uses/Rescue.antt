@@ -2,19 +2,18 @@
 -- with damage: B of project 1 is judged with the new q and makes the sum too large, C of kind 2 is above the new D and not above the old,
 -- and kind 1, which is dropped, has its spare bit set.
 -- Assumes nothing.
-use Rattle.std.specs.Prelude.{◌≡◌, refl, ◌≢◌, true, false, cond, List, [], ◌∷◌, ◌++◌, ℕ, zero, suc, ◌+◌, ◌*◌, ◌≤◌, ◌<◌, length, get_or, take, drop, replicate}
+use Rattle.std.specs.Prelude.{◌≡◌, refl, ◌≢◌, true, false, cond, List, [], ◌∷◌, ◌++◌, ℕ, zero, suc, ◌*◌, ◌≤◌, ◌<◌, length, take, drop, replicate}
 use Rattle.std.proofs.Common.{sym, ap, ◌∙◌, true≢false, arith}
 use Rattle.laws.specs.All.{all_to}
 use Rattle.laws.specs.Sum.{sum_to}
 use Rattle.laws.specs.Count.{count_to}
 use Rattle.laws.specs.Written.{written}
-use Rattle.answer.specs.declared.Answer.{Answer}
 use Rattle.answer.specs.declared.Answer.TheVariants.{Good}
 use Rattle.answer.specs.Answer.{number, place, bare, each_to}
 use Rattle.answer.specs.Numbers.{among, placed}
 use Rattle.answer.specs.Outcome.{Lent}
 use Rattle.codec.specs.Pack.{pack, unpack}
-use Rattle.codec.specs.Bytes.{number_to, bytes_of, AreBytes}
+use Rattle.codec.specs.Bytes.{number_to, bytes_of}
 use Rattle.codec.specs.Places.{parts_to}
 use Rattle.plan.specs.declared.Plan.{Plan}
 use Rattle.plan.specs.Record.{no_plan, no_project, no_kind}
@@ -23,23 +22,23 @@ use Rattle.plan.specs.Order.{project_of, kind_of, within, sized, empty_project, 
 use Rattle.plan.specs.Order.{sizes, unused, projects_in_range, kind_in_range, kinds_in_range, budgets_fit, ranges, checked}
 use Rattle.plan_bytes.specs.declared.Reading.{Reading}
 use Rattle.plan.specs.Order.Properties.{in_order}
-use Rattle.plan_bytes.specs.Parts.{Shaped, header_fields, project_fields, kind_fields, project_from, kind_from, projects_from, kinds_from, headed}
+use Rattle.plan_bytes.specs.Parts.{header_fields, project_fields, kind_fields, project_from, kind_from, projects_from, kinds_from, headed}
 use Rattle.plan_bytes.specs.Parts.{decoded, size, header_bytes, project_bytes, kind_bytes, encoded}
 use Rattle.plan_bytes.specs.Reading.{header_spare, project_spare, kind_spare, projects_spare, kinds_spare, places_spare, spare_zero, body_answer}
 use Rattle.plan_bytes.specs.Reading.{read_answer, read_of, counts_answer}
-use Rattle.plan_bytes.specs.RoundTrip.Reads.{Passes, order_passes}
+use Rattle.plan_bytes.specs.RoundTrip.Reads.{order_passes}
 use Rattle.rescue.specs.declared.Rescued.{Rescued}
 use Rattle.rescue.specs.Entry.{Entry, entry, entry_bytes, listed, change, entries_to}
 use Rattle.rescue.specs.Mended.{raised, lowered, project_for, kind_for, kept, kept_at, kept_to, project_for_at, kind_for_at, plan_for}
 use Rattle.rescue.specs.Rescue.{project_spare_at, kind_spare_at, project_spare_change, spare_entries, kind_spare_change, project_entries}
-use Rattle.rescue.specs.Rescue.{project_changes, kind_entries, kind_changes, changes_in, changes, rescued_plan, rest_answer, rescue_answer}
+use Rattle.rescue.specs.Rescue.{project_changes, kind_entries, kind_changes, changes_in, changes, rescued_plan}
 use Rattle.rescue.specs.Rescue.{rescue_of, list_over, Rescues}
 use Rattle.rescue.specs.Applied.{entries_in, about, applied}
 use Rattle.rescue.specs.Turns.{turn_of, Rising, places_of, Says, Every}
 use Rattle.demands.specs.Uses.Bytes.{are_bytes}
 use Rattle.demands.specs.Outcomes.{rescuing, rescuing_refused}
 use Rattle.demands.specs.Numbers.{rescue_numbers}
-use Rattle.demands.specs.Rescue.{Standing, refused_as_reading, no_kind_when, list_short_when, rescued_when, plan_given, count_given}
+use Rattle.demands.specs.Rescue.{refused_as_reading, no_kind_when, list_short_when, rescued_when, plan_given, count_given}
 use Rattle.demands.specs.Rescue.{list_given, list_found, only_seven, rescued_again, kept_again, list_applied, plan_bytes_only}
 use Rattle.demands.specs.Rescue.{passing_unchanged, read_unchanged, in_turn, at_most_57, never_twice, each_says, header_spare_listed}
 use Rattle.demands.specs.Rescue.{project_spare_listed, ceiling_listed, budget_listed, kind_spare_listed, deadline_listed}

@@ -1,7 +1,7 @@
 -- The row of sums in use: each theorem on it applied to plan A and the player's example, where what it says is a number.
 -- Assumes nothing.
-use Rattle.std.specs.Prelude.{◌≡◌, refl, ◌≢◌, true, false, cond, List, [], ◌∷◌, ℕ, ◌+◌, ◌<◌, length, get_or, replicate}
-use Rattle.std.proofs.Common.{sym, ap, ◌∙◌, arith}
+use Rattle.std.specs.Prelude.{◌≡◌, refl, ◌≢◌, true, false, List, [], ◌∷◌, ℕ, ◌+◌}
+use Rattle.std.proofs.Common.{ap, ◌∙◌, arith}
 use Rattle.answer.specs.declared.Answer.{Answer}
 use Rattle.answer.specs.declared.Answer.TheVariants.{Good}
 use Rattle.answer.specs.Answer.{bare, number, each_to}
@@ -34,14 +34,14 @@ use Rattle.rack.specs.Rank.{working, active, outranks, view_of, rank, served}
 use Rattle.rack.specs.Row.{byte_by, row_byte, row_of, row_over}
 use Rattle.rack.specs.Start.{start_answer, start_of}
 use Rattle.rack.specs.Release.{release_answer, released, release_of}
-use Rattle.rack.specs.Advance.{unit_after, advanced, advance_answer, advance_of, served_for, sum_after}
+use Rattle.rack.specs.Advance.{unit_after, advanced, advance_of, served_for, sum_after}
 use Rattle.rack.specs.declared.State.{State}
 use Rattle.rack.specs.State.{unit_of, sum_at, Places}
 use Rattle.rack.specs.Sums.{left_row}
-use Rattle.rack.specs.Form.{InForm, Ready}
+use Rattle.rack.specs.Form.{Ready}
 use Rattle.rack.specs.Form.Properties.{ready_says}
 use Rattle.rack.specs.Show.{Shows}
-use Rattle.demands.specs.Run.{Call, show, advance, release, next_after, run_from, after, accepted_in, slices_of}
+use Rattle.demands.specs.Run.{release, next_after, run_from, after, accepted_in, slices_of}
 use Rattle.demands.specs.Named.{names_project, bytes_in}
 use Rattle.demands.specs.Flipped.{own_numbers, with_sum, with_left, could_be_left, Told}
 use Rattle.demands.specs.SumsTold.{ready_taken}

@@ -33,7 +33,7 @@ use Rattle.rack.specs.Rank.{working, active, outranks, view_of, rank, served}
 use Rattle.rack.specs.Row.{byte_by, row_byte, row_of, row_over}
 use Rattle.rack.specs.Start.{start_answer, start_of}
 use Rattle.rack.specs.Release.{release_answer, released, release_of}
-use Rattle.rack.specs.Advance.{unit_after, advanced, advance_answer, advance_of, served_for, sum_after}
+use Rattle.rack.specs.Advance.{unit_after, advanced, advance_of, served_for, sum_after}
 use Rattle.demands.specs.Run.{Call, run_from, after, Accepted, accepted_in, slices_of}
 use Rattle.demands.specs.Named.{names_kind, bytes_naming}
 use Rattle.demands.specs.Deadlines.{in_time, in_time_so_far}

@@ -1,6 +1,6 @@
 -- Laws of a project's view: an admitted plan admits each of its projects, and its cards give it its supply, and in a frame its budget.
 -- Assumes nothing.
-use Rattle.std.specs.Prelude.{◌≡◌, ℕ, ◌+◌, ◌-◌, ◌*◌, ◌%◌, ◌≤◌, ◌<◌, eqb, get_or}
+use Rattle.std.specs.Prelude.{◌≡◌, ℕ, ◌+◌, ◌*◌, ◌%◌, ◌≤◌, ◌<◌, eqb, get_or}
 use Rattle.std.proofs.Math.Path.{refl, ap}
 use Rattle.std.proofs.Common.{sym, ◌∙◌, add_assoc, add-zero, arith, eqb-true}
 use Rattle.std.proofs.Math.Nat.{mod-add-mod}
@@ -15,9 +15,9 @@ use Rattle.plan.specs.Order.{budget_of, kind_of, InOrder}
 use Rattle.layout.specs.Cards.{held_from}
 use Rattle.layout.specs.Cards.Properties.{run_period, run_frame}
 use Rattle.layout.specs.Layout.{first_cell, held}
-use Rattle.layout.specs.Layout.Properties.{held_from_law}
+use Rattle.layout.proofs.Laws.Layout.{held_from_law}
 use Rattle.supply.specs.Supply.{window, supply}
-use Rattle.supply.specs.Supply.Properties.{supply_everywhere}
+use Rattle.supply.proofs.Laws.Supply.{supply_everywhere}
 use Rattle.workload.specs.Workload
 use Rattle.workload.specs.Workload.{besides, part_of}
 use Rattle.verdict.specs.Verdict.{judged}
@@ -29,7 +29,7 @@ use Rattle.rack.specs.Release.{released}
 use Rattle.rack.specs.Advance.{advanced}
 use Rattle.analysis.specs.Setup.{Own, Timed, other}
 use Rattle.analysis.specs.Moment.{Supplied}
-use Rattle.analysis.specs.Moment.Properties.{window_same}
+use Rattle.analysis.proofs.Laws.Moment.{window_same}
 use Rattle.analysis.specs.EarliestFirst.{workload}
 use Rattle.analysis.specs.Admitted.{Admitted}
 use Rattle.demands.specs.View.{setup_of, cards_from, moment_of}

@@ -10,15 +10,15 @@ use Rattle.laws.specs.Count.Properties.{count_le_count}
 use Rattle.rack.specs.declared.State.{State}
 use Rattle.rack.specs.State.{unit_of, kind_at, kind_places, InUse}
 use Rattle.rack.specs.View.{cards_held, rank_of, chosen}
-use Rattle.rack.specs.View.Properties.{chosen_active, chosen_above}
+use Rattle.rack.proofs.Laws.View.{chosen_active, chosen_above}
 use Rattle.rack.specs.Rank.{outranks, view_of, rank, served}
-use Rattle.rack.specs.Rank.Properties.{working_left, working_of, active_of, active_project}
-use Rattle.rack.specs.Rank.Properties.{ranked, outranks_until, served_working, unserved_rank}
+use Rattle.rack.proofs.Laws.Rank.{working_left, working_of, active_of, active_project}
+use Rattle.rack.proofs.Laws.Rank.{ranked, outranks_until, served_working, unserved_rank}
 use Rattle.analysis.specs.Setup.{Own}
 use Rattle.analysis.specs.Setup.Properties.{other_of}
 use Rattle.analysis.specs.Step.{Serves}
 use Rattle.analysis.specs.EarliestFirst.{no_later}
-use Rattle.analysis.specs.EarliestFirst.Ahead.{later_of}
+use Rattle.analysis.proofs.Laws.Ahead.{later_of}
 use Rattle.demands.specs.View.{setup_of, cards_from, moment_of}
 use Rattle.demands.specs.View.Properties.{own_project, cards_now}
 

@@ -16,7 +16,7 @@ use Rattle.rack.specs.Rank.{until, served}
 use Rattle.rack.specs.Release.{released, Releasable}
 use Rattle.rack.specs.Release.Properties.{release_unit, release_others}
 use Rattle.rack.specs.Advance.{advanced}
-use Rattle.rack.specs.Advance.Properties.{unit_after_law, after_released, after_gone, after_left}
+use Rattle.rack.proofs.Laws.Advance.{unit_after_law, after_released, after_gone, after_left}
 use Rattle.analysis.specs.Step.{Slice, Release}
 use Rattle.analysis.specs.EarliestFirst.{no_later}
 use Rattle.demands.specs.View.{setup_of, wait_of, moment_of}

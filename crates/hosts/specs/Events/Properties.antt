@@ -1,28 +1,27 @@
 -- What a host sees of a chain is what the run shows.
 -- Assumes nothing.
-use Rattle.std.specs.Prelude.{◌≡◌, refl, Bool, true, false, cond, List, [], ◌∷◌, ◌++◌, ℕ, zero, suc, ◌+◌, eqb, length, get_or, take, drop}
+use Rattle.std.specs.Prelude.{◌≡◌, refl, Bool, true, false, cond, List, [], ◌∷◌, ℕ, zero, suc, ◌+◌, eqb, length, get_or, take, drop}
 use Rattle.std.proofs.Common.{sym, ap, ap₂, ◌∙◌, arith, ne_eqb}
 use Rattle.answer.specs.declared.Answer.{Answer}
 use Rattle.answer.specs.declared.Answer.TheVariants.{Good, No}
-use Rattle.answer.specs.Answer.{number, if_good}
+use Rattle.answer.specs.Answer.{number}
 use Rattle.answer.specs.Word.{told, number_in}
 use Rattle.answer.specs.Word.Properties.{told_decodes}
 use Rattle.answer.specs.Numbers.{Numbered, small}
 use Rattle.answer.specs.Numbers.Properties.{numbered_holds}
-use Rattle.plan.specs.declared.Plan.{Plan}
 use Rattle.rack.specs.declared.State.{State}
 use Rattle.rack.specs.Row.{row_of}
 use Rattle.rack.specs.Show.{buffer_shown}
-use Rattle.rack.specs.Show.Properties.{show_of, show_first}
+use Rattle.rack.proofs.Laws.Show.{show_of, show_first}
 use Rattle.rack.specs.Advance.{advanced, advance_answer, advance_of}
-use Rattle.rack.specs.Advance.Properties.{advance_says}
+use Rattle.rack.proofs.Laws.Advance.{advance_says}
 use Rattle.rack.specs.Release.{release_answer, released, release_of}
-use Rattle.demands.specs.Run.{Call, show, advance, release, next_after, Accepted, no_slice, accepted_in, slices_of}
+use Rattle.demands.specs.Run.{Call, show, advance, release, Accepted, no_slice, accepted_in, slices_of}
 use Rattle.demands.specs.Named.{bytes_in, bytes_naming}
 use Rattle.demands.specs.Since.{Since, ago, later, since_call, since_from}
 use Rattle.demands.specs.Shown.{Event, started, ran, shown_by, shown}
 use Rattle.demands.specs.Numbers.{release_order, show_order, advance_order, release_numbers, advance_numbers}
-use Rattle.hosts.specs.Chain.{Seen, lent, seen_of, all_seen}
+use Rattle.hosts.specs.Chain.{lent, all_seen}
 use Rattle.hosts.specs.Events.{accepted, events_seen, rows_in, bytes_over, since_seen}
 
 -- ---- the number in the word

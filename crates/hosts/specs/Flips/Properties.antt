@@ -1,12 +1,11 @@
 -- An image of which one byte of a sum or of slices left is changed says the state with that sum or those slices left changed, and
 -- nothing else.
 -- Assumes nothing.
-use Rattle.std.specs.Prelude.{◌≡◌, ◌≢◌, Bool, false, cond, not, ℕ, zero, suc, ◌+◌, ◌-◌, ◌*◌, ◌/◌, ◌%◌, ◌^◌, ◌≤◌, ◌<◌, ltb, length, replicate}
+use Rattle.std.specs.Prelude.{◌≡◌, ◌≢◌, Bool, false, cond, not, ℕ, ◌+◌, ◌-◌, ◌*◌, ◌/◌, ◌%◌, ◌≤◌, ◌<◌, length, replicate}
 use Rattle.std.proofs.Math.Path.{refl, sym, ap}
-use Rattle.std.proofs.Common.{ap₂, subst, ◌∙◌, true≢false, div-one, length-set, get_or-set_same, le-ltb, eqb-true}
+use Rattle.std.proofs.Common.{subst, ◌∙◌, true≢false, div-one, get_or-set_same, le-ltb, eqb-true}
 use Rattle.std.proofs.Math.Bool.{true}
-use mathlib.Core.List.{List, [], ◌∷◌}
-use Rattle.std.proofs.Math.Nat.{div-div-eq-div-mul}
+use mathlib.Core.List.{List}
 use Rattle.std.proofs.Math.Decide.{dec_lt, ℕ_discrete}
 use native.Mathlib.Omega.{arith}
 use Rattle.std.proofs.Math.Dec.{eqb, leb}
@@ -14,7 +13,6 @@ use Rattle.std.proofs.Math.ListN.{get_or, drop, set}
 use Rattle.std.proofs.Math.Seq.{get_or-drop, get_or-set_other}
 use Rattle.std.proofs.lemmas.Bool.{eqb-false, not-false}
 use Rattle.laws.specs.All.Properties.{all_at, all_of}
-use Rattle.laws.specs.Written.{written}
 use Rattle.laws.specs.Written.Properties.{written_cong, written_at}
 use Rattle.codec.specs.Pack.{unpack}
 use Rattle.codec.specs.Bytes.{number_to, AreBytes}
@@ -27,7 +25,6 @@ use Rattle.answer.specs.Answer.Properties.{and_then_left, and_then_right, refuse
 use Rattle.answer.specs.Word.{told, number_in}
 use Rattle.answer.specs.Numbers.{among, covers, Numbered}
 use Rattle.answer.specs.Numbers.Properties.{bare_numbered, refuse_numbered, and_then_numbered, wider}
-use Rattle.plan.specs.declared.Plan.{Plan}
 use Rattle.plan.specs.Record.{no_project, no_kind}
 use Rattle.plan.specs.Order.{checked}
 use Rattle.unit.specs.declared.Unit.{Unit}
@@ -35,21 +32,19 @@ use Rattle.unit.specs.Unit.{no_unit}
 use Rattle.rack.specs.declared.State.{State}
 use Rattle.rack.specs.State.{unit_of, sum_at}
 use Rattle.rack.specs.Sums.Properties.{written_changed}
-use Rattle.rack.specs.Form.{Ready, ready}
-use Rattle.rack.specs.Release.{release_answer, release_of}
-use Rattle.rack.specs.Show.{show_answer}
-use Rattle.rack.specs.Advance.{advance_answer, advance_of}
+use Rattle.rack.specs.Release.{release_of}
+use Rattle.rack.specs.Advance.{advance_of}
 use Rattle.images.specs.Image.{count_widths, project_widths, kind_widths, slice_widths, unit_widths, sum_widths, plan_size, state_size}
 use Rattle.images.specs.Image.{project_place, kind_place, slice_place, unit_place, sum_place, field, project_from, kind_from, slice_from, unit_from}
-use Rattle.images.specs.Image.{sum_from, units_from, sums_from, plan_from, state_from, released_at, released_told}
+use Rattle.images.specs.Image.{sum_from, units_from, plan_from, state_from, released_at, released_told}
 use Rattle.images.specs.Lent.{room}
 use Rattle.images.specs.Typed.Properties.{state_found_typed}
 use Rattle.images.specs.Outcome.{Outcome}
-use Rattle.rack_calls.specs.Exports.{state_answer, releases_answer, shows_answer, advances_answer, Releases, ShowsRow, Advances}
+use Rattle.rack_calls.specs.Exports.{state_answer, releases_answer, shows_answer, advances_answer}
 use Rattle.demands.specs.Run.{Call, show, advance, release, next_after}
 use Rattle.demands.specs.Numbers.{record_order, state_order, check_numbers}
 use Rattle.demands.specs.SumsTold.{disjoint, apart}
-use Rattle.demands.specs.Flipped.{own_numbers, with_sum, left_as, with_left, sum_told_number, left_told_number, Told}
+use Rattle.demands.specs.Flipped.{own_numbers, with_sum, left_as, with_left, Told}
 use Rattle.hosts.specs.Words.{release_decodes, show_decodes, advance_decodes}
 use Rattle.hosts.specs.Chain.{Seen, Called}
 use Rattle.hosts.specs.Flips.{sum_byte, left_byte, flip_bit, ToldAt}

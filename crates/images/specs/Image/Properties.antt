@@ -1,7 +1,7 @@
 -- Laws of the images: what the code finds in a place, what it stores there, and the whole images stored row by row.
 -- Assumes nothing.
-use Rattle.std.specs.Prelude.{◌≡◌, refl, Bool, true, false, cond, List, [], ◌∷◌, ◌++◌, ℕ, ◌+◌, ◌*◌, ◌/◌, ◌%◌, ◌≤◌, ◌<◌, eqb, length, get_or, set, drop, replicate}
-use Rattle.std.proofs.Common.{sym, ap, ap₂, ◌∙◌, div-one, arith, le-leb, drop_at, set-set, get_or-set_same}
+use Rattle.std.specs.Prelude.{◌≡◌, refl, true, false, cond, List, [], ◌∷◌, ◌++◌, ℕ, ◌+◌, ◌*◌, ◌/◌, ◌%◌, ◌≤◌, ◌<◌, eqb, length, get_or, set, drop, replicate}
+use Rattle.std.proofs.Common.{sym, ap, ◌∙◌, div-one, arith, le-leb, drop_at, set-set, get_or-set_same}
 use Rattle.std.proofs.lemmas.Bool.{lt-leb}
 use Rattle.laws.specs.All.{all_to}
 use Rattle.laws.specs.All.Properties.{all_more, all_stop, all_fails}
@@ -20,7 +20,6 @@ use Rattle.plan.specs.declared.Plan.{Plan}
 use Rattle.plan.specs.Record.{no_kind}
 use Rattle.unit.specs.declared.Unit.{Unit}
 use Rattle.rack.specs.declared.State.{State}
-use Rattle.rack.specs.State.{unit_of, sum_at}
 use Rattle.images.specs.Image.{count_widths, project_widths, kind_widths, slice_widths, unit_widths, sum_widths, plan_rows, state_rows}
 use Rattle.images.specs.Image.{plan_size, state_size, project_place, kind_place, slice_place, unit_place, sum_place, released_at}
 use Rattle.images.specs.Image.{released_told, field}

@@ -3,7 +3,7 @@
 -- Assumes nothing.
 use Rattle.std.specs.Prelude.{◌≡◌, Bool, true, false, cond, List, [], ◌∷◌, ℕ, ◌+◌, ◌*◌, ◌≤◌, ◌<◌, drop, replicate}
 use Rattle.std.proofs.Math.Path.{refl}
-use Rattle.std.proofs.Common.{sym, ◌∙◌, mul-le-mul, arith}
+use Rattle.std.proofs.Common.{sym, mul-le-mul, arith}
 use Rattle.std.proofs.Math.Nat.{mod-lt}
 use Rattle.std.proofs.Math.Decide.{dec_lt, ℕ_discrete}
 use Rattle.std.proofs.lemmas.List.{get_or-replicate}
@@ -16,7 +16,7 @@ use Rattle.answer.specs.declared.Answer.TheVariants.{Good, No}
 use Rattle.answer.specs.declared.Refusal.{Refusal}
 use Rattle.plan.specs.declared.Plan.{Plan}
 use Rattle.plan.specs.Record.{no_project, no_kind, no_plan}
-use Rattle.plan.specs.Order.{project_of, kind_of, empty_project, empty_kind, InOrder}
+use Rattle.plan.specs.Order.{project_of, kind_of, empty_project, empty_kind}
 use Rattle.plan.specs.Order.Properties.{in_order}
 use Rattle.plan_bytes.specs.Parts.{Shaped}
 use Rattle.plan_bytes.specs.Reading.{read_of}
@@ -32,7 +32,7 @@ use Rattle.rack.specs.Release.{release_answer, released, Releasable}
 use Rattle.rack.specs.Release.Properties.{release_says, release_unit, release_others, release_places, release_room, release_sum}
 use Rattle.rack.specs.Release.Properties.{release_sum_others}
 use Rattle.rack.specs.Advance.{unit_after, advanced, advance_answer}
-use Rattle.rack.specs.Advance.Properties.{advance_says, advance_places, sum_falls, after_released, after_gone, after_left}
+use Rattle.rack.proofs.Laws.Advance.{advance_says, advance_places, sum_falls, after_released, after_gone, after_left}
 use Rattle.images.specs.Image.{count_widths, project_widths, kind_widths, slice_widths, unit_widths, sum_widths, project_place, kind_place}
 use Rattle.images.specs.Image.{slice_place, unit_place, sum_place, sum_from}
 use Rattle.images.specs.Image.{project_from, kind_from, slice_from, unit_from, plan_from, state_from, project_fields, kind_fields, unit_fields}

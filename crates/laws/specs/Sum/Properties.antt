@@ -1,7 +1,7 @@
 -- Laws of `sum_to`.
 -- Assumes nothing.
 use Rattle.std.specs.Prelude.{◌≡◌, refl, ℕ, zero, suc, ◌+◌, ◌*◌, ◌≤◌, ◌<◌}
-use Rattle.std.proofs.Common.{ap, ap₂, ◌∙◌, add-zero, add-suc, suc-mul, add-one, arith}
+use Rattle.std.proofs.Common.{ap₂, add-zero, add-suc, suc-mul, add-one, arith}
 use Rattle.laws.specs.Loops.{stop}
 use Rattle.laws.specs.Sum.{sum_to}
 

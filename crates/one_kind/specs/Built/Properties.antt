@@ -13,7 +13,7 @@ use Rattle.laws.specs.All.Properties.{all_of}
 use Rattle.laws.specs.Written.Properties.{written_at, written_kept}
 use Rattle.answer.specs.declared.Answer.{Answer}
 use Rattle.answer.specs.declared.Answer.TheVariants.{Good}
-use Rattle.answer.specs.Answer.{bare, at_kind, refuse, ◌and_then◌, each_to}
+use Rattle.answer.specs.Answer.{bare, at_kind, refuse, each_to}
 use Rattle.answer.specs.Answer.Properties.{and_then_left, and_then_right, refuse_good, refused, passed, each_more, each_opened, each_at}
 use Rattle.answer.specs.Answer.Properties.{each_of}
 use Rattle.plan.specs.declared.Project.{Project}

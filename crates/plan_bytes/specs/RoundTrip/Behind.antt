@@ -1,10 +1,10 @@
 -- Reading looks at no byte behind the header's total, whatever it answers.
 -- Assumes nothing.
-use Rattle.std.specs.Prelude.{◌≡◌, refl, Bool, not, ltb, eqb, drop, replicate}
+use Rattle.std.specs.Prelude.{◌≡◌, refl, Bool, eqb, drop, replicate}
 use Rattle.std.proofs.Common.{sym, ◌∙◌, arith, get_or-drop}
 use Rattle.std.proofs.Math.Path.{ap, ap₂}
 use Rattle.std.proofs.Math.Bool.{◌&&◌}
-use mathlib.Core.List.{List, ◌++◌}
+use mathlib.Core.List.{List}
 use Prim.Native.Nat.{ℕ, zero, suc, ◌+◌, ◌*◌, ◌≤◌, ◌<◌}
 use Rattle.std.proofs.Math.ListN.{length, get_or}
 use borrow.Author.Tests.{le-ltb}
@@ -13,19 +13,15 @@ use Rattle.laws.specs.Written.Properties.{written_cong}
 use Rattle.codec.specs.Pack.{unpack}
 use Rattle.codec.specs.Bytes.{number_to}
 use Rattle.codec.specs.Bytes.Properties.{number_cong}
-use Rattle.answer.specs.declared.Answer.{Answer}
-use Rattle.answer.specs.Answer.{bare, refuse, ◌and_then◌}
 use Rattle.plan.specs.declared.Project.{Project}
 use Rattle.plan.specs.declared.Kind.{Kind}
 use Rattle.plan.specs.declared.Plan.{Plan}
 use Rattle.plan.specs.Record.{no_project, no_kind}
-use Rattle.plan.specs.Order.{sizes, ranges}
-use Rattle.plan_bytes.specs.declared.Reading.{Reading}
 use Rattle.plan_bytes.specs.Parts.{header_widths, project_widths, kind_widths, header_fields, project_fields, kind_fields}
 use Rattle.plan_bytes.specs.Parts.{project_from, kind_from, project_at, kind_at, projects_from, kinds_from, headed, after_header}
 use Rattle.plan_bytes.specs.Parts.{after_projects, decoded, size}
 use Rattle.plan_bytes.specs.Reading.{header_spare, project_spare, kind_spare, projects_spare, kinds_spare, places_spare, spare_zero}
-use Rattle.plan_bytes.specs.Reading.{body_answer, read_answer, reading, read_of}
+use Rattle.plan_bytes.specs.Reading.{body_answer, read_answer, read_of}
 
 all_cong : (n : ℕ) (f g : ℕ → Bool) → ((i : ℕ) → i < n → f i ≡ g i) → all_to n f ≡ all_to n g
 unfolding all_to

@@ -3,6 +3,7 @@
 -- Assumes nothing.
 use Rattle.std.specs.Prelude.{◌≡◌, refl, Bool, true, false, List, [], ◌++◌, ℕ, ◌+◌, ◌-◌, ◌≤◌, length, take, drop}
 use Rattle.std.proofs.Common.{sym, ap, subst, ◌∙◌, true≢false, append_assoc, append-nil, arith, length-drop, take-append-drop, drop_of_length-le, take-take, take-add, drop_at, drop-drop, length-take-le}
+use Rattle.lines.specs.Line.{line_room}
 use Rattle.player.specs.declared.session.Session.{Session}
 use Rattle.player.specs.declared.session.Stage.{Stage}
 use Rattle.player.specs.declared.session.Stage.TheVariants as stage
@@ -103,16 +104,22 @@ module _ (arrived printed : List ℕ) (desk : Desk) (input output : List ℕ) (f
       (subst (λ (v : List ℕ). Reached ((arrived ++ u) ++ coming) printed desk.session v coming)
       (sym (holds_came desk.session h after n e)) more)
 
+round_stands_by : (arrived printed : List ℕ) (desk : Desk) (input output : List ℕ) → Fits desk input → Standing arrived printed desk input
+    → (r : Desk) (after shown : List ℕ) → Round desk input output r after shown
+    → Standing (arrived ++ came desk input r after) (printed ++ (lines_now desk input (length output)).text) r after
+round_stands_by arrived printed desk input output f s r after shown (tells written t) =
+    told_stands arrived printed desk input output f s written
+round_stands_by arrived printed desk input output f s r after shown (ends t o) =
+    still arrived printed desk input output f s (ended_of desk) input refl refl refl t
+round_stands_by arrived printed desk input output f s _ _ shown (hears r after t o l h) =
+    rw h.result (heard_stands arrived printed desk input output f s h.arrival after t l h.kept)
+
 pub round_stands : (arrived printed : List ℕ) {input output after shown : List ℕ} {desk r : Desk} → Fits desk input
     → Standing arrived printed desk input
     → Round desk input output r after shown → Standing (arrived ++ came desk input r after)
     (printed ++ (lines_now desk input (length output)).text) r after
-round_stands arrived printed {input = input} {output = output} {desk = desk} f s (tells written t) =
-    told_stands arrived printed desk input output f s written
-round_stands arrived printed {input = input} {output = output} {desk = desk} f s (ends t o) =
-    still arrived printed desk input output f s (ended_of desk) input refl refl refl t
-round_stands arrived printed {input = input} {output = output} {desk = desk} f s (hears r after t o l h) =
-    rw h.result (heard_stands arrived printed desk input output f s h.arrival after t l h.kept)
+round_stands arrived printed {input = input} {output = output} {after = after} {shown = shown} {desk = desk} {r = r} f s t =
+    round_stands_by arrived printed desk input output f s r after shown t
 
 -- ---- any number of rounds
 
@@ -142,14 +149,18 @@ heard_on : (x : Session) (held : ℕ) (a : Arrival) → (heard_of x held a).cour
 heard_on x held (Came n) e = let z : ◌≡◌ {A = ℕ} 0 1 = cc in omega arith
 heard_on x held Failed e = let z : ◌≡◌ {A = ℕ} 0 1 = cc in omega arith
 
+round_over : (desk : Desk) (input output : List ℕ) (r : Desk) (after shown : List ℕ) → Round desk input output r after shown
+    → r.course ≡ Over → r.session.stage ≡ stage.Over
+round_over desk input output r after shown (tells written t) e = absurd (written_on written e)
+round_over desk input output r after shown (ends t o) e = over_stage desk.session.stage o
+round_over desk input output _ _ shown (hears r after t o k h) e =
+    absurd (heard_on desk.session (length (holds desk input)) h.arrival (ap (λ (d : Desk). d.course) (sym h.result) ∙ e))
+
 -- its last line is printed
 ran_over : {n : ℕ} {arrived printed input : List ℕ} {desk : Desk} → Ran n arrived printed desk input → desk.course ≡ Over
     → desk.session.stage ≡ stage.Over
 ran_over (starts input) e = absurd (let z : ◌≡◌ {A = ℕ} 0 1 = cc in omega arith)
-ran_over (goes output after shown r p c l (tells written t)) e = absurd (written_on written e)
-ran_over (goes {desk = desk} output after shown r p c l (ends t o)) e = over_stage desk.session.stage o
-ran_over (goes {input = input} {desk = desk} output after shown r p c l (hears d u t o k h)) e =
-    absurd (heard_on desk.session (length (holds desk input)) h.arrival (ap (λ (d : Desk). d.course) (sym h.result) ∙ e))
+ran_over (goes {input = input} {desk = desk} output after shown r p c l s) e = round_over desk input output r after shown s e
 
 -- ---- a read that failed
 
@@ -159,19 +170,24 @@ heard_unread : (x : Session) (held after : List ℕ) (a : Arrival) (room : ℕ) 
 heard_unread x held after (Came n) room e k t = absurd (let z : ◌≡◌ {A = ℕ} 0 1 = cc in omega arith)
 heard_unread x held after Failed room e k t = rw (holds_failed x held after k) (idle_none x false held room t)
 
--- every line that could be printed of what came was handed to the output before
-ran_unread : {n : ℕ} {arrived printed input : List ℕ} {desk : Desk} → Ran n arrived printed desk input → desk.course ≡ Unread → (room : ℕ)
-    → (lines_now desk input room).text ≡ []
-ran_unread (starts input) e room = absurd (let z : ◌≡◌ {A = ℕ} 0 1 = cc in omega arith)
-ran_unread (goes output after shown r p c l (tells written t)) e room = absurd (written_read written e)
-ran_unread (goes output after shown r p c l (ends t o)) e room = absurd (let z : ◌≡◌ {A = ℕ} 0 1 = cc in omega arith)
-ran_unread (goes {input = input} {desk = desk} output after shown r p c l (hears d u t o k h)) e room =
+round_unread : (desk : Desk) (input output : List ℕ) → line_room ≤ length output → (r : Desk) (after shown : List ℕ)
+    → Round desk input output r after shown → r.course ≡ Unread → (room : ℕ) → (lines_now r after room).text ≡ []
+round_unread desk input output l r after shown (tells written t) e room = absurd (written_read written e)
+round_unread desk input output l r after shown (ends t o) e room = absurd (let z : ◌≡◌ {A = ℕ} 0 1 = cc in omega arith)
+round_unread desk input output l _ _ shown (hears r after t o k h) e room =
     let x = desk.session in
     let held = holds desk input in
     let q : (play_of x false held (length output)).text ≡ [] = rw k at t in
     rw h.result
     (heard_unread x held after h.arrival room (ap (λ (d : Desk). d.course) (sym h.result) ∙ e) h.kept
     (play_idle x false held (length output) l (ap length q)))
+
+-- every line that could be printed of what came was handed to the output before
+ran_unread : {n : ℕ} {arrived printed input : List ℕ} {desk : Desk} → Ran n arrived printed desk input → desk.course ≡ Unread → (room : ℕ)
+    → (lines_now desk input room).text ≡ []
+ran_unread (starts input) e room = absurd (let z : ◌≡◌ {A = ℕ} 0 1 = cc in omega arith)
+ran_unread (goes {input = input} {desk = desk} output after shown r p c l s) e room =
+    round_unread desk input output l r after shown s e room
 
 -- ---- at the end
 

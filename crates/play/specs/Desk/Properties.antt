@@ -173,15 +173,20 @@ heard_fits : (x : Session) (held : ℕ) (a : Arrival) (after : List ℕ) → hel
 heard_fits x held (Came n) after m = record { order = omega arith; within = m }
 heard_fits x held Failed after m = record { order = omega arith; within = omega arith }
 
-round_fits : {desk r : Desk} {input output after shown : List ℕ} → Fits desk input → Round desk input output r after shown → Fits r after
-round_fits {desk = desk} {input = input} {output = output} f (tells written t) =
+round_fits_by : (desk : Desk) (input output : List ℕ) → Fits desk input → (r : Desk) (after shown : List ℕ)
+    → Round desk input output r after shown → Fits r after
+round_fits_by desk input output f r after shown (tells written t) =
     record {
       order = omega (arith, play_most desk.session desk.last (holds desk input) (length output), holds_length desk input f, f.order);
       within = f.within;
     }
-round_fits f (ends t o) = record { order = f.order; within = f.within }
-round_fits {desk = desk} {input = input} f (hears r after t o l h) =
+round_fits_by desk input output f r after shown (ends t o) = record { order = f.order; within = f.within }
+round_fits_by desk input output f _ _ shown (hears r after t o l h) =
     rw h.result (heard_fits desk.session (length (holds desk input)) h.arrival after h.most)
+
+round_fits : {desk r : Desk} {input output after shown : List ℕ} → Fits desk input → Round desk input output r after shown → Fits r after
+round_fits {desk = desk} {r = r} {input = input} {output = output} {after = after} {shown = shown} f s =
+    round_fits_by desk input output f r after shown s
 
 -- ---- the loop
 

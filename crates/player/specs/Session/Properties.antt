@@ -12,7 +12,6 @@ use Rattle.std.proofs.lemmas.List.Edits.{sets-eq}
 use Rattle.std.proofs.Math.Seq.{length-sets}
 use borrow.Author.Tests.{lt-ltb, le-ltb, eq-eqb, ne_eqb, eqb-true, not-true}
 use Rattle.laws.specs.Tests.{and_left, and_right}
-use Rattle.plan.specs.declared.Plan.{Plan}
 use Rattle.answer.specs.declared.Answer.{Answer}
 use Rattle.answer.specs.declared.Answer.TheVariants.{Good, No}
 use Rattle.answer.specs.declared.Refusal.{Refusal}

@@ -26,7 +26,7 @@ use Rattle.player.specs.Turn.{line_of, after}
 use Rattle.player.specs.Played.{onward, turns, opening, played}
 use Rattle.player.specs.Played.Properties.{turns_end, turns_command}
 use Rattle.player.specs.Played.Front.{read_more}
-use Rattle.player.specs.Session.{over, at_stage, remaining, Move, stay, first_line, open_of, command_move, last_line, run_of, step_of, onto}
+use Rattle.player.specs.Session.{at_stage, remaining, Move, stay, first_line, open_of, command_move, last_line, run_of, step_of, onto}
 use Rattle.player.specs.Session.{lines_of, play_of}
 use Rattle.player.specs.Session.Properties.{at_opening, at_running, at_over, read_whole, play_idle, idle_over}
 use Rattle.player.specs.Stream.{Reached, starts, reads, plays}

@@ -4,7 +4,7 @@ use Rattle.std.specs.Prelude.{◌≡◌, replicate}
 use Rattle.std.proofs.Math.Path.{refl, ap}
 use Rattle.std.proofs.Common.{sym, ap₂, ◌∙◌, arith}
 use mathlib.Core.List.{List, ◌++◌}
-use Prim.Native.Nat.{ℕ, zero, suc, ◌+◌, ◌≤◌, ◌<◌, min}
+use Prim.Native.Nat.{ℕ, zero, suc, ◌≤◌, ◌<◌, min}
 use Rattle.std.proofs.Math.ListN.{get_or}
 use Rattle.answer.specs.declared.Answer.{Answer}
 use Rattle.answer.specs.declared.Answer.TheVariants.{Good, No}
@@ -13,9 +13,9 @@ use Rattle.rack.specs.declared.State.{State}
 use Rattle.rack.specs.declared.Next.{Next}
 use Rattle.rack.specs.Release.{release_of}
 use Rattle.rack.specs.Show.{show_answer, buffer_shown, Shows}
-use Rattle.rack.specs.Show.Properties.{show_room}
+use Rattle.rack.proofs.Laws.Show.{show_room}
 use Rattle.rack.specs.Row.{row_byte, row_over}
-use Rattle.rack.specs.Row.Properties.{over_at}
+use Rattle.rack.proofs.Laws.Row.{over_at}
 use Rattle.lines.specs.declared.line.Line.TheVariants as line
 use Rattle.lines.specs.Ascii.{ascii}
 use Rattle.lines.specs.Text.{decimal}

@@ -1,16 +1,15 @@
 -- Laws of the form: what a good answer says of each place, and that nothing less is asked.
 -- Assumes nothing.
-use Rattle.std.specs.Prelude.{◌≡◌, refl, ◌≢◌, Bool, false, not, ◌&&◌, ltb, replicate}
+use Rattle.std.specs.Prelude.{◌≡◌, refl, Bool, false, not, ◌&&◌, ltb, replicate}
 use Rattle.std.proofs.Common.{sym, ◌∙◌, arith}
 use Rattle.std.proofs.Math.Path.{ap}
 use Rattle.std.proofs.Math.Bool.{true}
-use Rattle.std.proofs.lemmas.Bool.{false≢true}
 use mathlib.Core.List.{List}
-use Prim.Native.Nat.{ℕ, zero, suc, ◌+◌, ◌-◌, ◌*◌, ◌≤◌, ◌<◌}
+use Prim.Native.Nat.{ℕ, zero, suc, ◌+◌, ◌-◌, ◌≤◌, ◌<◌}
 use Rattle.std.proofs.Math.Decide.{dec_lt}
 use Rattle.std.proofs.Math.Dec.{eqb}
 use Rattle.std.proofs.Math.ListN.{get_or}
-use borrow.Author.Tests.{lt-ltb, le-ltb, ltb-true, eq-eqb, ne_eqb, eqb-true, not-false}
+use borrow.Author.Tests.{lt-ltb, le-ltb, ltb-true, eq-eqb, eqb-true, not-false}
 use Rattle.laws.specs.Tests.{and_left, and_right, and_both, told_yes, told_no, second_no}
 use Rattle.laws.specs.Sum.{sum_to}
 use Rattle.laws.specs.Sum.Properties.{sum_more}

@@ -1,9 +1,9 @@
 -- Laws of the sums: what the test says, how large a sum is, the steps of the pass that adds up, and what a change of one kind does.
 -- Assumes nothing.
-use Rattle.std.specs.Prelude.{◌≡◌, refl, ◌≢◌, Bool, true, false, cond, List, ℕ, zero, suc, ◌+◌, ◌-◌, ◌*◌, ◌≤◌, ◌<◌, eqb, length, get_or, set, replicate}
+use Rattle.std.specs.Prelude.{◌≡◌, refl, ◌≢◌, true, List, ℕ, zero, suc, ◌+◌, ◌*◌, ◌≤◌, ◌<◌, length, get_or, set, replicate}
 use Rattle.std.proofs.Common.{sym, ap, ap₂, ◌∙◌, arith, set-set, get_or-set_same, get_or-set_other, eq-eqb, ne_eqb, eqb-true}
 use Rattle.std.proofs.Math.Decide.{dec_lt, ℕ_discrete}
-use Rattle.std.proofs.lemmas.List.{length-replicate, set-get_or, set_comm}
+use Rattle.std.proofs.lemmas.List.{set-get_or, set_comm}
 use Rattle.laws.specs.Sum.{sum_to}
 use Rattle.laws.specs.Sum.Properties.{sum_more, sum_cong, sum_bound, sum_split, sum_zero}
 use Rattle.laws.specs.All.Properties.{all_at, all_of}
@@ -11,7 +11,7 @@ use Rattle.laws.specs.Written.{written}
 use Rattle.laws.specs.Written.Properties.{written_cong, written_length, stored_at}
 use Rattle.rack.specs.declared.State.{State}
 use Rattle.rack.specs.State.{unit_of, kind_at, kind_places, project_places, sum_at}
-use Rattle.rack.specs.Sums.{left_for, project_left, sum_right, sums_right, SumsRight, left_below, left_row}
+use Rattle.rack.specs.Sums.{left_for, project_left, sum_right, sums_right, SumsRight, left_below}
 
 -- ---- lists written from the front, and sums, that differ at one place
 

@@ -1,6 +1,6 @@
 -- Laws of applying: the list's bytes are its entries, and of a run of changes only those of a place are about it.
 -- Assumes nothing.
-use Rattle.std.specs.Prelude.{◌≡◌, Bool, not, ◌&&◌, eqb}
+use Rattle.std.specs.Prelude.{◌≡◌, Bool, ◌&&◌, eqb}
 use Rattle.std.proofs.Math.Path.{refl, ap, ap₂}
 use Rattle.std.proofs.Common.{sym, ◌∙◌, eq-eqb, ne_eqb}
 use Rattle.std.proofs.Math.Bool.{true, false, cond}
@@ -11,7 +11,7 @@ use native.Mathlib.Omega.{arith}
 use Rattle.codec.specs.Places.{parts_to}
 use Rattle.rescue.specs.Entry.{Entry, entry, entry_bytes, listed, change, entries_to}
 use Rattle.rescue.specs.Entry.Properties.{change_none, change_some}
-use Rattle.rescue.specs.Applied.{entries_in, names, about, after, some}
+use Rattle.rescue.specs.Applied.{entries_in, names, about, after}
 
 -- the list is found again in its bytes
 pub entries_listed : (es : List Entry) → entries_in (listed es) ≡ es

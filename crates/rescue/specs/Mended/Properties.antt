@@ -1,6 +1,6 @@
 -- Laws of the plan that is made.
 -- Assumes nothing.
-use Rattle.std.specs.Prelude.{◌≡◌, refl, Bool, true, false, not, ◌&&◌, List, ℕ, zero, suc, ◌+◌, ◌*◌, ◌≤◌, ◌<◌, ltb, eqb, set, replicate}
+use Rattle.std.specs.Prelude.{◌≡◌, refl, true, false, not, ◌&&◌, List, ℕ, ◌+◌, ◌*◌, ◌≤◌, ◌<◌, ltb, eqb, set, replicate}
 use Rattle.std.proofs.Math.Path.{sym, ap}
 use Rattle.std.proofs.Common.{◌∙◌, add-one, arith}
 use Rattle.std.proofs.Math.Dec.{leb}
@@ -9,9 +9,8 @@ use Rattle.laws.specs.Tests.{second_no}
 use Rattle.plan.specs.declared.Project.{Project}
 use Rattle.plan.specs.declared.Kind.{Kind}
 use Rattle.plan.specs.declared.Plan.{Plan}
-use Rattle.plan.specs.Record.{no_project, no_kind}
-use Rattle.plan.specs.Order.{project_of, kind_of}
-use Rattle.rescue.specs.Mended.{raised, lowered, project_for, kind_for, kept, project_for_at, kind_for_at, kept_at, kinds_kept, kept_to}
+use Rattle.plan.specs.Record.{no_kind}
+use Rattle.rescue.specs.Mended.{raised, lowered, project_for, kind_for, kept, kind_for_at, kept_at, kinds_kept, kept_to}
 use Rattle.rescue.specs.Mended.{plan_for}
 
 -- ---- the limits, as the code goes

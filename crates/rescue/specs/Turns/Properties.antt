@@ -1,7 +1,7 @@
 -- Laws of lists whose turns rise.
 -- Assumes nothing.
-use Rattle.std.specs.Prelude.{◌≡◌, refl, ◌≢◌, Bool, true, false, cond, ◌&&◌, List, [], ◌∷◌, ◌++◌, eqb, length}
-use Rattle.std.proofs.Common.{sym, ap, ◌∙◌, mul-suc, mul-zero, arith, eqb-true}
+use Rattle.std.specs.Prelude.{◌≡◌, refl, ◌≢◌, Bool, true, false, cond, List, [], ◌∷◌, ◌++◌, eqb, length}
+use Rattle.std.proofs.Common.{mul-suc, mul-zero, arith, eqb-true}
 use Prim.Native.Nat.{ℕ, zero, suc, ◌+◌, ◌*◌, ◌≤◌, ◌<◌}
 use Rattle.std.proofs.Math.Decide.{ℕ_discrete}
 use Rattle.laws.specs.Tests.{and_left, and_right}

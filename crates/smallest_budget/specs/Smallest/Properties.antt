@@ -1,6 +1,6 @@
 -- Laws of the least budget: when one serves, that a greater one serves too, and which is the least.
 -- Assumes nothing.
-use Rattle.std.specs.Prelude.{◌≡◌, refl, Bool, true, false, ◌&&◌, ℕ, ◌+◌, ◌*◌, ◌≤◌, ◌<◌, eqb}
+use Rattle.std.specs.Prelude.{◌≡◌, refl, Bool, true, false, ◌&&◌, ℕ, ◌+◌, ◌≤◌, ◌<◌, eqb}
 use Rattle.std.proofs.Common.{sym, ◌∙◌, mul-le-mul, ne_eqb}
 use Rattle.std.proofs.Math.Path.{ap}
 use Rattle.std.proofs.Math.Bool.{not}

@@ -1,6 +1,6 @@
 -- Laws of the steps.
 -- Assumes nothing.
-use Rattle.std.specs.Prelude.{◌≡◌, refl, Bool, true, false, cond, List, ℕ, zero, suc, ◌+◌, ◌-◌, ◌*◌, ◌/◌, ◌%◌, ◌≤◌, ◌<◌, ltb, set, get_or, replicate}
+use Rattle.std.specs.Prelude.{◌≡◌, refl, Bool, true, false, cond, List, ℕ, zero, suc, ◌+◌, ◌*◌, ◌/◌, ◌%◌, ◌≤◌, ◌<◌, ltb, set, get_or, replicate}
 use Rattle.std.proofs.Common.{sym, ap, ◌∙◌, mod-eq_of_lt, mod-lt, mul-le-mul, mul-le-mul_right, div-add-mod', div-lt_iff_lt-mul, zero-mul, lt-ltb, le-ltb, eq-eqb, ne_eqb}
 use Rattle.std.proofs.Math.Path.{fun_ext}
 use Rattle.std.proofs.Math.Decide.{dec_lt}
@@ -17,11 +17,11 @@ use Rattle.plan.specs.Order.{project_of, kind_of, budgets_fit, checked}
 use Rattle.plan.specs.Open.{with_budget, checked_open, InOrderOpen}
 use Rattle.plan.specs.Open.Properties.{open_opened, with_checked}
 use Rattle.layout.specs.Cards.{cards_below, held_from}
-use Rattle.layout.specs.Cards.Properties.{below_start, below_frames, below_cell, past_cell, below_part, run_closed, run_ceiling}
+use Rattle.layout.specs.Cards.Properties.{below_start, below_frames, below_cell, past_cell, below_part, run_closed}
 use Rattle.layout.specs.Layout.{cell_at, first_cell}
 use Rattle.supply.specs.declared.Fit.{Fit}
 use Rattle.supply.specs.Fit.{held_at, fit_of}
-use Rattle.supply.specs.Fit.Properties.{fit_framed, excess_within, slice_in_frame}
+use Rattle.supply.proofs.Laws.Fit.{fit_framed, excess_within, slice_in_frame}
 use Rattle.workload.specs.Workload.{workload}
 use Rattle.workload.specs.Workload.Properties.{workload_most}
 use Rattle.smallest_budget.specs.declared.Asked.{Asked}

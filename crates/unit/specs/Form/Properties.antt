@@ -1,6 +1,6 @@
 -- Laws of a unit in form: what the test says, and that nothing less is asked.
 -- Assumes nothing.
-use Rattle.std.specs.Prelude.{◌≡◌, refl, Bool, true, false, not, cond, ◌&&◌, ◌||◌, ℕ, ◌≤◌, ◌<◌, leb, ltb, eqb}
+use Rattle.std.specs.Prelude.{◌≡◌, refl, Bool, true, false, not, cond, ◌&&◌, ℕ, ◌≤◌, ◌<◌, leb, eqb}
 use Rattle.std.proofs.Common.{sym, ◌∙◌, true≢false, arith, le-leb, lt-ltb, eq-eqb, ne_eqb, leb-true, ltb-true, eqb-true}
 use Rattle.std.proofs.Math.Decide.{ℕ_discrete}
 use Rattle.std.proofs.lemmas.Bool.{lt-leb, not-true}

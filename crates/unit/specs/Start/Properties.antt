@@ -5,7 +5,7 @@ use Rattle.std.proofs.Math.Decide.{ℕ_discrete}
 use Rattle.std.proofs.Common.{arith, lt-ltb, le-ltb, ltb-false}
 use Rattle.std.proofs.lemmas.Bool.{not-false}
 use Rattle.answer.specs.declared.Answer.TheVariants.{Good}
-use Rattle.answer.specs.Answer.{bare, refuse, ◌and_then◌}
+use Rattle.answer.specs.Answer.{bare, refuse}
 use Rattle.answer.specs.Answer.Properties.{and_then_left, and_then_right, refuse_good}
 use Rattle.plan.specs.declared.Kind.{Kind}
 use Rattle.plan.specs.Order.{within}

@@ -22,12 +22,12 @@ use Rattle.plan.specs.Order.{kind_of, checked, InOrder}
 use Rattle.plan.specs.Order.Properties.{in_order, in_order_good}
 use Rattle.layout.specs.Layout.{held}
 use Rattle.supply.specs.Supply.{Periodic, bad_slice}
-use Rattle.supply.specs.Supply.Properties.{supply_everywhere, bad_below, bad_attains, bad_earliest, bad_only, bad_no_width}
+use Rattle.supply.proofs.Laws.Supply.{supply_everywhere, bad_below, bad_attains, bad_earliest, bad_only, bad_no_width}
 use Rattle.supply.specs.Fit.{least_width, named_slice}
-use Rattle.supply.specs.Fit.Properties.{width_most, width_fits, width_least, width_some, excess_within, excess_allows, excess_greatest}
-use Rattle.supply.specs.Fit.Properties.{named_is, slice_given}
+use Rattle.supply.proofs.Laws.Fit.{width_most, width_fits, width_least, width_some, excess_within, excess_allows, excess_greatest}
+use Rattle.supply.proofs.Laws.Fit.{named_is, slice_given}
 use Rattle.workload.specs.Workload.{workload}
-use Rattle.verdict.specs.Verdict.{project_on, ceiling_on, held_on, width_of, excess_of, bad_slice_of, fitted, admitted, verdict_of, judged}
+use Rattle.verdict.specs.Verdict.{ceiling_on, held_on, width_of, excess_of, bad_slice_of, fitted, admitted, verdict_of, judged}
 use Rattle.verdict.specs.Admission.{Allows, Fits, Excess, NotAdmitted, BadSlice, Names}
 
 -- ---- the k of one kind

@@ -17,7 +17,7 @@ use Rattle.supply.specs.Supply.{supply}
 use Rattle.workload.specs.Workload.{besides, part_in, part_of, workload}
 use Rattle.workload.specs.Workload.Properties.{part_own}
 use Rattle.verdict.specs.Verdict.{ceiling_on}
-use Rattle.verdict.specs.Admission.{asked, given, Width, Fits, Allows, NotAdmitted}
+use Rattle.verdict.specs.Admission.{asked, given, Fits, Allows, NotAdmitted}
 use Rattle.verdict.specs.Advice.{with_length}
 
 -- no kind is added or lost, so each project holds what it held

@@ -17,9 +17,9 @@ use Rattle.plan.specs.declared.Plan.{Plan}
 use Rattle.plan.specs.Order.{kind_of, checked, InOrder}
 use Rattle.plan.specs.Order.Properties.{in_order, in_order_good}
 use Rattle.supply.specs.declared.Supplied.{Supplied}
-use Rattle.supply.specs.Supply.{supply, bad_slice}
+use Rattle.supply.specs.Supply.{bad_slice}
 use Rattle.supply.specs.Fit.{supplied_of}
-use Rattle.supply.specs.Fit.Properties.{supplied_framed}
+use Rattle.supply.proofs.Laws.Fit.{supplied_framed}
 use Rattle.workload.specs.Workload.{workload}
 use Rattle.verdict.specs.declared.figures.Figures.{Figures}
 use Rattle.verdict.specs.Verdict.{project_on, ceiling_on, held_on}

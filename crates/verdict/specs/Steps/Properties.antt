@@ -18,10 +18,10 @@ use Rattle.plan.specs.Order.{kind_of, budget_of, checked, InOrder}
 use Rattle.layout.specs.Cards.{cards_below, held_from}
 use Rattle.layout.specs.Cards.Properties.{below_grows, run_closed, run_ceiling}
 use Rattle.layout.specs.Layout.{first_cell}
-use Rattle.layout.specs.Layout.Properties.{first_next, first_most, held_from_law, held_mod}
+use Rattle.layout.proofs.Laws.Layout.{first_next, first_most, held_from_law, held_mod}
 use Rattle.supply.specs.declared.Fit.{Fit}
 use Rattle.supply.specs.Fit.{held_at, fit_of}
-use Rattle.supply.specs.Fit.Properties.{fit_framed, excess_within, slice_in_frame}
+use Rattle.supply.proofs.Laws.Fit.{fit_framed, excess_within, slice_in_frame}
 use Rattle.verdict.specs.declared.Verdict.{Verdict}
 use Rattle.workload.specs.Workload.{workload}
 use Rattle.workload.specs.Workload.Properties.{workload_most}

@@ -1,6 +1,6 @@
 -- Laws of the workload: each kind's part in it, how much it can be, and that a place which the record does not have adds nothing.
 -- Assumes nothing.
-use Rattle.std.specs.Prelude.{◌≡◌, Bool, ℕ, ◌+◌, ◌-◌, ◌/◌, ◌%◌, ◌≤◌, ◌<◌, min, length}
+use Rattle.std.specs.Prelude.{◌≡◌, Bool, ℕ, ◌+◌, ◌-◌, ◌≤◌, ◌<◌, min, length}
 use Rattle.std.proofs.Math.Path.{refl, ap}
 use Rattle.std.proofs.Common.{sym, ◌∙◌, mul-zero, eq-eqb, ne_eqb}
 use Rattle.std.proofs.Math.Bool.{true, false, cond}

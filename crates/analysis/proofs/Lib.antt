@@ -1,0 +1,4 @@
+-- Laws of the definitions in specs/.
+-- Assumes nothing.
+pub mod Laws
+pub mod InTime

@@ -1,0 +1,14 @@
+-- `image_reader::units_from` meets its contract.
+-- Assumes nothing.
+use Rattle.std.proofs.Common.{arith}
+use Rattle.laws.specs.Written.Properties.{written_none, written_again, written_stop}
+use Rattle.image_reader.proofs.units_from.Goals as goal
+
+pub loop-i-init : goal.loop-i-init
+loop-i-init c = (omega arith, rw c.empty-unit.ensures (written_none _ _))
+
+pub loop-i-preserved : goal.loop-i-preserved
+loop-i-preserved c = (omega arith, search written_again)
+
+pub returns : goal.returns
+returns c = search written_stop

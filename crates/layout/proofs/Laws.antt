@@ -1,0 +1,5 @@
+-- The laws of the layout.
+-- Assumes nothing.
+pub mod Layout
+pub mod Walk
+pub mod Table

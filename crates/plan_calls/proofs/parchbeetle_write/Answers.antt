@@ -1,0 +1,17 @@
+-- `plan_calls::parchbeetle_write` meets its contract.
+-- Assumes nothing.
+use Rattle.plan_calls.specs.Exports.{writes_answer}
+use Rattle.images.specs.Outcome.Properties.{unfound_outcome}
+use Rattle.plan_calls.specs.Exports.Properties.{write_count, write_told}
+use Rattle.std.proofs.Common.{rules}
+use Rattle.plan_calls.proofs.parchbeetle_write.Goals as goal
+
+pub returns-in_default : goal.returns-in_default
+unfolding writes_answer
+returns-in_default c = search unfound_outcome
+
+pub overflow_cast-written : goal.overflow_cast-written
+overflow_cast-written c = search (write_count, rules)
+
+pub returns : goal.returns
+returns c = search write_told

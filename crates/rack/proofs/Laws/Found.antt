@@ -1,0 +1,180 @@
+-- Laws of what a check finds: the steps of the pass over the kinds that finds it, its exits, and the seats that are found from it.
+-- Assumes nothing.
+use Rattle.std.specs.Prelude.{◌≡◌, refl, Bool, true, false, not, List, ℕ, ◌+◌, ◌≤◌, ◌<◌, get_or, set, replicate}
+use Rattle.std.proofs.Common.{sym, ap, ◌∙◌, arith, eq-eqb, ne_eqb}
+use Rattle.std.proofs.lemmas.List.{get_or-replicate}
+use Rattle.laws.specs.All.{all_to}
+use Rattle.laws.specs.All.Properties.{all_none, all_more}
+use Rattle.laws.specs.Written.{written}
+use Rattle.laws.specs.Written.Properties.{written_none, written_again, written_same, written_stop, stored_at}
+use Rattle.answer.specs.declared.Answer.{Answer}
+use Rattle.answer.specs.declared.Answer.TheVariants.{Good, No}
+use Rattle.answer.specs.declared.Refusal.{Refusal}
+use Rattle.answer.specs.Answer.{bare, refuse, ◌and_then◌}
+use Rattle.plan.specs.Order.{InOrder, checked}
+use Rattle.plan.specs.Order.Properties.{in_order_good}
+use Rattle.unit.specs.Form.{fits_place}
+use Rattle.seats.specs.Seats.{at, seats_by}
+use Rattle.rack.specs.declared.State.{State}
+use Rattle.rack.specs.declared.form.Found.{Found}
+use Rattle.rack.specs.State.{unit_of, kind_at, kind_places, used, project_places}
+use Rattle.rack.specs.Sums.{left_below}
+use Rattle.rack.specs.Sums.Properties.{below_none, below_again}
+use Rattle.rack.specs.Form.{Ready, place_in_form, sums_fit, sums_agree, in_form, sums_told, ready}
+use Rattle.rack.specs.Form.Properties.{place_found, look_project, look_room, below_same, check_order}
+use Rattle.rack.specs.Form.Properties.{formed_past, formed_place, formed_sums, formed_differ, formed_good}
+use Rattle.rack.specs.Rank.{until}
+use Rattle.rack.proofs.Laws.Rank.{working_left}
+use Rattle.rack.specs.Seat.{works_of, lowest_at, end_at, seats_of}
+use Rattle.rack.proofs.Laws.Seat.{works_nothing, works_something, seats_are}
+use Rattle.rack.specs.Found.{due_of, works_below, due_below, AtWork, Finds}
+
+-- ---- what is put down of a kind
+
+due_nothing : (s : State) (i : ℕ) → (unit_of s i).left ≡ 0 → due_of s i ≡ 0
+unfolding due_of
+due_nothing s i e = rw (eq-eqb (unit_of s i).left 0 e)
+
+due_something : (s : State) (i : ℕ) → ((unit_of s i).left ≡ 0 → ⊥) → due_of s i ≡ until s i
+unfolding due_of
+due_something s i h = rw (ne_eqb (unit_of s i).left 0 h)
+
+-- ---- the pass over the kinds of a plan in order: the places below i are looked through
+
+pub record Looked (s : State) (i : ℕ) (works due left : List ℕ) : Type 0 where
+  pub order : InOrder s.plan
+  pub slice_below : s.slice < s.plan.frame
+  pub places : true ≡ all_to i (place_in_form s)
+  pub works_for : works ≡ works_below s i
+  pub due_in : due ≡ due_below s i
+  pub left_so_far : left ≡ left_below s i
+
+-- k is what the check of the plan answered
+pub looked_none : (s : State) (k : Answer) → k ≡ Good → k ≡ checked s.plan → s.slice < s.plan.frame →
+    Looked s 0 (replicate 16 0) (replicate 16 0) (replicate 8 0)
+looked_none s k good is l = record {
+  order = check_order s k good is;
+  slice_below = l;
+  places = all_none (place_in_form s);
+  works_for = written_none (works_of s) (replicate 16 0);
+  due_in = written_none (due_of s) (replicate 16 0);
+  left_so_far = below_none s;
+}
+
+module _ (s : State) (i : ℕ) (works due left : List ℕ) (looked : Looked s i works due left) (m : i < 16) where
+  pub looked_project : (kind_at s i).project < 8
+  looked_project = look_project s i looked.order m
+
+  module _ (here : place_in_form s i ≡ true) where
+    places_more : true ≡ all_to (i + 1) (place_in_form s)
+    places_more = all_more i (place_in_form s) looked.places here
+
+    -- of a kind with nothing left nothing is put down
+    pub looked_same : (unit_of s i).left ≡ 0 → Looked s (i + 1) works due left
+    looked_same e = record {
+      order = looked.order;
+      slice_below = looked.slice_below;
+      places = places_more;
+      works_for =
+          written_same i (works_of s) (replicate 16 0) works 0 looked.works_for
+          (works_nothing (unit_of s i) (kind_at s i) e ∙ sym (get_or-replicate 16 i 0 0 m));
+      due_in = written_same i (due_of s) (replicate 16 0) due 0 looked.due_in (due_nothing s i e ∙ sym (get_or-replicate 16 i 0 0 m));
+      left_so_far = below_same s i left looked.left_so_far e;
+    }
+
+    pub looked_room : (c : ℕ) → c ≡ (kind_at s i).project → get_or left c 0 + (unit_of s i).left < 65536
+    looked_room c ec = look_room s i looked.order m left c ec looked.left_so_far looked.places here
+
+    pub looked_more : ((unit_of s i).left ≡ 0 → ⊥) → (d c : ℕ) → d ≡ until s i → c ≡ (kind_at s i).project →
+        Looked s (i + 1) (set works i ((kind_at s i).project + 1)) (set due i d) (set left c (get_or left c 0 + (unit_of s i).left))
+    looked_more some d c ed ec = record {
+      order = looked.order;
+      slice_below = looked.slice_below;
+      places = places_more;
+      works_for =
+          written_again i (works_of s) (replicate 16 0) works _ looked.works_for (sym (works_something (unit_of s i) (kind_at s i) some));
+      due_in = written_again i (due_of s) (replicate 16 0) due d looked.due_in (ed ∙ sym (due_something s i some));
+      left_so_far = below_again s i left looked.left_so_far c (unit_of s i).left ec refl (omega (arith, looked_project));
+    }
+
+-- ---- the exits: a is what is answered, and r what is handed back
+
+no_good : (w : Refusal) → No w ≡ Good → ⊥
+no_good w e = let z : ◌≡◌ {A = ℕ} 0 1 = cc in omega arith
+
+found_no : (s : State) (a b : Answer) (w : Refusal) (r : Found) → r.answer ≡ b → b ≡ No w → b ≡ a → Finds s a r
+found_no s a b w r e n is = record { result = e ∙ is; at_work = λ good. absurd (no_good w (sym n ∙ is ∙ good)) }
+
+-- 10 and 16 come after the record order
+ready_rest : (s : State) → InOrder s.plan → (a : Answer) → a ≡ (refuse (not (in_form s)) (bare 10) and_then sums_told s) → a ≡ ready s
+unfolding ready
+ready_rest s o a e = rw (in_order_good s.plan o) e
+
+module _ (s : State) (a : Answer) (r : Found) (told : r.answer ≡ a) where
+  -- the plan is not in order
+  pub found_order : (w : Refusal) → a ≡ No w → a ≡ checked s.plan → Finds s (ready s) r
+  unfolding ready
+  found_order w n is = found_no s (ready s) a w r told n (n ∙ rw (sym is ∙ n))
+
+  rest : InOrder s.plan → (w : Refusal) → a ≡ No w → a ≡ (refuse (not (in_form s)) (bare 10) and_then sums_told s) → Finds s (ready s) r
+  rest o w n is = found_no s (ready s) a w r told n (ready_rest s o a is)
+
+  -- the frame has no such slice: k is what the check of the plan answered
+  pub found_past : (k : Answer) → k ≡ Good → k ≡ checked s.plan → a ≡ bare 10 → s.plan.frame ≤ s.slice → Finds s (ready s) r
+  found_past k good is e l = rest (check_order s k good is) _ e (formed_past s a e l)
+
+  module _ (i : ℕ) (works due left : List ℕ) (looked : Looked s i works due left) where
+    -- a place is not in form
+    pub found_place : (u b : Bool) → u ≡ used s i → b ≡ fits_place u (kind_at s i) (unit_of s i) → not b ≡ true → i < 16 → a ≡ bare 10 →
+        Finds s (ready s) r
+    found_place u b eu eb t m e = rest looked.order _ e (formed_place s a i b e m (place_found s i u b eu eb) t)
+
+    module _ (p : i ≤ 16) (q : 16 ≤ i) (b : Bool) (fits : b ≡ sums_fit s.sum (project_places s)) where
+      -- a sum beyond p is not zero
+      pub found_sums : not b ≡ true → a ≡ bare 10 → Finds s (ready s) r
+      found_sums t e =
+          let o = looked.order in
+          rest o _ e (formed_sums s i left o looked.slice_below looked.places p q looked.left_so_far a b fits t e)
+
+      -- a sum is not what was found
+      pub found_differ : not b ≡ false → (d : Bool) → d ≡ sums_agree s.sum left (project_places s) → not d ≡ true → a ≡ bare 16 →
+          Finds s (ready s) r
+      found_differ t d agree f e =
+          let o = looked.order in
+          rest o _ e (formed_differ s i left o looked.slice_below looked.places p q looked.left_so_far a b fits t d agree f e)
+
+pub found_good : (s : State) (i : ℕ) (works due left : List ℕ) → Looked s i works due left → i ≤ 16 → 16 ≤ i → (b : Bool) →
+    b ≡ sums_fit s.sum (project_places s) → not b ≡ false → (d : Bool) → d ≡ sums_agree s.sum left (project_places s) → not d ≡ false →
+    Finds s (ready s) (record { answer = Good; works = works; until = due })
+found_good s i works due left looked p q b fits t d agree f =
+    let o = looked.order in
+    let form = formed_good s i left o looked.slice_below looked.places p q looked.left_so_far Good b fits t d agree f refl in
+    record {
+      result = ready_rest s o Good form;
+      at_work = λ good. record {
+        works_for = written_stop i 16 (works_of s) (replicate 16 0) works looked.works_for p q;
+        due_in = written_stop i 16 (due_of s) (replicate 16 0) due looked.due_in p q;
+      };
+    }
+
+-- ---- what was put down, place by place, and the seats that are found from it
+
+module _ (s : State) (works due : List ℕ) (laid : AtWork s works due) (i : ℕ) (l : i < 16) where
+  works_at : at works i ≡ works_of s i
+  works_at = ap (λ (m : List ℕ). at m i) laid.works_for ∙ stored_at 16 16 (works_of s) i l (omega arith)
+
+  due_at : ((unit_of s i).left ≡ 0 → ⊥) → at due i ≡ until s i
+  due_at h = ap (λ (m : List ℕ). at m i) laid.due_in ∙ stored_at 16 16 (due_of s) i l (omega arith) ∙ due_something s i h
+
+-- a good answer came with it
+pub found_work : (s : State) (a : Answer) (r : Found) → Finds s a r → r.answer ≡ Good → AtWork s r.works r.until
+found_work s a r found good = found.at_work (sym found.result ∙ good)
+
+pub seats_by_law : (s : State) → Ready s → (works due low end seats : List ℕ) (n : ℕ) → AtWork s works due → n ≡ kind_places s →
+    low ≡ written (project_places s) (lowest_at s.plan s.slice) (replicate 8 0) →
+    end ≡ written (project_places s) (end_at s.plan s.slice) (replicate 8 0) →
+    seats ≡ seats_by works due low end n → seats ≡ seats_of s
+seats_by_law s r works due low end seats n laid en el ee es =
+    let most = r.order.counts.kinds_most in
+    seats_are s r works due low end seats n en (λ k l. works_at s works due laid k (omega arith))
+    (λ k l w. due_at s works due laid k (omega arith) (λ e. omega (arith, working_left s k w))) el ee es

@@ -1,0 +1,3 @@
+-- Laws of the definitions in specs/.
+-- Assumes nothing.
+pub mod Laws

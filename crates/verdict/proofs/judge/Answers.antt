@@ -1,0 +1,14 @@
+-- `verdict::judge` meets its contract.
+-- Assumes nothing.
+use Rattle.plan.specs.Order.Properties.{check_opened}
+use Rattle.verdict.specs.Steps.Properties.{judged_no, judged_on}
+use Rattle.verdict.proofs.judge.Goals as goal
+
+pub returns-in_default : goal.returns-in_default
+returns-in_default c = search judged_no
+
+pub fits-requires : goal.fits-requires
+fits-requires c = search check_opened
+
+pub returns : goal.returns
+returns c = search judged_on

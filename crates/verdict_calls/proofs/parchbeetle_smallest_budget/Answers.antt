@@ -1,0 +1,10 @@
+-- `verdict_calls::parchbeetle_smallest_budget` meets its contract.
+-- Assumes nothing.
+use Rattle.verdict_calls.specs.Exports.Properties.{budget_unfound, budget_told_law}
+use Rattle.verdict_calls.proofs.parchbeetle_smallest_budget.Goals as goal
+
+pub returns-in_default : goal.returns-in_default
+returns-in_default c = search budget_unfound
+
+pub returns : goal.returns
+returns c = search budget_told_law

@@ -346,8 +346,10 @@ def told(words, edit, root):
         return "unfit", words[:300]
     noted = re.match(r"note: (?P<file>\S+?):(?P<line>\d+):\d+: it is not proved that ", at)
     if noted:
-        # of a function with no proof file, at its code
+        # of a function with no proof file, at its code; where there is one it may only misfit
         crate, line = root / "crates" / edit.crate, int(noted.group("line"))
+        if any(path.is_dir() and path.name == own(edit) for path in (crate / "proofs").rglob("*")):
+            return "unsettled", None
         there = [one for one in functions(crate) if one.name == edit.function and one.path == crate / noted.group("file")]
         is_own, place, name = any(one.lines[0] <= line <= one.lines[1] for one in there), "", None
     else:

@@ -1,9 +1,10 @@
 -- Document 01, "Numbers given back when we say no": an answer's number, place and excess with its slice, and refusals
 -- in an order.
 -- Assumes nothing.
-use Rattle.std.specs.Prelude.{ℕ, zero, suc, Bool, true, false}
+use Rattle.std.specs.Prelude.{ℕ, zero, suc, Bool, true, false, Result, Ok, Err}
 use Rattle.answer.specs.declared.Answer.{Answer}
 use Rattle.answer.specs.declared.Answer.TheVariants.{Good, No}
+use Rattle.answer.specs.declared.Refusal.{Refusal}
 use Rattle.answer.specs.declared.Refusal.TheVariants.{Bare, ByProject, ByKind}
 pub mod Properties
 
@@ -66,6 +67,11 @@ No r and_then b = No r
 unfoldable pub each_to : ℕ → (ℕ → Answer) → Answer
 each_to zero f = Good
 each_to (suc n) f = each_to n f and_then f n
+
+-- what comes with a good answer, or the refusal alone
+abbrev pub with_value : {A : Type 0} → Answer → A → Result A Refusal
+with_value Good x = Ok x
+with_value (No r) x = Err r
 
 -- what a good answer gives, and what a refusal does
 abbrev pub if_good : {A : Type 0} → Answer → A → A → A

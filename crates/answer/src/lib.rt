@@ -2,7 +2,7 @@
 // beside the excess, and the one number that carries them to another language.
 #![tactic(auto)]
 
-ghost use Rattle.std.specs.Prelude.{◌≡◌, ◌<◌, ◌%◌};
+ghost use Rattle.std.specs.Prelude.{◌≡◌};
 ghost use Rattle.answer.specs.Answer.{bare, at_project, at_kind, not_admitted, number, place, excess, slice};
 ghost use Rattle.answer.specs.Word.{told};
 
@@ -15,27 +15,24 @@ pub enum Refusal {
     ByKind(u8, u8, u32, u8),
 }
 
+// kept: no Result, since document 01 asks for a refusal enum inside an answer enum.
 #[derive(Clone, Copy)]
 pub enum Answer {
     Good,
     No(Refusal),
 }
 
-fn byte(x: u8) -> u64
-    ensures { (result ≡ x) × (result < 256) }
-{
-    x as u64
-}
-
-// The low 24 bits: an excess has no more.
-fn low(x: u32) -> u64
-    ensures { (result ≡ x % 16777216) × (result < 16777216) }
-{
-    (x % 16777216) as u64
+// What writing did: the answer, and the count of bytes written.
+// kept: "Writers answer with the count of bytes written, 0 on a refusal."
+#[derive(Clone, Copy)]
+pub struct Written {
+    pub answer: Answer,
+    pub count: usize,
 }
 
 impl Answer {
     // A refusal with no place.
+    // kept: numbers, since the promise is for any number (`bare_one_outcome`), and hosts read them.
     pub fn bare(number: u8) -> Self
         ensures { result ≡ bare number }
     {
@@ -63,6 +60,7 @@ impl Answer {
         Answer::No(Refusal::ByKind(8, kind, excess, slice))
     }
 
+    // kept: four functions of one shape, each the promise of its own definition.
     pub fn number(self) -> u8
         ensures { result ≡ number self }
     {
@@ -115,14 +113,14 @@ impl Answer {
         }
     }
 
-    // The answer and a count of bytes as one number.
+    // The answer and a count of bytes as one number. Of an excess the low 24 bits are all there is.
     pub fn told(self, count: u16) -> u64
         ensures { result ≡ told self count }
     {
-        byte(self.number())
-            + byte(self.place()) * 256
-            + count as u64 * 65536
-            + low(self.excess()) * 4294967296
-            + byte(self.slice()) * 72057594037927936
+        u64::from(self.number())
+            + u64::from(self.place()) * 256
+            + u64::from(count) * 65536
+            + u64::from(self.excess() % 16777216) * 4294967296
+            + u64::from(self.slice()) * 72057594037927936
     }
 }

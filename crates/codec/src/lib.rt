@@ -2,33 +2,17 @@
 // and the two functions here read a number's bytes and store them.
 #![tactic(auto)]
 
-ghost use Rattle.std.specs.Prelude.{◌≡◌, ◌≤◌, ◌<◌, min, length};
+ghost use Rattle.std.specs.Prelude.{◌≡◌, ◌≤◌, min, length};
 ghost use Rattle.codec.specs.Bytes.{number_to, Fills};
 
-fn wide(x: u8) -> u64
-    ensures { (result ≡ x) × (result < 256) }
-{
-    x as u64
-}
-
-// The lesser.
-fn least(a: usize, b: usize) -> usize
-    ensures { result ≡ min a b }
-{
-    if a < b {
-        return a;
-    }
-    b
-}
-
-// The number that so many bytes say.
-fn front(bytes: &[u8], count: usize) -> u64
-    requires { (count ≤ length bytes.now) × (count ≤ 8) }
-    ensures { result ≡ number_to count bytes.now }
+// The number that all of the bytes say.
+fn front(bytes: &[u8]) -> u64
+    requires { length bytes.now ≤ 8 }
+    ensures { result ≡ number_to (length bytes.now) bytes.now }
 {
     let mut sum: u64 = 0;
-    for i in 0..count {
-        sum = sum * 256 + wide(bytes[i]);
+    for byte in bytes {
+        sum = sum * 256 + u64::from(*byte);
     }
     sum
 }
@@ -39,22 +23,22 @@ fn front(bytes: &[u8], count: usize) -> u64
 pub fn number(bytes: &[u8], count: usize) -> u64
     ensures { result ≡ number_to (min (min count 8) (length bytes.now)) bytes.now }
 {
-    let limited = least(count, 8);
+    let limited = count.min(8);
     if limited <= bytes.len() {
-        return front(bytes, limited);
+        return front(&bytes[..limited]);
     }
-    front(bytes, bytes.len())
+    front(bytes)
 }
 
 // Fills a buffer with a number's lowest bytes, most significant first, and says how many.
 pub fn put_number(number: u64, out: &mut [u8]) -> usize
     ensures { Fills number out.old result out.new }
 {
-    let count = out.len();
     let mut rest = number;
-    for i in 0..count {
-        out[count - 1 - i] = (rest % 256) as u8;
+    // kept: an index, since a proof knows no byte that `out.iter_mut().rev()` wrote.
+    for i in (0..out.len()).rev() {
+        out[i] = (rest % 256) as u8;
         rest = rest / 256;
     }
-    count
+    out.len()
 }

@@ -1,13 +1,12 @@
 // A command: three bytes.
-ghost use Rattle.std.specs.Prelude.{◌≡◌, ◌<◌};
+ghost use Rattle.std.specs.Prelude.{◌≡◌};
 ghost use Rattle.commands.specs.Command.{fields_say, command_of};
 
-// A slice, the release of a kind with a length e, or anything else.
+// A slice, or the release of a kind with a length e.
 #[derive(Clone, Copy)]
 pub enum Command {
     Slice,
     Release(u8, u16),
-    Bad,
 }
 
 // The three bytes as one number: 1 bit for which command, 4 for the kind and 12 for e, above 7
@@ -18,37 +17,33 @@ const KIND: u32 = 524288;
 
 const E: u32 = 128;
 
-fn wide(x: u8) -> u32
-    ensures { (result ≡ x) × (result < 256) }
-{
-    x as u32
-}
-
 impl Command {
-    // What the four fields say.
-    fn of_fields(which: u32, kind: u8, e: u16, zeros: u32) -> Self
+    // What the four fields say, where they are a command.
+    #[tactic(auto, unfolding(crate::specs::Command::fields_say))]
+    fn of_fields(which: u32, kind: u8, e: u16, zeros: u32) -> Option<Self>
         ensures { result ≡ fields_say which kind e zeros }
     {
         if zeros != 0 {
-            return Command::Bad;
+            return None;
         }
         if which == 1 {
-            return Command::Release(kind, e);
+            return Some(Command::Release(kind, e));
         }
         if kind == 0 && e == 0 {
-            return Command::Slice;
+            return Some(Command::Slice);
         }
-        Command::Bad
+        None
     }
 
-    // The command at the front of bytes.
-    pub fn decode(bytes: &[u8]) -> Self
+    // The command at the front of bytes, if there is one.
+    #[tactic(auto, using(crate::specs::Command::Properties::decodes))]
+    pub fn decode(bytes: &[u8]) -> Option<Self>
         ensures { result ≡ command_of bytes.now }
     {
-        if bytes.len() < 3 {
-            return Command::Bad;
-        }
-        let fields = wide(bytes[0]) * 65536 + wide(bytes[1]) * 256 + wide(bytes[2]);
+        let [first, second, third, ..] = *bytes else {
+            return None;
+        };
+        let fields = u32::from_be_bytes([0, first, second, third]);
         let kind = (fields / KIND % 16) as u8;
         let e = (fields / E % 4096) as u16;
         Command::of_fields(fields / WHICH, kind, e, fields % E)

@@ -12,9 +12,6 @@ pub fn keep(bytes: &mut [u8], from: usize, to: usize) -> usize
     if bytes.len() < to {
         return 0;
     }
-    let count = to - from;
-    for i in 0..count {
-        bytes[i] = bytes[from + i];
-    }
-    count
+    bytes.copy_within(from..to, 0);
+    to - from
 }

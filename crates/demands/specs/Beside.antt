@@ -12,7 +12,8 @@ pub record UnitBeside (old : Old.State) (new : State) (i : ℕ) : Type 0 where
   pub released : (unit_of new i).released ≡ (Old.unit_of old i).released
   pub left : (unit_of new i).left ≡ (Old.unit_of old i).left
   -- "and each release clock by the slices gone since then, held at T": the lesser of T and clock less release clock
-  pub gone : (Old.unit_of old i).released ≡ true → (unit_of new i).gone ≡ min (kind_at new i).separation (old.clock - (Old.unit_of old i).at)
+  pub gone : (Old.unit_of old i).released ≡ true →
+      (unit_of new i).gone ≡ min (kind_at new i).separation (old.clock - (Old.unit_of old i).at)
   -- "0 if never released"
   pub never : (Old.unit_of old i).released ≡ false → (unit_of new i).gone ≡ 0
 

@@ -17,7 +17,8 @@ use Rattle.supply.specs.Workload.Properties.{part_by_five_law}
 use Rattle.workload.specs.Workload.{besides, part_in, part_of, workload}
 use Rattle.verdict.specs.Verdict.{width_of, excess_of, bad_slice_of, fitted, admitted, judged}
 use Rattle.rack.specs.Start.{start_answer, start_of}
-use Rattle.smallest_budget.specs.Smallest.{width_with, excess_with, slice_with, serves, least_budget, served_with, smallest_answer, smallest_of}
+use Rattle.smallest_budget.specs.Smallest.{width_with, excess_with, slice_with, serves, least_budget, served_with, smallest_answer}
+use Rattle.smallest_budget.specs.Smallest.{smallest_of}
 use Rattle.demands.specs.AnyWorkload.{judged_by, start_by, smallest_by}
 
 -- "floor(Di/Tj)Cj + min(Cj, Di mod Tj)"

@@ -120,7 +120,9 @@ module _ (p : Plan) (admitted : (start_of p).answer ≡ Good) where
       rw (advance_moves s good)
       (named_falls s (after_safe p admitted calls) (advance_good s good) i (omega (arith, kinds_kept calls)))
 
-  pub row_orderly : (calls : List Call) (x : ℕ) → x < length (slices_of fresh calls) → Orderly p (get_or (slices_of fresh calls) x no_slice).row
+  pub row_orderly : (calls : List Call) (x : ℕ) →
+      x < length (slices_of fresh calls) →
+      Orderly p (get_or (slices_of fresh calls) x no_slice).row
   row_orderly calls x l =
       let holds : ℕ → ℕ = λ j. cards_from fresh j x in
       let at : At p holds (get_or (slices_of fresh calls) x no_slice) = rw start_plan at (slices_at no_slice calls fresh x l) in

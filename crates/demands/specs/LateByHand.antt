@@ -58,23 +58,25 @@ both_ask = record { plan = one_card; slice = 0; unit = just_released ∷ just_re
 
 -- the plan is not admitted
 pub not_admitted : number (judged one_card).answer ≡ 8
-unfolding sum_to least_to first_to count_to all_to each_to within sized empty_project empty_kind tidy_projects tidy_kinds in_range timed budgets
-    sizes unused projects_in_range kind_in_range kinds_in_range budgets_fit ranges checked cell_at first_cell owns held window supply
-    workload_part fits_at least_width greatest_to allowed_length least_excess besides part_of workload width_of excess_of fitted admitted judged
+unfolding sum_to least_to first_to count_to all_to each_to within sized empty_project empty_kind tidy_projects tidy_kinds in_range timed
+    budgets sizes unused projects_in_range kind_in_range kinds_in_range budgets_fit ranges checked cell_at first_cell owns held window
+    supply workload_part fits_at least_width greatest_to allowed_length least_excess besides part_of workload width_of excess_of fitted
+    admitted judged
 not_admitted = refl
 
 -- the advance is accepted, and what it hands back is out of form
 pub advance_accepted : (advance_of both_ask).answer ≡ Good
 unfolding sum_to count_to all_to each_to within sized empty_project empty_kind tidy_projects tidy_kinds in_range timed budgets sizes unused
-    projects_in_range kind_in_range kinds_in_range budgets_fit ranges checked untouched due_in_time underway unit_in_form empty_unit left_for project_left
-    sums_right sum_fits sums_in_form in_form sums_told ready advance_of
+    projects_in_range kind_in_range kinds_in_range budgets_fit ranges checked untouched due_in_time underway unit_in_form empty_unit
+    left_for project_left sums_right sum_fits sums_in_form in_form sums_told ready advance_of
 advance_accepted = refl
 
 after_it : ready (advance_of both_ask).state ≡ bare 10
-unfolding sum_to count_to all_to written rank_in first_in sooner each_to within sized empty_project empty_kind tidy_projects tidy_kinds in_range timed
-    budgets sizes unused projects_in_range kind_in_range kinds_in_range budgets_fit ranges checked held_from first_cell untouched due_in_time underway
-    unit_in_form empty_unit until_due gone_after left_after left_for project_left sums_right sum_fits sums_in_form in_form sums_told ready working active
-    outranks cards_held rank_of chosen view_of served unit_after served_for sum_after advanced advance_of
+unfolding sum_to count_to all_to written rank_in first_in sooner each_to within sized empty_project empty_kind tidy_projects tidy_kinds
+    in_range timed budgets sizes unused projects_in_range kind_in_range kinds_in_range budgets_fit ranges checked held_from first_cell
+    untouched due_in_time underway unit_in_form empty_unit until_due gone_after left_after left_for project_left sums_right sum_fits
+    sums_in_form in_form sums_told ready working active outranks cards_held rank_of chosen view_of served unit_after served_for sum_after
+    advanced advance_of
 after_it = refl
 
 -- "the next call says 10"

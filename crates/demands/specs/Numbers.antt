@@ -18,12 +18,13 @@ use Rattle.verdict.specs.Verdict.{width_of, excess_of, bad_slice_of, fitted, adm
 use Rattle.verdict.specs.Figures.{figures_answer, figures_of}
 use Rattle.verdict.specs.Steps.{fit_on}
 use Rattle.verdict.specs.Steps.Properties.{excess_room, slice_room}
-use Rattle.smallest_budget.specs.Smallest.{excess_with, slice_with, lacks, most_budget, least_budget, fitted_with, served_with, smallest_answer}
-use Rattle.smallest_budget.specs.Smallest.{smallest_of}
+use Rattle.smallest_budget.specs.Smallest.{excess_with, slice_with, lacks, most_budget, least_budget, fitted_with, served_with}
+use Rattle.smallest_budget.specs.Smallest.{smallest_answer, smallest_of}
 use Rattle.smallest_budget.specs.Steps.{fit_with}
 use Rattle.smallest_budget.specs.Steps.Properties.{with_room, with_slice}
 use Rattle.one_kind.specs.Wanted.{kinds_in, separation_in, length_in}
-use Rattle.one_kind.specs.Built.{offered, counts, frame_for, frame_fits, timed_alone, kind_timed, kinds_timed, plan_for, answer_for, built_of}
+use Rattle.one_kind.specs.Built.{offered, counts, frame_for, frame_fits, timed_alone, kind_timed, kinds_timed, plan_for, answer_for}
+use Rattle.one_kind.specs.Built.{built_of}
 use Rattle.one_kind.specs.Built.Properties.{counts_say}
 use Rattle.rescue.specs.Rescue.{rescued_plan, list_size, rest_answer, rescue_answer, rescue_of}
 use Rattle.unit.specs.Start.{early, startable}

@@ -10,12 +10,11 @@ use Rattle.answer.specs.declared.Refusal.{Refusal}
 use Rattle.answer.specs.Answer.{number}
 use Rattle.answer.specs.Outcome.{One, Lent}
 use Rattle.plan.specs.Record.{no_plan}
-use Rattle.plan_bytes.specs.declared.Written.{Written}
+use Rattle.answer.specs.declared.Written.{Written}
 use Rattle.plan_bytes.specs.Reading.{read_answer, read_of}
 use Rattle.plan_bytes.specs.Writing.{write_answer, Writes}
 use Rattle.plan_reader.specs.OneOutcome.{read_one_outcome}
 use Rattle.plan_writer.specs.OneOutcome.{write_one_outcome}
-use Rattle.layout.specs.declared.table.TableWritten.{TableWritten}
 use Rattle.layout.specs.Table.{table_answer, Tabled}
 use Rattle.layout.specs.OneOutcome.{slot_table_one_outcome}
 use Rattle.verdict.specs.Verdict.{judged}
@@ -74,16 +73,16 @@ writing_refused p out after r c h =
 
 -- ---- writing the slot table
 
-pub tabling : (p : Plan) (out : List ℕ) → One (λ (o : Lent TableWritten). Tabled p out o.result o.buffer)
+pub tabling : (p : Plan) (out : List ℕ) → One (λ (o : Lent Written). Tabled p out o.result o.buffer)
 tabling = slot_table_one_outcome
 
 -- "Lent buffers keep every byte on a refusal"
-pub tabling_refused : (p : Plan) (out after : List ℕ) (r : TableWritten) → Tabled p out r after → number r.answer ≢ 0 →
+pub tabling_refused : (p : Plan) (out after : List ℕ) (r : Written) → Tabled p out r after → number r.answer ≢ 0 →
     (r.count ≡ 0) × (after ≡ out)
 tabling_refused p out after r c h =
     let t = refusal r.answer h in
-    let a : table_answer p (length out) ≡ No t.0 = ap (λ (x : TableWritten). x.answer) (sym c.result) ∙ t.1 in
-    (ap (λ (x : TableWritten). x.count) c.result ∙ (rw a), c.buffer ∙ (rw a))
+    let a : table_answer p (length out) ≡ No t.0 = ap (λ (x : Written). x.answer) (sym c.result) ∙ t.1 in
+    (ap (λ (x : Written). x.count) c.result ∙ (rw a), c.buffer ∙ (rw a))
 
 -- ---- the verdict
 

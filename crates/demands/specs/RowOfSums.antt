@@ -90,7 +90,10 @@ left_told s before taken places i v l other =
 
 -- of every state that a run from a fresh start comes to
 module _ (p : Plan) (admitted : (start_of p).answer ≡ Good) (calls : List Call) where
-  pub run_sum_told : (j v : ℕ) → j < 8 → v ≢ sum_at (after p calls) j → Told (with_sum (after p calls) j v) (sum_told_number (after p calls) j)
+  pub run_sum_told : (j v : ℕ) →
+      j < 8 →
+      v ≢ sum_at (after p calls) j →
+      Told (with_sum (after p calls) j v) (sum_told_number (after p calls) j)
   run_sum_told j v l other =
       let s = after p calls in
       let safe = after_safe p admitted calls in

@@ -15,8 +15,8 @@ use Rattle.answer.specs.Answer.{number, place, excess, each_to}
 use Rattle.plan.specs.declared.Plan.{Plan}
 use Rattle.plan.specs.Record.{no_project, no_kind}
 use Rattle.plan.specs.Example.{project, kind}
-use Rattle.plan.specs.Order.{kind_of, InOrder, within, sized, empty_project, empty_kind, tidy_projects, tidy_kinds, in_range, timed, budgets}
-use Rattle.plan.specs.Order.{sizes, unused, projects_in_range, kind_in_range, kinds_in_range, budgets_fit, ranges, checked}
+use Rattle.plan.specs.Order.{kind_of, InOrder, within, sized, empty_project, empty_kind, tidy_projects, tidy_kinds, in_range, timed}
+use Rattle.plan.specs.Order.{budgets, sizes, unused, projects_in_range, kind_in_range, kinds_in_range, budgets_fit, ranges, checked}
 use Rattle.plan.specs.Order.Properties.{in_order}
 use Rattle.layout.specs.Layout.{cell_at, first_cell, owns, held}
 use Rattle.layout.proofs.Laws.Layout.{held_least}
@@ -57,9 +57,10 @@ enough_cards = record {
 
 -- it is refused: with k 1 kind 0 asks 1 + 1 against 1, with k 2 it asks 2 + 1 against 2
 pub refused_all_the_same : let a = (judged enough_cards).answer in (number a ≡ 8) × (place a ≡ 0) × (excess a ≡ 1)
-unfolding sum_to least_to first_to count_to all_to each_to within sized empty_project empty_kind tidy_projects tidy_kinds in_range timed budgets
-    sizes unused projects_in_range kind_in_range kinds_in_range budgets_fit ranges checked cell_at first_cell owns held window supply
-    workload_part fits_at least_width greatest_to allowed_length least_excess besides part_of workload width_of excess_of fitted admitted judged
+unfolding sum_to least_to first_to count_to all_to each_to within sized empty_project empty_kind tidy_projects tidy_kinds in_range timed
+    budgets sizes unused projects_in_range kind_in_range kinds_in_range budgets_fit ranges checked cell_at first_cell owns held window
+    supply workload_part fits_at least_width greatest_to allowed_length least_excess besides part_of workload width_of excess_of fitted
+    admitted judged
 refused_all_the_same = (refl, refl, refl)
 
 order : InOrder enough_cards

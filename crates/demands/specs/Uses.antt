@@ -1,7 +1,8 @@
 -- The demands in use: each theorem applied to plan A and the player's example at its tightest, so that what it says is a number.
 -- What is computed from the definitions stands in `Uses.Figures`; here the definitions are shut, and each line is a theorem at work.
 -- Assumes nothing.
-use Rattle.std.specs.Prelude.{◌≡◌, refl, ◌≢◌, Bool, true, false, List, [], ◌∷◌, ◌++◌, ℕ, zero, suc, ◌+◌, ◌-◌, ◌≤◌, ◌<◌, length, get_or, take, drop, replicate}
+use Rattle.std.specs.Prelude.{◌≡◌, refl, ◌≢◌, Bool, true, false, List, [], ◌∷◌, ◌++◌, ℕ, zero, suc, ◌+◌, ◌-◌, ◌≤◌, ◌<◌, length, get_or}
+use Rattle.std.specs.Prelude.{take, drop, replicate}
 use Rattle.std.proofs.Common.{sym, ap, ◌∙◌, true≢false, arith}
 use Rattle.laws.specs.Count.{count_to}
 use Rattle.answer.specs.declared.Answer.{Answer}
@@ -14,9 +15,8 @@ use Rattle.plan.specs.Order.Properties.{in_order}
 use Rattle.plan_bytes.specs.Parts.{encoded}
 use Rattle.plan_bytes.specs.declared.Reading.{Reading}
 use Rattle.plan_bytes.specs.Reading.{read_of}
-use Rattle.plan_bytes.specs.declared.Written.{Written}
+use Rattle.answer.specs.declared.Written.{Written}
 use Rattle.plan_bytes.specs.Writing.{write_answer, Writes}
-use Rattle.layout.specs.declared.table.TableWritten.{TableWritten}
 use Rattle.layout.specs.Table.{table_answer, Tabled}
 use Rattle.verdict.specs.declared.Verdict.{Verdict}
 use Rattle.verdict.specs.Verdict.{ceiling_on, judged}
@@ -93,21 +93,21 @@ writes_nothing r after c = (writing_refused plan_a (replicate 21 7) after r c re
     refused z = omega (arith, ap (λ (x : Written). number x.answer) c.result, answers.write_short)
 
 -- its slot table takes eight bytes of nine, and none of seven
-pub writes_table : (o : Lent TableWritten) → Tabled plan_a (replicate 9 7) o.result o.buffer →
+pub writes_table : (o : Lent Written) → Tabled plan_a (replicate 9 7) o.result o.buffer →
     (o.result.count ≡ 8) × (o.buffer ≡ 1 ∷ 1 ∷ 1 ∷ 2 ∷ 2 ∷ 2 ∷ 2 ∷ 2 ∷ 7 ∷ [])
-writes_table o c = (ap (λ (x : Lent TableWritten). x.result.count) same, ap (λ (x : Lent TableWritten). x.buffer) same)
+writes_table o c = (ap (λ (x : Lent Written). x.result.count) same, ap (λ (x : Lent Written). x.buffer) same)
   where
-    said : Lent TableWritten
+    said : Lent Written
     said = record { result = record { answer = Good; count = 8 }; buffer = 1 ∷ 1 ∷ 1 ∷ 2 ∷ 2 ∷ 2 ∷ 2 ∷ 2 ∷ 7 ∷ [] }
 
     same : o ≡ said
     same = (tabling plan_a (replicate 9 7)).only o c ∙ sym ((tabling plan_a (replicate 9 7)).only said answers.tables)
 
-pub tables_nothing : (r : TableWritten) (after : List ℕ) → Tabled plan_a (replicate 7 7) r after → after ≡ replicate 7 7
+pub tables_nothing : (r : Written) (after : List ℕ) → Tabled plan_a (replicate 7 7) r after → after ≡ replicate 7 7
 tables_nothing r after c = (tabling_refused plan_a (replicate 7 7) after r c refused).1
   where
     refused : number r.answer ≢ 0
-    refused z = omega (arith, ap (λ (x : TableWritten). number x.answer) c.result, answers.table_short)
+    refused z = omega (arith, ap (λ (x : Written). number x.answer) c.result, answers.table_short)
 
 -- the verdict and the fresh start
 pub gives_ones : (judging plan_a).outcome.width ≡ 1 ∷ 1 ∷ 1 ∷ replicate 13 0

@@ -75,7 +75,8 @@ unfolding kind_figures_answer among covers
 figures_listed plan kind out =
     and_then_numbered _ _ _ (room-numbers _ refl plan plan_size)
     (λ e.
-    and_then_numbered _ _ _ (wider _ figures_order _ refl (figures_numbers (plan_from plan) kind)) (λ f. room-numbers _ refl out figures_size))
+    and_then_numbered _ _ _ (wider _ figures_order _ refl (figures_numbers (plan_from plan) kind))
+    (λ f. room-numbers _ refl out figures_size))
 
 -- `parchbeetle_smallest_budget`
 pub smallest_listed : (plan : List ℕ) (project : ℕ) → Numbered (9 ∷ smallest_order) (budget_answer plan project)
@@ -100,7 +101,8 @@ pub fresh_listed : (plan state : List ℕ) → Numbered (9 ∷ verdict_order) (f
 unfolding fresh_answer among covers
 fresh_listed plan state =
     and_then_numbered _ _ _ (room-numbers _ refl plan plan_size)
-    (λ e. and_then_numbered _ _ _ (wider _ verdict_order _ refl (start_numbers (plan_from plan))) (λ f. room-numbers _ refl state state_size))
+    (λ e. and_then_numbered _ _ _ (wider _ verdict_order _ refl (start_numbers (plan_from plan)))
+    (λ f. room-numbers _ refl state state_size))
 
 state_listed : (state : List ℕ) → Numbered (9 ∷ state_order) (state_answer state)
 unfolding state_answer among covers
@@ -180,7 +182,8 @@ pub slot_table_decodes : (plan out : List ℕ) (r : ℕ) (after : List ℕ) → 
 unfolding small slots_answer
 slot_table_decodes plan out r after =
     read_again write_order (slots_answer plan out) (table_length (plan_from plan)) _ _ r after refl (slot_table_listed plan out)
-    (λ e. good_table (plan_from plan) (length out) Good (and_then_right (room plan plan_size) (table_answer (plan_from plan) (length out)) e))
+    (λ e. good_table (plan_from plan) (length out) Good
+    (and_then_right (room plan plan_size) (table_answer (plan_from plan) (length out)) e))
 
 -- `parchbeetle_verdict`
 pub verdict_decodes : (plan k : List ℕ) (r : ℕ) (after : List ℕ) → Judges plan k r after → Decodes (verdict_answer plan k) 0 r
@@ -217,7 +220,8 @@ rescue_decodes bytes plan list r after later o =
     let a = rescues_answer bytes plan list in
     rw o.result (told_decodes a (if_good a (list_size bytes) 0) (numbered_holds rescue_order a refl (rescue_listed bytes plan list))
     (counted a (list_size bytes)
-    (λ e. let m = list_most bytes (good_counts bytes list (and_then_left (rescue_answer bytes list) (room plan plan_size) e)) in omega arith)))
+    (λ e. let m = list_most bytes (good_counts bytes list (and_then_left (rescue_answer bytes list) (room plan plan_size) e)) in
+    omega arith)))
 
 -- `parchbeetle_fresh`
 pub fresh_decodes : (plan state : List ℕ) (r : ℕ) (after : List ℕ) → Starts plan state r after → Decodes (fresh_answer plan state) 0 r

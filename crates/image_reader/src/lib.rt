@@ -7,25 +7,20 @@ ghost use Rattle.codec.specs.Bytes.{number_to};
 ghost use Rattle.answer.specs.declared.Answer.TheVariants.{No};
 ghost use Rattle.answer.specs.Answer.{bare, ◌and_then◌};
 ghost use Rattle.plan.specs.Order.{checked};
-ghost use Rattle.images.specs.Image.{plan_size, state_size, slice_place, unit_widths, field, project_from, kind_from, slice_from, unit_from};
+ghost use Rattle.images.specs.Image.{plan_size, state_size, slice_place, unit_widths, field, project_from, kind_from, slice_from};
+ghost use Rattle.images.specs.Image.{unit_from};
 ghost use Rattle.images.specs.Image.{sum_from};
 ghost use Rattle.images.specs.Image.{projects_from, kinds_from, units_from, sums_from, plan_from, state_from, released_told};
 ghost use Rattle.images.specs.Lent.{plan_found, state_found};
 
-use answer::Answer;
+use answer::{Answer, Refusal};
 use images::{
-    KIND, KINDS_AT, PLAN, PROJECT, PROJECTS_AT, PlanFound, SLICE_AT, STATE, SUM, SUMS_AT,
-    StateFound, UNIT, UNITS_AT,
+    KIND, KINDS_AT, PLAN, PROJECT, PROJECTS_AT, SLICE_AT, STATE, SUM, SUMS_AT, UNIT, UNITS_AT,
 };
 use plan::{Kind, Plan, Project};
 use rack::State;
+use std::array;
 use unit::Unit;
-
-fn wide(x: u8) -> u16
-    ensures { (result ≡ x) × (result < 256) }
-{
-    x as u16
-}
 
 // A field of one byte. Each field of a place is read by itself: a place read as one number, which is
 // then divided, takes the compiler more instructions.
@@ -41,7 +36,7 @@ fn two_bytes(s: &[u8], at: usize) -> u16
     requires { at + 2 ≤ length s.now }
     ensures { (result ≡ number_to 2 (drop at s.now)) × (result < 65536) }
 {
-    wide(s[at]) * 256 + wide(s[at + 1])
+    u16::from_be_bytes([s[at], s[at + 1]])
 }
 
 fn project_from(s: &[u8], at: usize) -> Project
@@ -70,29 +65,14 @@ fn projects_from(s: &[u8]) -> [Project; Plan::PROJECTS]
     requires { plan_size ≤ length s.now }
     ensures { result ≡ projects_from 8 s.now }
 {
-    let none = Plan::empty();
-    let mut project = none.project;
-    for j in 0..Plan::PROJECTS {
-        project[j] = project_from(s, PROJECTS_AT + PROJECT * j);
-    }
-    project
+    array::from_fn(|j| project_from(s, PROJECTS_AT + PROJECT * j))
 }
 
 fn kinds_from(s: &[u8]) -> [Kind; Plan::KINDS]
     requires { plan_size ≤ length s.now }
     ensures { result ≡ kinds_from 16 s.now }
 {
-    let none = Plan::empty();
-    let mut kind = none.kind;
-    for i in 0..Plan::KINDS {
-        // field by field, since a kind stored as a whole is first put together in one register
-        let read = kind_from(s, KINDS_AT + KIND * i);
-        kind[i].project = read.project;
-        kind[i].separation = read.separation;
-        kind[i].deadline = read.deadline;
-        kind[i].length = read.length;
-    }
-    kind
+    array::from_fn(|i| kind_from(s, KINDS_AT + KIND * i))
 }
 
 fn plan_from(s: &[u8]) -> Plan
@@ -133,11 +113,7 @@ fn units_from(s: &[u8]) -> [Unit; Plan::KINDS]
     requires { state_size ≤ length s.now }
     ensures { result ≡ units_from 16 s.now }
 {
-    let mut unit = [Unit::empty(); Plan::KINDS];
-    for i in 0..Plan::KINDS {
-        unit[i] = unit_from(s, UNITS_AT + UNIT * i);
-    }
-    unit
+    array::from_fn(|i| unit_from(s, UNITS_AT + UNIT * i))
 }
 
 fn sum_from(s: &[u8], at: usize) -> u16
@@ -151,11 +127,7 @@ fn sums_from(s: &[u8]) -> [u16; Plan::PROJECTS]
     requires { state_size ≤ length s.now }
     ensures { result ≡ sums_from 8 s.now }
 {
-    let mut sum = [0u16; Plan::PROJECTS];
-    for j in 0..Plan::PROJECTS {
-        sum[j] = sum_from(s, SUMS_AT + SUM * j);
-    }
-    sum
+    array::from_fn(|j| sum_from(s, SUMS_AT + SUM * j))
 }
 
 // The state whose plan was read.
@@ -187,61 +159,40 @@ fn released_told(s: &[u8]) -> bool
     requires { state_size ≤ length s.now }
     ensures { result ≡ released_told s.now }
 {
-    for i in 0..Plan::KINDS {
-        if 1 < released_at(s, UNITS_AT + UNIT * i) {
-            return false;
-        }
-    }
-    true
+    (0..Plan::KINDS).all(|i| released_at(s, UNITS_AT + UNIT * i) <= 1)
 }
 
 // Of an image with some other released byte: the record order, 10.
-fn no_state(plan: Plan) -> Answer
-    ensures { result ≡ (checked plan and_then bare 10) }
+fn no_state(plan: Plan) -> Refusal
+    ensures { No result ≡ (checked plan and_then bare 10) }
 {
-    let checked = plan.check();
-    let Answer::Good = checked else {
-        return checked;
-    };
-    Answer::bare(10)
+    match plan.check() {
+        Answer::Good => Refusal::Bare(10),
+        Answer::No(why) => why,
+    }
 }
 
 // The plan that an image says, whatever its fields hold: 9.
-pub fn plan_of(image: &[u8]) -> PlanFound
+pub fn plan_of(image: &[u8]) -> Result<Plan, Refusal>
     ensures { result ≡ plan_found image.now }
 {
     if image.len() < PLAN {
-        return PlanFound {
-            answer: Answer::bare(9),
-            plan: Plan::empty(),
-        };
+        return Err(Refusal::Bare(9));
     }
-    PlanFound {
-        answer: Answer::Good,
-        plan: plan_from(image),
-    }
+    Ok(plan_from(image))
 }
 
 // The state that an image says, whatever its fields hold: 9, and where a released byte is no
 // state's the record order, 10. Only there is the plan checked: who takes the state checks it.
-pub fn state_of(image: &[u8]) -> StateFound
+pub fn state_of(image: &[u8]) -> Result<State, Refusal>
     ensures { result ≡ state_found image.now }
 {
     if image.len() < STATE {
-        return StateFound {
-            answer: Answer::bare(9),
-            state: State::empty(),
-        };
+        return Err(Refusal::Bare(9));
     }
     let plan = plan_from(image);
     if !released_told(image) {
-        return StateFound {
-            answer: no_state(plan),
-            state: State::empty(),
-        };
+        return Err(no_state(plan));
     }
-    StateFound {
-        answer: Answer::Good,
-        state: state_from(plan, image),
-    }
+    Ok(state_from(plan, image))
 }

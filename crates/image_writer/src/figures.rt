@@ -3,12 +3,12 @@ ghost use Rattle.std.specs.Prelude.{◌≡◌, [], ◌∷◌, ◌++◌, ◌+◌,
 ghost use Rattle.std.proofs.lemmas.List.Edits.{sets};
 ghost use Rattle.codec.specs.Place.{size_of, placed};
 ghost use Rattle.codec.specs.Places.{put_to};
-ghost use Rattle.images.specs.FiguresImage.{number_widths, slice_widths, figures_size, supply_place, slice_place, supply_bytes_at, slice_bytes_at};
+ghost use Rattle.images.specs.FiguresImage.{number_widths, slice_widths, figures_size, supply_place, slice_place, supply_bytes_at};
+ghost use Rattle.images.specs.FiguresImage.{slice_bytes_at};
 ghost use Rattle.images.specs.FiguresImage.{figures_image, StoresFigures};
 
-use crate::{put_fields, wide};
+use crate::{Placed, put_fields, put_row};
 use answer::Answer;
-use plan::Plan;
 use verdict::Figures;
 
 // The bytes of a number and of a slice, where the rows start, and the bytes of all.
@@ -22,49 +22,38 @@ const SLICES_AT: usize = SUPPLY_AT + 8 * NUMBER;
 
 const FIGURES: usize = SLICES_AT + 8 * SLICE;
 
-fn widest(x: u32) -> u64
-    ensures { (result ≡ x) × (result < 4294967296) }
-{
-    x as u64
-}
+// A figure.
+impl Placed for u32 {
+    const BYTES: usize = NUMBER;
 
-fn put_figure(figure: u32, out: &mut [u8], at: usize)
-    requires { at + 4 ≤ length out.old }
-    ensures { out.new ≡ sets out.old at (placed number_widths (figure ∷ [])) }
-{
-    put_fields(widest(figure), NUMBER, out, at);
-}
+    ghost BYTES = { size_of number_widths };
 
-fn put_slice(slice: u8, out: &mut [u8], at: usize)
-    requires { at + 1 ≤ length out.old }
-    ensures { out.new ≡ sets out.old at (placed slice_widths (slice ∷ [])) }
-{
-    put_fields(wide(slice), SLICE, out, at);
+    ghost bytes = { λ v. placed number_widths (v ∷ []) };
+
+    fn put(self, out: &mut [u8], at: usize) {
+        put_fields(u64::from(self), NUMBER, out, at);
+    }
 }
 
 fn put_supplies(figures: Figures, out: &mut [u8])
     requires { figures_size ≤ length out.old }
     ensures { out.new ≡ put_to 8 (supply_bytes_at figures) (supply_place 0) (size_of number_widths) out.old }
 {
-    for j in 0..Plan::CARDS {
-        put_figure(figures.supply[j], out, SUPPLY_AT + NUMBER * j);
-    }
+    put_row(&figures.supply, out, SUPPLY_AT);
 }
 
 fn put_slices(figures: Figures, out: &mut [u8])
     requires { figures_size ≤ length out.old }
     ensures { out.new ≡ put_to 8 (slice_bytes_at figures) (slice_place 0) (size_of slice_widths) out.old }
 {
-    for j in 0..Plan::CARDS {
-        put_slice(figures.slice[j], out, SLICES_AT + SLICE * j);
-    }
+    put_row(&figures.slice, out, SLICES_AT);
 }
 
 fn store_figures(figures: Figures, out: &mut [u8])
     requires { figures_size ≤ length out.old }
     ensures { out.new ≡ figures_image figures ++ drop figures_size out.old }
 {
-    put_figure(figures.workload, out, 0);
+    figures.workload.put(out, 0);
     put_supplies(figures, out);
     put_slices(figures, out);
 }

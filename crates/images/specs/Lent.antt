@@ -1,17 +1,14 @@
 -- A lent buffer: what is found in the image at its front, and what it holds once an image is stored there.
 -- Assumes nothing.
-use Rattle.std.specs.Prelude.{ℕ, cond, List, ◌++◌, ltb, length, drop}
+use Rattle.std.specs.Prelude.{ℕ, cond, Result, List, ◌++◌, ltb, length, drop}
 use Rattle.plan.specs.declared.Plan.{Plan}
 use Rattle.answer.specs.declared.Answer.{Answer}
-use Rattle.answer.specs.declared.Answer.TheVariants.{Good, No}
+use Rattle.answer.specs.declared.Answer.TheVariants.{Good}
+use Rattle.answer.specs.declared.Refusal.{Refusal}
 use Rattle.answer.specs.Outcome.{Leaves}
-use Rattle.plan.specs.Record.{no_plan}
-use Rattle.answer.specs.Answer.{bare, refuse, ◌and_then◌, if_good}
+use Rattle.answer.specs.Answer.{bare, refuse, ◌and_then◌, with_value, if_good}
 use Rattle.plan.specs.Order.{checked}
 use Rattle.rack.specs.declared.State.{State}
-use Rattle.rack.specs.State.{no_state}
-use Rattle.images.specs.declared.PlanFound.{PlanFound}
-use Rattle.images.specs.declared.StateFound.{StateFound}
 use Rattle.images.specs.Image.{plan_size, state_size, plan_from, state_from, released_told, plan_image, state_image}
 use Rattle.images.specs.Image.{running_over}
 pub mod Properties
@@ -22,17 +19,17 @@ room s needed = refuse (ltb (length s) needed) (bare 9)
 
 -- ---- found
 
--- the plan that an image says, or 9 and an all-zero plan
-unfoldable pub plan_found : List ℕ → PlanFound
-plan_found s = record { answer = room s plan_size; plan = if_good (room s plan_size) (plan_from s) no_plan }
+-- the plan that an image says, or 9
+unfoldable pub plan_found : List ℕ → Result Plan Refusal
+plan_found s = with_value (room s plan_size) (plan_from s)
 
 -- 9; and 10 where a released byte is neither 0 nor 1, after the plan's own refusals
 unfoldable pub found_answer : List ℕ → Answer
 found_answer s = room s state_size and_then cond (released_told s) Good (checked (plan_from s) and_then bare 10)
 
--- the state that an image says, or a refusal and an all-zero state
-unfoldable pub state_found : List ℕ → StateFound
-state_found s = record { answer = found_answer s; state = if_good (found_answer s) (state_from s) no_state }
+-- the state that an image says, or a refusal
+unfoldable pub state_found : List ℕ → Result State Refusal
+state_found s = with_value (found_answer s) (state_from s)
 
 -- ---- stored
 

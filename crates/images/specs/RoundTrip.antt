@@ -151,7 +151,8 @@ module _ (v : State) (typed : StateTyped v) (rest : List ℕ) where
   pub state_told : released_told (state_image v ++ rest) ≡ true
   unfolding s released_told
   state_told =
-      all_of 16 (released_at s) (λ i l. rw (unit_found i l) (le-leb (cond (unit_of v i).released 1 0) 1 (flag_small (unit_of v i).released)))
+      all_of 16 (released_at s)
+      (λ i l. rw (unit_found i l) (le-leb (cond (unit_of v i).released 1 0) 1 (flag_small (unit_of v i).released)))
 
 -- ---- a plan that was found in s, stored again
 

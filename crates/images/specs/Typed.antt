@@ -7,8 +7,8 @@ use Rattle.plan.specs.Order.{project_of, kind_of}
 use Rattle.plan_bytes.specs.Parts.{Shaped}
 use Rattle.rack.specs.declared.State.{State}
 use Rattle.rack.specs.State.{unit_of, sum_at, Places}
-use Rattle.images.specs.Image.{count_widths, project_widths, kind_widths, slice_widths, unit_widths, sum_widths, count_fields, project_fields}
-use Rattle.images.specs.Image.{kind_fields, unit_fields}
+use Rattle.images.specs.Image.{count_widths, project_widths, kind_widths, slice_widths, unit_widths, sum_widths, count_fields}
+use Rattle.images.specs.Image.{project_fields, kind_fields, unit_fields}
 pub mod Properties
 
 -- a plan of the language's type

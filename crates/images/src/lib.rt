@@ -3,24 +3,6 @@
 // stores: the sizes here are those that its widths make.
 #![tactic(auto)]
 
-use answer::Answer;
-use plan::Plan;
-use rack::State;
-
-// What looking at a plan's image found: the answer, and the plan (all zero where it is refused).
-#[derive(Clone, Copy)]
-pub struct PlanFound {
-    pub answer: Answer,
-    pub plan: Plan,
-}
-
-// What looking at a state's image found: the answer, and the state (all zero where it is refused).
-#[derive(Clone, Copy)]
-pub struct StateFound {
-    pub answer: Answer,
-    pub state: State,
-}
-
 // The bytes of a place: a plan's counts, a project, a unit kind, the slice, a unit, a sum.
 pub const COUNTS: usize = 4;
 

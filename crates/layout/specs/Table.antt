@@ -7,7 +7,7 @@ use Rattle.answer.specs.declared.Answer.{Answer}
 use Rattle.answer.specs.Answer.{bare, refuse, ◌and_then◌, if_good}
 use Rattle.answer.specs.Outcome.{Leaves}
 use Rattle.plan.specs.Order.{checked}
-use Rattle.layout.specs.declared.table.TableWritten.{TableWritten}
+use Rattle.answer.specs.declared.Written.{Written}
 use Rattle.layout.specs.Layout.{slot_of}
 
 -- "The slot table is written card by card, F bytes each": how many bytes that is
@@ -23,9 +23,9 @@ unfoldable pub table_answer : Plan → ℕ → Answer
 table_answer p room = checked p and_then refuse (ltb room (table_length p)) (bare 9)
 
 -- "Writers answer with the count of bytes written, 0 on a refusal"
-abbrev pub tabled : Plan → Answer → TableWritten
+abbrev pub tabled : Plan → Answer → Written
 tabled p a = record { answer = a; count = if_good a (table_length p) 0 }
 
 -- what writing the table answers, and what the buffer `out` holds then: "Lent buffers keep every byte on a refusal"
-abbrev pub Tabled : Plan → List ℕ → TableWritten → List ℕ → Type 0
+abbrev pub Tabled : Plan → List ℕ → Written → List ℕ → Type 0
 Tabled p out = Leaves (tabled p (table_answer p (length out))) (if_good (table_answer p (length out)) (table_over p out) out)

@@ -6,7 +6,7 @@ mod table;
 ghost use Rattle.std.specs.Prelude.{◌≡◌};
 ghost use Rattle.layout.specs.Cards.{cards_below};
 
-pub use table::{TableWritten, slot_table};
+pub use table::slot_table;
 
 // How many cells of a slice stand below a cell: none of a slice that the frame does not have.
 // A project's cards at a slice start at this number for its first cell, and end before this

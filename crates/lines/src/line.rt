@@ -2,7 +2,8 @@
 // said in specs/Line.antt.
 ghost use Rattle.std.specs.Prelude.{◌≡◌, ℕ, ◌+◌, ◌*◌, ◌≤◌, min, ◌++◌, length, get_or};
 ghost use Rattle.lines.specs.Text.{decimal, Puts};
-ghost use Rattle.lines.specs.Line.{plan_line, outcome, release_line, row_text, card_byte, slice_line, bad_line, end_line, line_room, end_room};
+ghost use Rattle.lines.specs.Line.{plan_line, outcome, release_line, row_text, card_byte, slice_line, bad_line, end_line, line_room};
+ghost use Rattle.lines.specs.Line.{end_room};
 ghost use Rattle.lines.specs.Line.{Prints};
 
 use crate::text::{put, put_number};
@@ -22,10 +23,12 @@ pub enum Line {
     // The last line, at this clock.
     End(u32),
     // No line.
+    // kept: `Line::put` says what it leaves for none, and an Option round each other line is no plainer.
     Nothing,
 }
 
 // A word, and then a number.
+#[inline(always)]
 fn put_both(out: &mut [u8], at: usize, word: &[u8], n: u32) -> usize
     requires { at + length word.now + 10 ≤ length out.old }
     ensures { (Puts out.old at (word.now ++ decimal n) result out.new)
@@ -43,8 +46,8 @@ fn put_plan(out: &mut [u8], at: usize, answer: Answer) -> usize
     let Answer::No(_) = answer else {
         return put(out, at, b"plan ok\n");
     };
-    let at = put_both(out, at, b"plan refused ", answer.number() as u32);
-    let at = put_both(out, at, b" at ", answer.place() as u32);
+    let at = put_both(out, at, b"plan refused ", u32::from(answer.number()));
+    let at = put_both(out, at, b" at ", u32::from(answer.place()));
     put(out, at, b"\n")
 }
 
@@ -56,7 +59,7 @@ fn put_outcome(out: &mut [u8], at: usize, answer: Answer) -> usize
     let Answer::No(_) = answer else {
         return put(out, at, b" ok\n");
     };
-    let at = put_both(out, at, b" refused ", answer.number() as u32);
+    let at = put_both(out, at, b" refused ", u32::from(answer.number()));
     put(out, at, b"\n")
 }
 
@@ -65,44 +68,34 @@ fn put_release(out: &mut [u8], at: usize, kind: u8, e: u16, answer: Answer) -> u
     requires { at + line_room ≤ length out.old }
     ensures { (Puts out.old at (release_line kind e answer) result out.new) × (result ≤ at + line_room) }
 {
-    let at = put_both(out, at, b"r ", kind as u32);
-    let at = put_both(out, at, b" ", e as u32);
+    let at = put_both(out, at, b"r ", u32::from(kind));
+    let at = put_both(out, at, b" ", u32::from(e));
     put_outcome(out, at, answer)
 }
 
 // The bytes of a row, a space before each.
-fn put_row(out: &mut [u8], at: usize, row: [u8; 8], cards: u8) -> usize
-    requires { (cards ≤ 8) × (at + 11 * cards ≤ length out.old) }
-    ensures { (Puts out.old at (row_text cards (card_byte row)) result out.new)
-        × (result ≤ at + 11 * cards) }
+fn put_row(out: &mut [u8], at: usize, row: &[u8]) -> usize
+    requires { (length row.now ≤ 8) × (at + 11 * length row.now ≤ length out.old) }
+    ensures { (Puts out.old at (row_text (length row.now) (card_byte row.now)) result out.new)
+        × (result ≤ at + 11 * length row.now) }
 {
     let mut next = at;
-    for card in 0..cards as usize {
-        next = put_both(out, next, b" ", row[card] as u32);
+    for byte in row {
+        next = put_both(out, next, b" ", u32::from(*byte));
     }
     next
 }
 
 // `t CLOCK:` and the row's bytes.
-fn put_served(out: &mut [u8], at: usize, clock: u32, row: &[u8; 8], cards: u8) -> usize
-    requires { (cards ≤ 8) × (at + line_room ≤ length out.old) }
-    ensures { (Puts out.old at (slice_line Answer.Good clock cards (card_byte row.now)) result out.new)
+fn put_served(out: &mut [u8], at: usize, clock: u32, row: &[u8]) -> usize
+    requires { (length row.now ≤ 8) × (at + line_room ≤ length out.old) }
+    ensures { (Puts out.old at (slice_line Answer.Good clock (length row.now) (card_byte row.now)) result out.new)
         × (result ≤ at + line_room) }
 {
     let at = put_both(out, at, b"t ", clock);
     let at = put(out, at, b":");
-    let at = put_row(out, at, *row, cards);
+    let at = put_row(out, at, row);
     put(out, at, b"\n")
-}
-
-// A row has eight bytes.
-fn row_cards(cards: u8) -> u8
-    ensures { (result ≡ min cards 8) × (result ≤ 8) }
-{
-    if Line::CARDS < cards {
-        return Line::CARDS;
-    }
-    cards
 }
 
 // `t CLOCK:` and the row's bytes, or `t refused N`.
@@ -119,7 +112,7 @@ fn put_slice(
         × (result ≤ at + line_room) }
 {
     let Answer::No(_) = answer else {
-        return put_served(out, at, clock, row, row_cards(cards));
+        return put_served(out, at, clock, &row[..usize::from(cards).min(row.len())]);
     };
     let at = put(out, at, b"t");
     put_outcome(out, at, answer)
@@ -146,9 +139,6 @@ fn put_bad(out: &mut [u8], at: usize, clock: u32) -> usize
 impl Line {
     // What a line may take of a buffer: every line fits in it.
     pub const ROOM: usize = 128;
-
-    // The bytes of the longest row.
-    pub(crate) const CARDS: u8 = 8;
 
     // The line's bytes, from index at on; its row's bytes stand in row. Answers the index after
     // it. Where less than a line's room stands behind at, nothing is written.

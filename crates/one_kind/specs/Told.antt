@@ -72,8 +72,10 @@ module _ (m n : ℕ) (T C : ℕ → ℕ) where
       told_kinds Good o k e f = told_frame (limits_says m n T C e f)
       told_kinds (No r) o k e f = let t = each_no n (kind_timed T C) r f in told_kind t.0 r o k t.1 t.3 t.2
 
-      told_counts : (t : Bool) → offered m n ≡ t →
-          P ((refuse (not t) (bare 17) and_then refuse (not (leb n 8)) (bare 18)) and_then (kinds_timed T C n and_then finished_answer m n T C))
+      told_counts : (t : Bool) →
+          offered m n ≡ t →
+          P ((refuse (not t) (bare 17) and_then refuse (not (leb n 8)) (bare 18))
+          and_then (kinds_timed T C n and_then finished_answer m n T C))
       unfolding counts
       told_counts true e =
           elim (dec_le n 8) [

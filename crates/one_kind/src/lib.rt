@@ -9,12 +9,13 @@ ghost use Rattle.std.specs.Prelude.{◌≡◌, ◌+◌, ◌*◌, ◌≤◌, ◌<
 ghost use Rattle.one_kind.specs.Divisor.{divisor, divisor_to};
 ghost use Rattle.one_kind.specs.Wanted.{kinds_in, field_at, separation_in, length_in};
 ghost use Rattle.one_kind.specs.Built.{rounded_up, offered, counts, timed_alone, kinds_timed, plan_for, built_of};
-ghost use Rattle.one_kind.specs.Steps.{Listed, Framed, finished_of};
+ghost use Rattle.one_kind.specs.Steps.{Listed, Framed, refused, finished_of};
 
 use answer::Answer;
 use plan::{Kind, Plan, Project};
 
 // The answer, and beside it the plan; all zero on a refusal.
+// kept: "any plan .. that its answer carries is zero when refused".
 #[derive(Clone, Copy)]
 pub struct Built {
     pub answer: Answer,
@@ -34,31 +35,20 @@ fn divisor(a: u16, b: u16) -> u16
     divisor(b, a % b)
 }
 
-fn byte(x: u8) -> u16
-    ensures { (result ≡ x) × (result < 256) }
+// The separation in the four bytes of a kind.
+fn separation(kind: &[u8]) -> u16
+    requires { length kind.now ≡ 4 }
+    ensures { result ≡ separation_in kind.now 0 }
 {
-    x as u16
+    u16::from_be_bytes([kind[0], kind[1]])
 }
 
-fn field(list: &[u8], at: usize) -> u16
-    requires { at + 1 < length list.now }
-    ensures { result ≡ field_at list.now at }
+// The length in them.
+fn unit_length(kind: &[u8]) -> u16
+    requires { length kind.now ≡ 4 }
+    ensures { result ≡ length_in kind.now 0 }
 {
-    byte(list[at]) * 256 + byte(list[at + 1])
-}
-
-fn separation(list: &[u8], kind: usize) -> u16
-    requires { 4 * kind + 4 ≤ length list.now }
-    ensures { result ≡ separation_in list.now kind }
-{
-    field(list, BYTES * kind)
-}
-
-fn unit_length(list: &[u8], kind: usize) -> u16
-    requires { 4 * kind + 4 ≤ length list.now }
-    ensures { result ≡ length_in list.now kind }
-{
-    field(list, BYTES * kind + 2)
+    u16::from_be_bytes([kind[2], kind[3]])
 }
 
 // How many kinds are listed: none by bytes that are no list.
@@ -110,26 +100,26 @@ fn timed_alone(separation: u16, length: u16) -> bool
 }
 
 // 6, by kind.
-fn kinds_timed(list: &[u8], kinds: u8) -> Answer
-    requires { 4 * kinds ≤ length list.now }
-    ensures { result ≡ kinds_timed (separation_in list.now) (length_in list.now) kinds }
+fn kinds_timed(list: &[u8]) -> Answer
+    requires { (4 * kinds_in list.now ≡ length list.now) × (kinds_in list.now ≤ 8) }
+    ensures { result ≡ kinds_timed (separation_in list.now) (length_in list.now) (kinds_in list.now) }
 {
-    for i in 0..kinds {
-        if !timed_alone(separation(list, i as usize), unit_length(list, i as usize)) {
-            return Answer::at_kind(6, i);
+    for (i, kind) in list.chunks_exact(BYTES).enumerate() {
+        if !timed_alone(separation(kind), unit_length(kind)) {
+            return Answer::at_kind(6, i as u8);
         }
     }
     Answer::Good
 }
 
 // The greatest common divisor of all separations.
-fn common_divisor(list: &[u8], kinds: u8) -> u16
-    requires { 4 * kinds ≤ length list.now }
-    ensures { result ≡ divisor_to kinds (separation_in list.now) }
+fn common_divisor(list: &[u8]) -> u16
+    requires { 4 * kinds_in list.now ≡ length list.now }
+    ensures { result ≡ divisor_to (kinds_in list.now) (separation_in list.now) }
 {
     let mut common: u16 = 0;
-    for i in 0..kinds {
-        common = divisor(common, separation(list, i as usize));
+    for kind in list.chunks_exact(BYTES) {
+        common = divisor(common, separation(kind));
     }
     common
 }
@@ -148,28 +138,33 @@ fn plan_for(cards: u8, list: &[u8], kinds: u8, frame: u8) -> Plan
     requires { (Listed cards list.now kinds) × (Framed list.now kinds frame) }
     ensures { result ≡ plan_for cards kinds (separation_in list.now) (length_in list.now) }
 {
-    let none = Plan::empty();
-    let mut project = none.project;
-    let mut kind = none.kind;
-    for i in 0..kinds {
-        let separation = separation(list, i as usize);
-        let length = unit_length(list, i as usize);
+    let mut plan = Plan::empty();
+    plan.cards = cards;
+    plan.projects = kinds;
+    plan.kinds = kinds;
+    plan.frame = frame;
+    for (i, bytes) in list.chunks_exact(BYTES).enumerate() {
+        let separation = separation(bytes);
+        let length = unit_length(bytes);
         let budget = rounded_up(frame, separation, length);
-        project[i as usize] = Project { ceiling: 1, budget };
-        kind[i as usize] = Kind {
-            project: i,
+        plan.project[i] = Project { ceiling: 1, budget };
+        plan.kind[i] = Kind {
+            project: i as u8,
             separation,
             deadline: separation,
             length,
         };
     }
-    Plan {
-        cards,
-        projects: kinds,
-        kinds,
-        frame,
-        project,
-        kind,
+    plan
+}
+
+// A refusal comes with the all-zero plan.
+fn refused(answer: Answer) -> Built
+    ensures { result ≡ refused answer }
+{
+    Built {
+        answer,
+        plan: Plan::empty(),
     }
 }
 
@@ -178,20 +173,14 @@ fn finished(cards: u8, list: &[u8], kinds: u8) -> Built
     requires { Listed cards list.now kinds }
     ensures { result ≡ finished_of cards list.now kinds }
 {
-    let frame = common_divisor(list, kinds);
+    let frame = common_divisor(list);
     if (Plan::FRAME as u16) < frame {
-        return Built {
-            answer: Answer::bare(19),
-            plan: Plan::empty(),
-        };
+        return refused(Answer::bare(19));
     }
     let plan = plan_for(cards, list, kinds, frame as u8);
     let sum = plan.check();
     let Answer::Good = sum else {
-        return Built {
-            answer: sum,
-            plan: Plan::empty(),
-        };
+        return refused(sum);
     };
     Built { answer: sum, plan }
 }
@@ -203,17 +192,11 @@ pub fn build(cards: u64, list: &[u8]) -> Built
     let kinds = kinds_in(list);
     let counts = counts(cards, kinds);
     let Answer::Good = counts else {
-        return Built {
-            answer: counts,
-            plan: Plan::empty(),
-        };
+        return refused(counts);
     };
-    let timed = kinds_timed(list, kinds as u8);
+    let timed = kinds_timed(list);
     let Answer::Good = timed else {
-        return Built {
-            answer: timed,
-            plan: Plan::empty(),
-        };
+        return refused(timed);
     };
     finished(cards as u8, list, kinds as u8)
 }

@@ -1,10 +1,11 @@
 -- Document 02 (i): the record order of a plan with one project's budget left open, and that plan with a budget written in.
 -- Assumes nothing.
-use Rattle.std.specs.Prelude.{ℕ, ◌*◌, ◌≤◌, ◌<◌, ◌≡◌, ◌≢◌, Bool, true, not, ◌&&◌, ◌||◌, ltb, eqb, set}
+use Rattle.std.specs.Prelude.{ℕ, ◌*◌, ◌≤◌, ◌<◌, ◌≡◌, ◌≢◌, Option, None, Some, Bool, true, not, ◌&&◌, ◌||◌, ltb, eqb, set}
 use Rattle.plan.specs.declared.Plan.{Plan}
 use Rattle.answer.specs.declared.Answer.{Answer}
 use Rattle.answer.specs.Answer.{bare, at_project, refuse, ◌and_then◌, each_to}
-use Rattle.plan.specs.Order.{project_of, kind_of, within, tidy_project, tidy_kind, sizes, unused, kinds_in_range}
+use Rattle.plan.specs.Order.{project_of, kind_of, within, tidy_project, tidy_kind, sizes, unused, project_in_range, projects_in_range}
+use Rattle.plan.specs.Order.{kinds_in_range}
 use Rattle.plan.specs.Order.{Sized, ProjectInRange, KindInRange}
 pub mod Properties
 
@@ -36,6 +37,15 @@ project_in_range_open p j i = refuse (not (in_range_open p j i)) (at_project 4 i
 -- "4 skipping that one budget", at the first such project
 unfoldable pub projects_in_range_open : Plan → ℕ → Answer
 projects_in_range_open p j = each_to p.projects (project_in_range_open p j)
+
+-- "4", or "4 skipping that one budget" where one is left open: of project i, and at the first such project
+abbrev pub project_in_range_but : Option ℕ → Plan → ℕ → Answer
+project_in_range_but None p = project_in_range p
+project_in_range_but (Some j) p = project_in_range_open p j
+
+abbrev pub projects_in_range_but : Option ℕ → Plan → Answer
+projects_in_range_but None p = projects_in_range p
+projects_in_range_but (Some j) p = projects_in_range_open p j
 
 -- "then 27 for a project not below p; the rest of the record order, 4 skipping that one budget, without 7"
 unfoldable pub ranges_open : Plan → ℕ → Answer

@@ -10,7 +10,6 @@ use Rattle.answer.specs.declared.Answer.{Answer}
 use Rattle.plan.specs.Record.{no_project, no_kind}
 use Rattle.answer.specs.Answer.{bare, at_project, at_kind, refuse, ◌and_then◌, each_to}
 pub mod Properties
-pub mod Stages
 
 -- ---- the plan's places
 

@@ -1,10 +1,11 @@
 // The record check: 2, 3, 4, 5/6, 7, in that order. It answers any record, whatever its fields
 // hold. Each stage's answer is opened with `let .. else`, and a refusal leaves at once.
 mod open;
-mod unused;
 
-ghost use Rattle.std.specs.Prelude.{◌≡◌, ◌≤◌};
-ghost use Rattle.plan.specs.Order.{within, empty_project, empty_kind, in_range, timed, sized, sizes, kind_in_range, checked};
+ghost use Rattle.std.specs.Prelude.{◌≡◌, ◌≤◌, ◌&&◌, ◌||◌, ◌*◌, Option, ℕ, Bool};
+ghost use Rattle.plan.specs.Order.{within, empty_project, empty_kind, timed, sized, sizes, kind_in_range, checked};
+ghost use Rattle.plan.specs.Order.{tidy_projects, tidy_kinds, unused, kinds_in_range, budgets, ranges};
+ghost use Rattle.plan.specs.Open.{projects_in_range_but};
 
 use crate::{Kind, Plan, Project};
 use answer::Answer;
@@ -12,27 +13,22 @@ use answer::Answer;
 fn within(x: u16, most: u16) -> bool
     ensures { result ≡ within most x }
 {
-    x != 0 && x <= most
+    (1..=most).contains(&x)
 }
 
 impl Project {
     fn is_empty(self) -> bool
         ensures { result ≡ empty_project self }
     {
-        self.ceiling == 0 && self.budget == 0
+        self == Project::default()
     }
 
-    fn cells(self) -> u32
-        ensures { (result ≡ self.budget) × (result ≤ 65535) }
+    // The ceiling, and the budget unless that is skipped.
+    fn in_range(self, cards: u8, frame: u8, skipped: bool) -> bool
+        ensures { result ≡ (within cards self.ceiling && (skipped || within (self.ceiling * frame) self.budget)) }
     {
-        self.budget as u32
-    }
-
-    fn in_range(self, cards: u8, frame: u8) -> bool
-        ensures { result ≡ in_range cards frame self }
-    {
-        within(self.ceiling as u16, cards as u16)
-            && within(self.budget, self.ceiling as u16 * frame as u16)
+        within(u16::from(self.ceiling), u16::from(cards))
+            && (skipped || within(self.budget, u16::from(self.ceiling) * u16::from(frame)))
     }
 }
 
@@ -40,31 +36,16 @@ impl Kind {
     fn is_empty(self) -> bool
         ensures { result ≡ empty_kind self }
     {
-        if self.project != 0 {
-            return false;
-        }
-        if self.separation != 0 {
-            return false;
-        }
-        if self.deadline != 0 {
-            return false;
-        }
-        self.length == 0
+        self == Kind::default()
     }
 
     fn timed(self) -> bool
         ensures { result ≡ timed self }
     {
-        if self.length == 0 {
-            return false;
-        }
-        if self.deadline < self.length {
-            return false;
-        }
-        if self.separation < self.deadline {
-            return false;
-        }
-        self.separation <= Kind::LONGEST
+        self.length != 0
+            && self.length <= self.deadline
+            && self.deadline <= self.separation
+            && self.separation <= Kind::LONGEST
     }
 
     fn in_range(self, projects: u8, place: u8) -> Answer
@@ -84,16 +65,10 @@ impl Plan {
     fn sized(self) -> bool
         ensures { result ≡ sized self }
     {
-        if !within(self.cards as u16, Plan::CARDS as u16) {
-            return false;
-        }
-        if !within(self.projects as u16, Plan::PROJECTS as u16) {
-            return false;
-        }
-        if !within(self.kinds as u16, Plan::KINDS as u16) {
-            return false;
-        }
-        within(self.frame as u16, Plan::FRAME as u16)
+        within(u16::from(self.cards), Plan::CARDS as u16)
+            && within(u16::from(self.projects), Plan::PROJECTS as u16)
+            && within(u16::from(self.kinds), Plan::KINDS as u16)
+            && within(u16::from(self.frame), Plan::FRAME as u16)
     }
 
     // Whether the counts and the frame are in range. Reading asks this before it looks at a place.
@@ -106,8 +81,90 @@ impl Plan {
         Answer::Good
     }
 
-    // Whether the record is in order. Every operation asks this first, and each function that goes
-    // over the places makes a copy of the record, so the four loops stand in one.
+    // "places beyond p or n hold zeros"
+    fn tidy(&self) -> bool
+        requires { (self.now.projects ≤ 8) × (self.now.kinds ≤ 16) }
+        ensures { result ≡ (tidy_projects self.now && tidy_kinds self.now) }
+    {
+        self.project[usize::from(self.projects)..]
+            .iter()
+            .all(|project| project.is_empty())
+            && self.kind[usize::from(self.kinds)..]
+                .iter()
+                .all(|kind| kind.is_empty())
+    }
+
+    fn unused(&self) -> Answer
+        requires { (self.now.projects ≤ 8) × (self.now.kinds ≤ 16) }
+        ensures { result ≡ unused self.now }
+    {
+        if !self.tidy() {
+            return Answer::bare(3);
+        }
+        Answer::Good
+    }
+
+    // 4, at the first such project, with one budget skipped or none.
+    fn projects_in_range(&self, skipped: Option<usize>) -> Answer
+        requires { self.now.projects ≤ 8 }
+        ensures { result ≡ projects_in_range_but skipped self.now }
+    {
+        for (j, project) in self.project[..usize::from(self.projects)]
+            .iter()
+            .enumerate()
+        {
+            if !project.in_range(self.cards, self.frame, skipped == Some(j)) {
+                return Answer::at_project(4, j as u8);
+            }
+        }
+        Answer::Good
+    }
+
+    // 5/6, at the first such kind.
+    fn kinds_in_range(&self) -> Answer
+        requires { self.now.kinds ≤ 16 }
+        ensures { result ≡ kinds_in_range self.now }
+    {
+        for (i, kind) in self.kind[..usize::from(self.kinds)].iter().enumerate() {
+            let answer = kind.in_range(self.projects, i as u8);
+            let Answer::Good = answer else {
+                return answer;
+            };
+        }
+        Answer::Good
+    }
+
+    fn budgets(&self) -> u32
+        requires { self.now.projects ≤ 8 }
+        ensures { result ≡ budgets self.now }
+    {
+        self.project[..usize::from(self.projects)]
+            .iter()
+            .map(|project| u32::from(project.budget))
+            .sum()
+    }
+
+    // 4, 5/6, 7.
+    fn ranges(&self) -> Answer
+        requires { (self.now.projects ≤ 8) × (self.now.kinds ≤ 16) }
+        ensures { result ≡ ranges self.now }
+    {
+        let projects = self.projects_in_range(None);
+        let Answer::Good = projects else {
+            return projects;
+        };
+        let kinds = self.kinds_in_range();
+        let Answer::Good = kinds else {
+            return kinds;
+        };
+        if u32::from(self.cards) * u32::from(self.frame) < self.budgets() {
+            return Answer::bare(7);
+        }
+        Answer::Good
+    }
+
+    // Whether the record is in order. Every operation asks this first. The stages take the record
+    // by reference, so that none makes a copy of it.
     pub fn check(self) -> Answer
         ensures { result ≡ checked self }
     {
@@ -115,43 +172,10 @@ impl Plan {
         let Answer::Good = sizes else {
             return sizes;
         };
-        // "places beyond p or n hold zeros"
-        let projects = self.projects as usize;
-        for j in 0..Plan::PROJECTS {
-            if j < projects {
-                continue;
-            }
-            if !self.project[j].is_empty() {
-                return Answer::bare(3);
-            }
-        }
-        let kinds = self.kinds as usize;
-        for i in 0..Plan::KINDS {
-            if i < kinds {
-                continue;
-            }
-            if !self.kind[i].is_empty() {
-                return Answer::bare(3);
-            }
-        }
-        // 4, 5/6, 7. The budgets are added up while the projects are at hand, and answered last.
-        let mut budgets: u32 = 0;
-        for j in 0..self.projects {
-            let project = self.project[j as usize];
-            if !project.in_range(self.cards, self.frame) {
-                return Answer::at_project(4, j);
-            }
-            budgets += project.cells();
-        }
-        for i in 0..self.kinds {
-            let kind = self.kind[i as usize].in_range(self.projects, i);
-            let Answer::Good = kind else {
-                return kind;
-            };
-        }
-        if (self.cards as u32) * (self.frame as u32) < budgets {
-            return Answer::bare(7);
-        }
-        Answer::Good
+        let unused = self.unused();
+        let Answer::Good = unused else {
+            return unused;
+        };
+        self.ranges()
     }
 }

@@ -5,19 +5,22 @@
 #![tactic(auto)]
 
 mod check;
+mod ordered;
 
 ghost use Rattle.std.specs.Prelude.{◌≡◌};
-ghost use Rattle.plan.specs.Record.{no_project, no_kind, no_plan};
+ghost use Rattle.plan.specs.Record.{no_plan};
+
+pub use ordered::Ordered;
 
 // A project's ceiling and budget.
-#[derive(Clone, Copy)]
+#[derive(Clone, Copy, Default, PartialEq)]
 pub struct Project {
     pub ceiling: u8,
     pub budget: u16,
 }
 
 // A unit kind: the project it names, and its separation, deadline and length in slices.
-#[derive(Clone, Copy)]
+#[derive(Clone, Copy, Default, PartialEq)]
 pub struct Kind {
     pub project: u8,
     pub separation: u16,
@@ -37,30 +40,8 @@ pub struct Plan {
     pub kind: [Kind; Plan::KINDS],
 }
 
-impl Project {
-    fn empty() -> Self
-        ensures { result ≡ no_project }
-    {
-        Project {
-            ceiling: 0,
-            budget: 0,
-        }
-    }
-}
-
 impl Kind {
     pub const LONGEST: u16 = 4095;
-
-    fn empty() -> Self
-        ensures { result ≡ no_kind }
-    {
-        Kind {
-            project: 0,
-            separation: 0,
-            deadline: 0,
-            length: 0,
-        }
-    }
 }
 
 impl Plan {
@@ -81,8 +62,8 @@ impl Plan {
             projects: 0,
             kinds: 0,
             frame: 0,
-            project: [Project::empty(); Plan::PROJECTS],
-            kind: [Kind::empty(); Plan::KINDS],
+            project: [Project::default(); Plan::PROJECTS],
+            kind: [Kind::default(); Plan::KINDS],
         }
     }
 }

@@ -46,7 +46,8 @@ spare_zero s = eqb (header_spare s) 0 && places_spare s
 
 -- ".. 1 for the total, 3, all projects for 4, then kind by kind 5 before 6, then 7"
 unfoldable pub body_answer : List ℕ → Answer
-body_answer s = refuse (ltb (length s) (size (headed s))) (bare 1) and_then (refuse (not (spare_zero s)) (bare 3) and_then ranges (decoded s))
+body_answer s =
+    refuse (ltb (length s) (size (headed s))) (bare 1) and_then (refuse (not (spare_zero s)) (bare 3) and_then ranges (decoded s))
 
 -- "Bytes: 1 for the first three bytes, 2, .."
 unfoldable pub read_answer : List ℕ → Answer

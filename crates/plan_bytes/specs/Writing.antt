@@ -6,7 +6,7 @@ use Rattle.answer.specs.declared.Answer.{Answer}
 use Rattle.answer.specs.Answer.{bare, refuse, ◌and_then◌, if_good}
 use Rattle.answer.specs.Outcome.{Leaves}
 use Rattle.plan.specs.Order.{checked}
-use Rattle.plan_bytes.specs.declared.Written.{Written}
+use Rattle.answer.specs.declared.Written.{Written}
 use Rattle.plan_bytes.specs.Parts.{encoded, size}
 pub mod Properties
 

@@ -55,18 +55,12 @@ pub const BEHIND_PROJECT: u64 = BITS_12 * BEHIND_SEPARATION;
 
 // What reading found: the answer, the plan (all zero where it is refused) and how many bytes it
 // took.
+// kept: "A refused read gives an all-zero plan and 0 bytes taken".
 #[derive(Clone, Copy)]
 pub struct Reading {
     pub answer: Answer,
     pub plan: Plan,
     pub taken: usize,
-}
-
-// What writing did: the answer and the count of bytes written.
-#[derive(Clone, Copy)]
-pub struct Written {
-    pub answer: Answer,
-    pub count: usize,
 }
 
 // The bytes that a plan with these counts takes.

@@ -13,14 +13,10 @@ use answer::Answer;
 pub fn parchbeetle_check(plan: &[u8]) -> u64
     ensures { result ≡ told (check_answer plan.now) 0 }
 {
-    let found = image_reader::plan_of(plan);
-    let seen = found.answer;
-    let Answer::Good = seen else {
-        return seen.told(0);
-    };
-    let given = found.plan;
-    let checked = given.check();
-    checked.told(0)
+    match image_reader::plan_of(plan) {
+        Ok(given) => given.check().told(0),
+        Err(why) => Answer::No(why).told(0),
+    }
 }
 
 // Reads plan bytes into an image.
@@ -44,12 +40,11 @@ pub fn parchbeetle_read(bytes: &[u8], plan: &mut [u8]) -> u64
 pub fn parchbeetle_write(plan: &[u8], out: &mut [u8]) -> u64
     ensures { WritesBytes plan.now out.old result out.new }
 {
-    let found = image_reader::plan_of(plan);
-    let seen = found.answer;
-    let Answer::Good = seen else {
-        return seen.told(0);
+    let given = match image_reader::plan_of(plan) {
+        Ok(given) => given,
+        Err(why) => return Answer::No(why).told(0),
     };
-    let done = plan_writer::write(found.plan, out);
+    let done = plan_writer::write(given, out);
     let answer = done.answer;
     let written = done.count as u16;
     answer.told(written)
@@ -59,12 +54,11 @@ pub fn parchbeetle_write(plan: &[u8], out: &mut [u8]) -> u64
 pub fn parchbeetle_slot_table(plan: &[u8], out: &mut [u8]) -> u64
     ensures { WritesSlots plan.now out.old result out.new }
 {
-    let found = image_reader::plan_of(plan);
-    let seen = found.answer;
-    let Answer::Good = seen else {
-        return seen.told(0);
+    let given = match image_reader::plan_of(plan) {
+        Ok(given) => given,
+        Err(why) => return Answer::No(why).told(0),
     };
-    let table = layout::slot_table(found.plan, out);
+    let table = layout::slot_table(given, out);
     let answer = table.answer;
     let slots = table.count as u16;
     answer.told(slots)

@@ -4,78 +4,34 @@
 
 mod part;
 
-ghost use Rattle.std.specs.Prelude.{◌≡◌, ◌&&◌, ◌+◌, ◌*◌, ◌≤◌, ◌<◌, length};
+ghost use Rattle.std.specs.Prelude.{◌≡◌, ◌==◌, ◌*◌, ◌≤◌, length, drop};
+ghost use Rattle.laws.specs.Written.{written};
+ghost use Rattle.laws.specs.All.{all_to};
 ghost use Rattle.plan.specs.Order.{sizes};
 ghost use Rattle.plan.specs.Record.{no_plan};
 ghost use Rattle.plan_bytes.specs.Parts.{projects_from, kinds_from, headed, decoded, size};
 ghost use Rattle.plan_bytes.specs.Reading.{projects_spare, kinds_spare, places_spare, header_spare, body_answer, read_of, reading};
 ghost use Rattle.plan_bytes.specs.Reading.{standing_in};
 
+use crate::part::{Part, Place};
 use answer::Answer;
-use plan::{Kind, Plan, Project};
-use plan_bytes::{HEADER, KIND, PROJECT, Reading, size};
+use plan::Plan;
+use plan_bytes::{HEADER, PROJECT, Reading, size};
 
-// The projects of a plan, and whether their spare bits are zero.
-#[derive(Clone, Copy)]
-struct Projects {
-    project: [Project; 8],
-    clean: bool,
-}
-
-// The unit kinds of a plan, and whether their spare bits are zero.
-#[derive(Clone, Copy)]
-struct Kinds {
-    kind: [Kind; 16],
-    clean: bool,
-}
-
-// A plan with its places, and whether every spare bit in these is zero.
-#[derive(Clone, Copy)]
-struct Placed {
-    plan: Plan,
-    clean: bool,
-}
-
-fn both(a: bool, b: bool) -> bool
-    ensures { result ≡ (a && b) }
+// Fills places from the bytes that start with the first of them, each from the sub-slice that
+// starts at it, and says whether every spare bit in them is zero.
+fn fill<T: Place>(s: &[u8], places: &mut [T]) -> bool
+    requires { T.WIDTH * length places.old ≤ length s.now }
+    ensures { (places.new ≡ written (length places.old) (λ j. T.read (drop (T.WIDTH * j) s.now)) places.old)
+        × (result ≡ all_to (length places.old) (λ j. T.spare (drop (T.WIDTH * j) s.now) == 0)) }
 {
-    a && b
-}
-
-// The projects, from the bytes that start after the header.
-fn projects_from(s: &[u8], count: u8) -> Projects
-    requires { (count ≤ 8) × (2 * count ≤ length s.now) }
-    ensures { (result.project ≡ projects_from count s.now) × (result.clean ≡ projects_spare count s.now) }
-{
-    let none = Plan::empty();
-    let mut project = none.project;
     let mut clean = true;
-    for j in 0..count as usize {
-        let at = PROJECT * j;
-        let part = part::project_from(&s[at..]);
-        let read = part.project;
-        project[j] = read;
-        clean = both(clean, part.spare == 0);
+    for (j, place) in places.iter_mut().enumerate() {
+        let part = T::from_front(&s[T::WIDTH * j..]);
+        *place = part.value;
+        clean &= part.clean;
     }
-    Projects { project, clean }
-}
-
-// The unit kinds, from the bytes that start after the projects.
-fn kinds_from(s: &[u8], count: u8) -> Kinds
-    requires { (count ≤ 16) × (5 * count ≤ length s.now) }
-    ensures { (result.kind ≡ kinds_from count s.now) × (result.clean ≡ kinds_spare count s.now) }
-{
-    let none = Plan::empty();
-    let mut kind = none.kind;
-    let mut clean = true;
-    for i in 0..count as usize {
-        let at = KIND * i;
-        let part = part::kind_from(&s[at..]);
-        let read = part.kind;
-        kind[i] = read;
-        clean = both(clean, part.spare == 0);
-    }
-    Kinds { kind, clean }
+    clean
 }
 
 // "A refused read gives an all-zero plan and 0 bytes taken."
@@ -90,32 +46,28 @@ fn refused(answer: Answer) -> Reading
 }
 
 // The plan whose counts were read, with its places, and whether every spare bit in these is zero.
-fn places(bytes: &[u8], plan: Plan) -> Placed
+fn places(bytes: &[u8], plan: Plan) -> Part<Plan>
     requires { (plan ≡ headed bytes.now) × (plan.projects ≤ 8) × (plan.kinds ≤ 16) × (size plan ≤ length bytes.now) }
-    ensures { (result.plan ≡ decoded bytes.now) × (result.clean ≡ places_spare bytes.now) }
+    ensures { (result.value ≡ decoded bytes.now) × (result.clean ≡ places_spare bytes.now) }
 {
-    let first = HEADER;
-    let projects = projects_from(&bytes[first..], plan.projects);
-    let next = HEADER + PROJECT * plan.projects as usize;
-    let kinds = kinds_from(&bytes[next..], plan.kinds);
-    let project = projects.project;
-    let kind = kinds.kind;
-    Placed {
-        plan: Plan {
-            cards: plan.cards,
-            projects: plan.projects,
-            kinds: plan.kinds,
-            frame: plan.frame,
+    let next = HEADER + PROJECT * usize::from(plan.projects);
+    let mut project = plan.project;
+    let mut kind = plan.kind;
+    let projects = fill(&bytes[HEADER..], &mut project[..usize::from(plan.projects)]);
+    let kinds = fill(&bytes[next..], &mut kind[..usize::from(plan.kinds)]);
+    Part {
+        value: Plan {
             project,
             kind,
+            ..plan
         },
-        clean: both(projects.clean, kinds.clean),
+        clean: projects & kinds,
     }
 }
 
 // What comes after the header's own refusals.
-fn body(bytes: &[u8], plan: Plan, spare: u8) -> Reading
-    requires { (plan ≡ headed bytes.now) × (spare ≡ header_spare bytes.now) × (sizes plan ≡ Answer.Good) }
+fn body(bytes: &[u8], plan: Plan, clean: bool) -> Reading
+    requires { (plan ≡ headed bytes.now) × (clean ≡ (header_spare bytes.now == 0)) × (sizes plan ≡ Answer.Good) }
     ensures { result ≡ reading (body_answer bytes.now) (decoded bytes.now) (size plan) }
 {
     let total = size(plan);
@@ -123,10 +75,10 @@ fn body(bytes: &[u8], plan: Plan, spare: u8) -> Reading
         return refused(Answer::bare(1));
     }
     let placed = places(bytes, plan);
-    if !both(spare == 0, placed.clean) {
+    if !(clean & placed.clean) {
         return refused(Answer::bare(3));
     }
-    let plan = placed.plan;
+    let plan = placed.value;
     let checked = plan.check();
     let Answer::Good = checked else {
         return refused(checked);
@@ -146,12 +98,12 @@ pub fn read(bytes: &[u8]) -> Reading
         return refused(Answer::bare(1));
     }
     let header = part::header_from(bytes);
-    let plan = header.plan;
+    let plan = header.value;
     let sizes = plan.sizes();
     let Answer::Good = sizes else {
         return refused(sizes);
     };
-    body(bytes, plan, header.spare)
+    body(bytes, plan, header.clean)
 }
 
 // The plan that stands at the front of bytes: 1 and 2 are asked, and nothing after them.
@@ -163,7 +115,7 @@ pub fn standing(bytes: &[u8]) -> Reading
         return refused(Answer::bare(1));
     }
     let header = part::header_from(bytes);
-    let plan = header.plan;
+    let plan = header.value;
     let sizes = plan.sizes();
     let Answer::Good = sizes else {
         return refused(sizes);
@@ -172,11 +124,9 @@ pub fn standing(bytes: &[u8]) -> Reading
     if held < total {
         return refused(Answer::bare(1));
     }
-    let placed = places(bytes, plan);
-    let whole = placed.plan;
     Reading {
         answer: Answer::Good,
-        plan: whole,
+        plan: places(bytes, plan).value,
         taken: total,
     }
 }

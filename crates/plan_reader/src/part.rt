@@ -1,6 +1,5 @@
 // The parts of a plan's bytes, each read from the front of what is given.
-ghost use Rattle.std.specs.Prelude.{◌≡◌, ◌≤◌, length};
-ghost use Rattle.codec.specs.Bytes.{number_to};
+ghost use Rattle.std.specs.Prelude.{◌≡◌, ◌==◌, ◌≤◌, List, ℕ, length};
 ghost use Rattle.plan_bytes.specs.Parts.{headed, project_from, kind_from};
 ghost use Rattle.plan_bytes.specs.Reading.{header_spare, project_spare, kind_spare};
 
@@ -11,77 +10,89 @@ use plan_bytes::{
     BITS_4, BITS_5, BITS_7, BITS_10, BITS_12, HEADER, KIND, PROJECT,
 };
 
+// What some bytes say, and whether every spare bit in them is zero.
+// kept: a flag and no Option, since `standing` takes the value whatever the spare bits are.
 #[derive(Clone, Copy)]
-pub struct Header {
-    pub plan: Plan,
-    pub spare: u8,
+pub struct Part<T> {
+    pub value: T,
+    pub clean: bool,
 }
 
-#[derive(Clone, Copy)]
-pub struct ProjectPart {
-    pub project: Project,
-    pub spare: u8,
-}
+// What stands at places of a plan's bytes: a project or a unit kind.
+pub(crate) trait Place: Copy {
+    ghost WIDTH: { ℕ };
 
-#[derive(Clone, Copy)]
-pub struct KindPart {
-    pub kind: Kind,
-    pub spare: u8,
-}
+    ghost read: { List ℕ → Self };
 
-// The number that so many bytes say.
-fn number(s: &[u8], count: usize) -> u64
-    requires { (count ≤ length s.now) × (count ≤ 8) }
-    ensures { result ≡ number_to count s.now }
-{
-    codec::number(s, count)
+    ghost spare: { List ℕ → ℕ };
+
+    // The bytes of a place.
+    const WIDTH: usize;
+
+    // What stands at the front of s, with its spare bits.
+    fn from_front(s: &[u8]) -> Part<Self>
+        requires { WIDTH ≤ length s.now }
+        ensures { (result.value ≡ read s.now) × (result.clean ≡ (spare s.now == 0)) };
 }
 
 // The counts at the front of s, with the spare bits after them.
-pub(crate) fn header_from(s: &[u8]) -> Header
+pub(crate) fn header_from(s: &[u8]) -> Part<Plan>
     requires { 3 ≤ length s.now }
-    ensures { (result.plan ≡ headed s.now) × (result.spare ≡ header_spare s.now) }
+    ensures { (result.value ≡ headed s.now) × (result.clean ≡ (header_spare s.now == 0)) }
 {
-    let fields = number(s, HEADER);
-    let mut plan = Plan::empty();
-    plan.cards = (fields / BEHIND_CARDS % BITS_4) as u8;
-    plan.projects = (fields / BEHIND_PROJECTS % BITS_4) as u8;
-    plan.kinds = (fields / BEHIND_KINDS % BITS_5) as u8;
-    plan.frame = (fields / BEHIND_FRAME % BITS_7) as u8;
-    Header {
-        plan,
-        spare: (fields % BITS_4) as u8,
+    let fields = codec::number(s, HEADER);
+    Part {
+        value: Plan {
+            cards: (fields / BEHIND_CARDS % BITS_4) as u8,
+            projects: (fields / BEHIND_PROJECTS % BITS_4) as u8,
+            kinds: (fields / BEHIND_KINDS % BITS_5) as u8,
+            frame: (fields / BEHIND_FRAME % BITS_7) as u8,
+            ..Plan::empty()
+        },
+        clean: fields % BITS_4 == 0,
     }
 }
 
-// A project at the front of s, with its spare bits.
-pub(crate) fn project_from(s: &[u8]) -> ProjectPart
-    requires { 2 ≤ length s.now }
-    ensures { (result.project ≡ project_from s.now) × (result.spare ≡ project_spare s.now) }
-{
-    let fields = number(s, PROJECT);
-    ProjectPart {
-        project: Project {
-            ceiling: (fields / BEHIND_CEILING % BITS_4) as u8,
-            budget: (fields / BEHIND_BUDGET % BITS_10) as u16,
-        },
-        spare: (fields % BITS_2) as u8,
+impl Place for Project {
+    ghost WIDTH = { 2 };
+
+    ghost read = { project_from };
+
+    ghost spare = { project_spare };
+
+    const WIDTH: usize = PROJECT;
+
+    fn from_front(s: &[u8]) -> Part<Self> {
+        let fields = codec::number(s, PROJECT);
+        Part {
+            value: Project {
+                ceiling: (fields / BEHIND_CEILING % BITS_4) as u8,
+                budget: (fields / BEHIND_BUDGET % BITS_10) as u16,
+            },
+            clean: fields % BITS_2 == 0,
+        }
     }
 }
 
-// A unit kind at the front of s, with its spare bit.
-pub(crate) fn kind_from(s: &[u8]) -> KindPart
-    requires { 5 ≤ length s.now }
-    ensures { (result.kind ≡ kind_from s.now) × (result.spare ≡ kind_spare s.now) }
-{
-    let fields = number(s, KIND);
-    KindPart {
-        kind: Kind {
-            project: (fields / BEHIND_PROJECT % BITS_3) as u8,
-            separation: (fields / BEHIND_SEPARATION % BITS_12) as u16,
-            deadline: (fields / BEHIND_DEADLINE % BITS_12) as u16,
-            length: (fields / BEHIND_LENGTH % BITS_12) as u16,
-        },
-        spare: (fields % BITS_1) as u8,
+impl Place for Kind {
+    ghost WIDTH = { 5 };
+
+    ghost read = { kind_from };
+
+    ghost spare = { kind_spare };
+
+    const WIDTH: usize = KIND;
+
+    fn from_front(s: &[u8]) -> Part<Self> {
+        let fields = codec::number(s, KIND);
+        Part {
+            value: Kind {
+                project: (fields / BEHIND_PROJECT % BITS_3) as u8,
+                separation: (fields / BEHIND_SEPARATION % BITS_12) as u16,
+                deadline: (fields / BEHIND_DEADLINE % BITS_12) as u16,
+                length: (fields / BEHIND_LENGTH % BITS_12) as u16,
+            },
+            clean: fields % BITS_1 == 0,
+        }
     }
 }

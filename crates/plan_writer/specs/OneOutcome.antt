@@ -4,7 +4,7 @@ use Rattle.std.specs.Prelude.{List, ℕ}
 use Rattle.answer.specs.Outcome.{One, Lent}
 use Rattle.answer.specs.Outcome.Properties.{leaves_one}
 use Rattle.plan.specs.declared.Plan.{Plan}
-use Rattle.plan_bytes.specs.declared.Written.{Written}
+use Rattle.answer.specs.declared.Written.{Written}
 use Rattle.plan_bytes.specs.Writing.{Writes}
 
 -- `write`

@@ -4,35 +4,25 @@
 
 mod part;
 
-ghost use Rattle.std.specs.Prelude.{◌≡◌, ◌+◌, ◌*◌, ◌≤◌, ◌++◌, length, drop};
-ghost use Rattle.plan_bytes.specs.Parts.{size, encoded, project_bytes_at, kind_bytes_at};
+ghost use Rattle.std.specs.Prelude.{◌≡◌, ◌+◌, ◌*◌, ◌≤◌, ◌++◌, length, get_or, drop};
+ghost use Rattle.codec.specs.Bytes.{bytes_of};
+ghost use Rattle.plan_bytes.specs.Parts.{size, encoded};
 ghost use Rattle.codec.specs.Places.{put_to};
 ghost use Rattle.plan_bytes.specs.Writing.{Writes};
 
-use answer::Answer;
+use crate::part::Place;
+use answer::{Answer, Written};
 use plan::Plan;
-use plan_bytes::{HEADER, KIND, PROJECT, Written, size};
+use plan_bytes::{HEADER, PROJECT, size};
 
-// The projects, after the header.
-fn put_projects(plan: Plan, out: &mut [u8])
-    requires { (plan.projects ≤ 8) × (3 + 2 * plan.projects ≤ length out.old) }
-    ensures { out.new ≡ put_to plan.projects (project_bytes_at plan) 3 2 out.old }
+// Stores places one after the other, from index start on.
+fn store<T: Place>(places: &[T], out: &mut [u8], start: usize)
+    requires { start + T.WIDTH * length places.now ≤ length out.old }
+    ensures { out.new ≡ put_to (length places.now) (λ j. bytes_of T.WIDTH (T.packed (get_or places.now j T.none))) start T.WIDTH out.old }
 {
-    for j in 0..plan.projects as usize {
-        let project = plan.project[j];
-        part::put_project(project, out, HEADER + PROJECT * j);
-    }
-}
-
-// The unit kinds, after the projects.
-fn put_kinds(plan: Plan, out: &mut [u8])
-    requires { (plan.kinds ≤ 16) × (3 + 2 * plan.projects + 5 * plan.kinds ≤ length out.old) }
-    ensures { out.new ≡ put_to plan.kinds (kind_bytes_at plan) (3 + 2 * plan.projects) 5 out.old }
-{
-    let start = HEADER + PROJECT * plan.projects as usize;
-    for i in 0..plan.kinds as usize {
-        let kind = plan.kind[i];
-        part::put_kind(kind, out, start + KIND * i);
+    for (j, place) in places.iter().enumerate() {
+        let at = start + T::WIDTH * j;
+        codec::put_number(place.fields(), &mut out[at..at + T::WIDTH]);
     }
 }
 
@@ -42,8 +32,9 @@ fn put(plan: Plan, out: &mut [u8])
     ensures { out.new ≡ encoded plan ++ drop (size plan) out.old }
 {
     part::put_header(plan, out);
-    put_projects(plan, out);
-    put_kinds(plan, out);
+    store(&plan.project[..usize::from(plan.projects)], out, HEADER);
+    let start = HEADER + PROJECT * usize::from(plan.projects);
+    store(&plan.kind[..usize::from(plan.kinds)], out, start);
 }
 
 // Writes the plan's bytes to the front of out.

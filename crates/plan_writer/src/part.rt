@@ -1,62 +1,71 @@
 // The parts of a plan's bytes, each written at its place.
-ghost use Rattle.std.specs.Prelude.{◌≡◌, ◌+◌, ◌≤◌, ◌<◌, length};
+ghost use Rattle.std.specs.Prelude.{◌≡◌, ℕ, ◌≤◌, [], ◌∷◌, length};
 ghost use Rattle.std.proofs.lemmas.List.Edits.{sets};
-ghost use Rattle.plan_bytes.specs.Parts.{header_bytes, project_bytes, kind_bytes};
+ghost use Rattle.codec.specs.Pack.{pack};
+ghost use Rattle.plan.specs.Record.{no_project, no_kind};
+ghost use Rattle.plan_bytes.specs.Parts.{header_bytes, project_widths, kind_widths};
 
 use plan::{Kind, Plan, Project};
 use plan_bytes::{
     BEHIND_BUDGET, BEHIND_CARDS, BEHIND_CEILING, BEHIND_DEADLINE, BEHIND_FRAME, BEHIND_KINDS,
-    BEHIND_LENGTH, BEHIND_PROJECT, BEHIND_PROJECTS, BEHIND_SEPARATION,
+    BEHIND_LENGTH, BEHIND_PROJECT, BEHIND_PROJECTS, BEHIND_SEPARATION, HEADER, KIND, PROJECT,
 };
-
-fn wide(x: u8) -> u64
-    ensures { (result ≡ x) × (result < 256) }
-{
-    x as u64
-}
-
-fn wider(x: u16) -> u64
-    ensures { (result ≡ x) × (result < 65536) }
-{
-    x as u64
-}
 
 // The header of a plan, at the front of out.
 pub(crate) fn put_header(plan: Plan, out: &mut [u8])
     requires { 3 ≤ length out.old }
     ensures { out.new ≡ sets out.old 0 (header_bytes plan) }
 {
-    let fields = wide(plan.cards) * BEHIND_CARDS
-        + wide(plan.projects) * BEHIND_PROJECTS
-        + wide(plan.kinds) * BEHIND_KINDS
-        + wide(plan.frame) * BEHIND_FRAME;
-    out[0] = (fields / 65536 % 256) as u8;
-    out[1] = (fields / 256 % 256) as u8;
-    out[2] = (fields % 256) as u8;
+    let fields = u64::from(plan.cards) * BEHIND_CARDS
+        + u64::from(plan.projects) * BEHIND_PROJECTS
+        + u64::from(plan.kinds) * BEHIND_KINDS
+        + u64::from(plan.frame) * BEHIND_FRAME;
+    codec::put_number(fields, &mut out[..HEADER]);
 }
 
-// A project, from index at on.
-pub(crate) fn put_project(project: Project, out: &mut [u8], at: usize)
-    requires { at + 2 ≤ length out.old }
-    ensures { out.new ≡ sets out.old at (project_bytes project) }
-{
-    let fields = wide(project.ceiling) * BEHIND_CEILING + wider(project.budget) * BEHIND_BUDGET;
-    out[at] = (fields / 256 % 256) as u8;
-    out[at + 1] = (fields % 256) as u8;
+// What is written at places of a plan's bytes: a project or a unit kind.
+pub(crate) trait Place: Copy {
+    ghost WIDTH: { ℕ };
+
+    ghost none: { Self };
+
+    ghost packed: { Self → ℕ };
+
+    // The bytes of a place.
+    const WIDTH: usize;
+
+    // Its fields as one number.
+    fn fields(self) -> u64
+        ensures { result ≡ packed self };
 }
 
-// A unit kind, from index at on.
-pub(crate) fn put_kind(kind: Kind, out: &mut [u8], at: usize)
-    requires { at + 5 ≤ length out.old }
-    ensures { out.new ≡ sets out.old at (kind_bytes kind) }
-{
-    let fields = wide(kind.project) * BEHIND_PROJECT
-        + wider(kind.separation) * BEHIND_SEPARATION
-        + wider(kind.deadline) * BEHIND_DEADLINE
-        + wider(kind.length) * BEHIND_LENGTH;
-    out[at] = (fields / 4294967296 % 256) as u8;
-    out[at + 1] = (fields / 16777216 % 256) as u8;
-    out[at + 2] = (fields / 65536 % 256) as u8;
-    out[at + 3] = (fields / 256 % 256) as u8;
-    out[at + 4] = (fields % 256) as u8;
+impl Place for Project {
+    ghost WIDTH = { 2 };
+
+    ghost none = { no_project };
+
+    ghost packed = { λ v. pack project_widths (v.ceiling ∷ v.budget ∷ 0 ∷ []) };
+
+    const WIDTH: usize = PROJECT;
+
+    fn fields(self) -> u64 {
+        u64::from(self.ceiling) * BEHIND_CEILING + u64::from(self.budget) * BEHIND_BUDGET
+    }
+}
+
+impl Place for Kind {
+    ghost WIDTH = { 5 };
+
+    ghost none = { no_kind };
+
+    ghost packed = { λ v. pack kind_widths (v.project ∷ v.separation ∷ v.deadline ∷ v.length ∷ 0 ∷ []) };
+
+    const WIDTH: usize = KIND;
+
+    fn fields(self) -> u64 {
+        u64::from(self.project) * BEHIND_PROJECT
+            + u64::from(self.separation) * BEHIND_SEPARATION
+            + u64::from(self.deadline) * BEHIND_DEADLINE
+            + u64::from(self.length) * BEHIND_LENGTH
+    }
 }

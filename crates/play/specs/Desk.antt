@@ -1,12 +1,11 @@
 -- The loop of `play`: where a play of standard input stands between two rounds, and what a round leaves, for whatever a read may bring and
 -- a write may answer.
 -- Assumes nothing.
-use Rattle.std.specs.Prelude.{ℕ, suc, ◌+◌, ◌-◌, ◌^◌, ◌≤◌, ◌<◌, min, ◌≡◌, Bool, true, false, cond, List, [], ◌++◌, eqb, length, take, drop, ℤ, pos, negsuc}
+use Rattle.std.specs.Prelude.{ℕ, suc, ◌+◌, ◌-◌, ◌^◌, ◌≤◌, ◌<◌, ◌≡◌, Bool, true, false, cond, List, [], ◌++◌, Option, None, Some, Result, Ok}
+use Rattle.std.specs.Prelude.{Err, eqb, length, take, drop}
 use Rattle.lines.specs.Line.{line_room}
 use Rattle.player.specs.declared.session.Session.{Session}
 use Rattle.player.specs.Session.{unopened, is_over, Move, play_of}
-use Rattle.play.specs.declared.Arrival.{Arrival}
-use Rattle.play.specs.declared.Arrival.TheVariants.{Came, Failed}
 use Rattle.play.specs.declared.Course.{Course}
 use Rattle.play.specs.declared.Course.TheVariants.{On, Over, Unread, Unwritten}
 use Rattle.play.specs.declared.Desk.{Desk}
@@ -41,18 +40,18 @@ lines_now desk input room = play_of desk.session desk.last (holds desk input) ro
 
 -- ---- what comes from outside
 
--- what a read's answer says, of so many bytes asked for: a number below 0 is a failure
-abbrev pub arrival_of : ℤ → ℕ → Arrival
-arrival_of (pos k) asked = Came (min k asked)
-arrival_of (negsuc k) asked = Failed
+-- what a read's answer says: a count, or else that it failed
+abbrev pub arrival_of : {E : Type 0} → Result ℕ E → Option ℕ
+arrival_of (Ok n) = Some n
+arrival_of (Err e) = None
 
 -- how many bytes came
-abbrev pub count_of : Arrival → ℕ
-count_of (Came n) = n
-count_of Failed = 0
+abbrev pub count_of : Option ℕ → ℕ
+count_of (Some n) = n
+count_of None = 0
 
 -- reading keeps the bytes in front of index `held`, and puts what came behind them
-pub record Arrives (before : List ℕ) (held : ℕ) (a : Arrival) (after : List ℕ) : Type 0 where
+pub record Arrives (before : List ℕ) (held : ℕ) (a : Option ℕ) (after : List ℕ) : Type 0 where
   pub kept : take held after ≡ take held before
   pub long : length after ≡ length before
   pub most : held + count_of a ≤ length after
@@ -73,13 +72,13 @@ ended_of desk = record { session = desk.session; from = desk.from; to = desk.to;
 
 -- so many bytes are held at the front, and what a read brought stands behind them; a read that brings nothing says that the input has
 -- ended, one that fails does not
-abbrev pub heard_of : Session → ℕ → Arrival → Desk
-heard_of x held (Came n) = record { session = x; from = 0; to = held + n; last = eqb n 0; course = On }
-heard_of x held Failed = record { session = x; from = 0; to = held; last = false; course = Unread }
+abbrev pub heard_of : Session → ℕ → Option ℕ → Desk
+heard_of x held (Some n) = record { session = x; from = 0; to = held + n; last = eqb n 0; course = On }
+heard_of x held None = record { session = x; from = 0; to = held; last = false; course = Unread }
 
 -- one read, behind the bytes that are held
 pub record Hears (desk : Desk) (input : List ℕ) (r : Desk) (after : List ℕ) : Type 0 where
-  pub arrival : Arrival
+  pub arrival : Option ℕ
   pub result : r ≡ heard_of desk.session (length (holds desk input)) arrival
   pub kept : take (length (holds desk input)) after ≡ holds desk input
   pub long : length after ≡ length input

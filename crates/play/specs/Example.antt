@@ -14,10 +14,10 @@ use Rattle.plan.specs.Order.{projects_in_range, kind_in_range, kinds_in_range, b
 use Rattle.codec.specs.Pack.{unpack}
 use Rattle.codec.specs.Bytes.{number_to}
 use Rattle.codec.specs.Places.{parts_to}
-use Rattle.plan_bytes.specs.Parts.{size, header_fields, project_fields, kind_fields, project_from, kind_from, projects_from, kinds_from, headed}
-use Rattle.plan_bytes.specs.Parts.{decoded}
-use Rattle.plan_bytes.specs.Reading.{header_spare, project_spare, kind_spare, projects_spare, kinds_spare, places_spare, spare_zero, body_answer}
-use Rattle.plan_bytes.specs.Reading.{read_answer, read_of}
+use Rattle.plan_bytes.specs.Parts.{size, header_fields, project_fields, kind_fields, project_from, kind_from, projects_from, kinds_from}
+use Rattle.plan_bytes.specs.Parts.{headed, decoded}
+use Rattle.plan_bytes.specs.Reading.{header_spare, project_spare, kind_spare, projects_spare, kinds_spare, places_spare, spare_zero}
+use Rattle.plan_bytes.specs.Reading.{body_answer, read_answer, read_of}
 use Rattle.layout.specs.Cards.{held_from}
 use Rattle.layout.specs.Layout.{cell_at, first_cell, owns, slot_of, held}
 use Rattle.supply.specs.Supply.{window, supply}
@@ -60,14 +60,14 @@ abbrev pub output : List ℕ
 output = ascii "plan ok\nr 0 6 ok\nr 1 2 ok\nr 2 2 ok\nt 0: 1 2\nt 1: 1 2\nt 2: 1 3\nt 3: 3 0\nr 1 2 ok\nr 2 1 refused 14\nend 0\n"
 
 pub example : played input ≡ output
-unfolding sum_to least_to first_to count_to all_to written rank_in first_in sooner each_to within sized empty_project empty_kind tidy_projects
-    tidy_kinds in_range timed budgets sizes unused projects_in_range kind_in_range kinds_in_range budgets_fit ranges checked unpack number_to
-    size parts_to header_fields project_fields kind_fields project_from kind_from projects_from kinds_from headed decoded header_spare
-    project_spare kind_spare projects_spare kinds_spare places_spare spare_zero body_answer read_answer read_of cell_at held_from first_cell
-    owns slot_of held window supply workload_part fits_at least_width greatest_to allowed_length least_excess besides part_of workload
-    width_of excess_of fitted admitted untouched due_in_time underway unit_in_form empty_unit early startable left_for project_left sums_right
-    sum_fits sums_in_form in_form sums_told ready until_due gone_after left_after working active outranks has_card cards_held rank_of chosen
-    takes_card byte_on view_of rank served byte_by row_byte start_answer start_of release_answer released release_of unit_after served_for
-    sum_after advanced room_for show_answer advance_of command_fields fields_say command_of decimal_in decimal plan_line outcome release_line
-    row_text slice_line end_line line_of after turns opening played
+unfolding sum_to least_to first_to count_to all_to written rank_in first_in sooner each_to within sized empty_project empty_kind
+    tidy_projects tidy_kinds in_range timed budgets sizes unused projects_in_range kind_in_range kinds_in_range budgets_fit ranges checked
+    unpack number_to size parts_to header_fields project_fields kind_fields project_from kind_from projects_from kinds_from headed decoded
+    header_spare project_spare kind_spare projects_spare kinds_spare places_spare spare_zero body_answer read_answer read_of cell_at
+    held_from first_cell owns slot_of held window supply workload_part fits_at least_width greatest_to allowed_length least_excess besides
+    part_of workload width_of excess_of fitted admitted untouched due_in_time underway unit_in_form empty_unit early startable left_for
+    project_left sums_right sum_fits sums_in_form in_form sums_told ready until_due gone_after left_after working active outranks has_card
+    cards_held rank_of chosen takes_card byte_on view_of rank served byte_by row_byte start_answer start_of release_answer released
+    release_of unit_after served_for sum_after advanced room_for show_answer advance_of command_fields fields_say command_of decimal_in
+    decimal plan_line outcome release_line row_text slice_line end_line line_of after turns opening played
 example = refl

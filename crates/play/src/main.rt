@@ -35,12 +35,7 @@ impl Course {
     fn is_closed(self) -> bool
         ensures { result ≡ is_closed self }
     {
-        match self {
-            Course::On => false,
-            Course::Over => true,
-            Course::Unread => true,
-            Course::Unwritten => true,
-        }
+        !matches!(self, Course::On)
     }
 }
 
@@ -55,49 +50,35 @@ struct Desk {
     course: Course,
 }
 
-// What a read brings: so many bytes, none at the end of the input, or its failure.
-#[derive(Clone, Copy)]
-enum Arrival {
-    Came(usize),
-    Failed,
-}
-
-// What a read's answer says.
-fn brought(got: isize, asked: &[u8]) -> Arrival
-    ensures { result ≡ arrival_of got (length asked.now) }
+// What a read's answer says: so many bytes, none at the end of the input, or its failure.
+fn brought(read: std::io::Result<usize>) -> Option<usize>
+    ensures { result ≡ arrival_of read }
 {
-    if got < 0 {
-        return Arrival::Failed;
-    }
-    Arrival::Came(io::count(got, asked))
+    read.ok()
 }
 
 // Reads behind the bytes that are held. There is room, so that 0 means the end of the input.
-fn read_more(stdin: &mut Stdin, input: &mut [u8], held: usize) -> Arrival
+fn read_more(stdin: &mut Stdin, input: &mut [u8], held: usize) -> Option<usize>
     requires { held < length input.old }
     ensures { Arrives input.old held result input.new }
 {
-    let got = match stdin.read(&mut input[held..]) {
-        Ok(count) => count as isize,
-        Err(_) => -1,
-    };
-    brought(got, &input[held..])
+    brought(stdin.read(&mut input[held..]))
 }
 
 // The play after a read, whose bytes stand behind those that are held.
-fn heard(session: Session, held: usize, arrival: Arrival) -> Desk
+fn heard(session: Session, held: usize, arrival: Option<usize>) -> Desk
     requires { held + count_of arrival < 2 ^ 64 }
     ensures { result ≡ heard_of session held arrival }
 {
     match arrival {
-        Arrival::Came(more) => Desk {
+        Some(more) => Desk {
             session,
             from: 0,
             to: held + more,
             last: more == 0,
             course: Course::On,
         },
-        Arrival::Failed => Desk {
+        None => Desk {
             session,
             from: 0,
             to: held,
@@ -112,25 +93,18 @@ fn listen(stdin: &mut Stdin, desk: Desk, input: &mut [u8]) -> Desk
     requires { (Fits desk input.old) × (desk.to - desk.from < length input.old) }
     ensures { Hears desk input.old result input.new }
 {
-    let session = desk.session;
-    let from = desk.from;
-    let to = desk.to;
-    let held = commands::keep(input, from, to);
+    let held = commands::keep(input, desk.from, desk.to);
     let arrival = read_more(stdin, input, held);
-    heard(session, held, arrival)
+    heard(desk.session, held, arrival)
 }
 
 // The last line is printed.
 fn ended(desk: Desk) -> Desk
     ensures { result ≡ ended_of desk }
 {
-    let session = desk.session;
     Desk {
-        session,
-        from: desk.from,
-        to: desk.to,
-        last: desk.last,
         course: Course::Over,
+        ..desk
     }
 }
 
@@ -139,9 +113,10 @@ fn after_write(written: bool) -> Course
     ensures { result ≡ course_of written }
 {
     if written {
-        return Course::On;
+        Course::On
+    } else {
+        Course::Unwritten
     }
-    Course::Unwritten
 }
 
 // The play after lines that took so many bytes.
@@ -149,13 +124,11 @@ fn told(desk: Desk, session: Session, taken: usize, written: bool) -> Desk
     requires { desk.from + taken < 2 ^ 64 }
     ensures { result ≡ told_of desk session taken written }
 {
-    let course = after_write(written);
     Desk {
         session,
         from: desk.from + taken,
-        to: desk.to,
-        last: desk.last,
-        course,
+        course: after_write(written),
+        ..desk
     }
 }
 
@@ -164,21 +137,17 @@ fn round(stdin: &mut Stdin, desk: Desk, input: &mut [u8], output: &mut [u8]) -> 
     requires { (Fits desk input.old) × (line_room ≤ length input.old) × (line_room ≤ length output.old) }
     ensures { Round desk input.old output.old result input.new output.new }
 {
-    let session = desk.session;
-    let from = desk.from;
-    let to = desk.to;
-    let last = desk.last;
-    let progress = session.play(&input[from..to], last, output);
-    let count = progress.count;
-    if count == 0 {
-        if session.is_over() {
+    let progress = desk
+        .session
+        .play(&input[desk.from..desk.to], desk.last, output);
+    if progress.count == 0 {
+        if desk.session.is_over() {
             return ended(desk);
         }
         return listen(stdin, desk, input);
     }
-    let written = io::write_all(STDOUT_FILENO, &output[..count]);
-    let after = progress.session;
-    told(desk, after, progress.taken, written)
+    let written = io::write_all(STDOUT_FILENO, &output[..progress.count]);
+    told(desk, progress.session, progress.taken, written)
 }
 
 // A proved loop has to end, and nothing says that the input does. So it counts its rounds, up to
@@ -194,14 +163,11 @@ fn play_all(stdin: &mut Stdin, input: &mut [u8], output: &mut [u8]) -> Desk
         last: false,
         course: Course::On,
     };
-    let mut rounds = 0u64;
-    while rounds < u64::MAX {
-        let course = desk.course;
-        if course.is_closed() {
+    for _rounds in 0..u64::MAX {
+        if desk.course.is_closed() {
             return desk;
         }
         desk = round(stdin, desk, input, output);
-        rounds += 1;
     }
     desk
 }

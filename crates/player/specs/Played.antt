@@ -1,13 +1,12 @@
 -- Document 01, "The player": the whole output for the whole input.
 -- Assumes nothing.
-use Rattle.std.specs.Prelude.{ℕ, List, [], ◌∷◌, ◌++◌, drop}
+use Rattle.std.specs.Prelude.{ℕ, List, [], ◌∷◌, ◌++◌, Option, None, Some, drop}
 use Rattle.answer.specs.declared.Answer.{Answer}
 use Rattle.answer.specs.Answer.{◌and_then◌, if_good}
 use Rattle.plan_bytes.specs.Reading.{read_of}
 use Rattle.rack.specs.declared.State.{State}
 use Rattle.rack.specs.Start.{start_of}
 use Rattle.commands.specs.declared.command.Command.{Command}
-use Rattle.commands.specs.declared.command.Command.TheVariants.{Slice, Release, Bad}
 use Rattle.lines.specs.Line.{plan_line, bad_line, end_line}
 use Rattle.commands.specs.Command.{command_of}
 use Rattle.player.specs.Turn.{line_of, after}
@@ -15,10 +14,9 @@ pub mod Properties
 pub mod Front
 
 -- "print `bad command`; no more is read": what follows a command's line, where it goes on and where it does not
-abbrev pub onward : Command → List ℕ → List ℕ → List ℕ
-onward Slice on stop = on
-onward (Release kind e) on stop = on
-onward Bad on stop = stop
+abbrev pub onward : Option Command → List ℕ → List ℕ → List ℕ
+onward (Some k) on stop = on
+onward None on stop = stop
 
 -- "then commands of three bytes": a line for each, and "Last line after a good plan, also then: `end CLOCK`"
 unfoldable pub turns : State → List ℕ → List ℕ

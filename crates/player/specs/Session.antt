@@ -1,6 +1,7 @@
 -- A play line by line: where it stands, what its next line takes of the bytes that are there and prints, and the lines that fit a buffer.
 -- Assumes nothing.
-use Rattle.std.specs.Prelude.{ℕ, zero, suc, ◌+◌, ◌-◌, ◌≤◌, ◌≡◌, Bool, true, false, cond, not, ◌&&◌, ◌||◌, List, [], ◌++◌, ltb, eqb, length, take, drop}
+use Rattle.std.specs.Prelude.{ℕ, zero, suc, ◌+◌, ◌-◌, ◌≤◌, ◌≡◌, Bool, true, false, cond, not, ◌&&◌, ◌||◌, List, [], ◌++◌, ltb, eqb, Option}
+use Rattle.std.specs.Prelude.{None, Some, length, take, drop}
 use Rattle.answer.specs.declared.Answer.{Answer}
 use Rattle.answer.specs.Answer.{number, if_good}
 use Rattle.plan_bytes.specs.Reading.{read_of}
@@ -8,10 +9,9 @@ use Rattle.rack.specs.declared.State.{State}
 use Rattle.rack.specs.State.{no_state}
 use Rattle.rack.specs.Start.{start_of}
 use Rattle.commands.specs.declared.command.Command.{Command}
-use Rattle.commands.specs.declared.command.Command.TheVariants.{Slice, Release, Bad}
-use Rattle.player.specs.declared.session.Stage.{Stage}
-use Rattle.player.specs.declared.session.Stage.TheVariants.{Opening, Running, Over}
+use Rattle.commands.specs.declared.command.Command.TheVariants.{Slice, Release}
 use Rattle.player.specs.declared.session.Session.{Session}
+use Rattle.player.specs.declared.session.Session.TheVariants.{Opening, Running, Over}
 use Rattle.player.specs.declared.session.Progress.{Progress}
 use Rattle.lines.specs.Line.{plan_line, bad_line, end_line, line_room}
 use Rattle.commands.specs.Command.{command_of}
@@ -23,29 +23,19 @@ pub mod Properties
 
 -- before the plan
 abbrev pub unopened : Session
-unopened = record { stage = Opening; state = no_state }
-
--- among the commands
-abbrev pub running : State → Session
-running s = record { stage = Running; state = s }
-
--- after the last line
-abbrev pub over : State → Session
-over s = record { stage = Over; state = s }
-
--- one of three, by the stage
-abbrev pub at_stage : {A : Type 0} → Stage → A → A → A → A
-at_stage Opening a b c = a
-at_stage Running a b c = b
-at_stage Over a b c = c
+unopened = Opening
 
 -- whether the last line was printed
 abbrev pub is_over : Session → Bool
-is_over x = at_stage x.stage false false true
+is_over Opening = false
+is_over (Running s) = false
+is_over (Over s) = true
 
 -- what is still to be printed, of all the input that is still to be taken
 unfoldable pub remaining : Session → List ℕ → List ℕ
-remaining x input = at_stage x.stage (played input) (turns x.state input) []
+remaining Opening input = played input
+remaining (Running s) input = turns s input
+remaining (Over s) input = []
 
 -- ---- the next line
 
@@ -62,37 +52,38 @@ stay x = record { session = x; taken = 0; text = [] }
 -- "First line: `plan ok` or `plan refused N at P`, and then it stops"
 abbrev pub first_line : Answer → State → ℕ → Move
 first_line a s n =
-    record { session = record { stage = if_good a Running Over; state = if_good a s no_state }; taken = if_good a n 0; text = plan_line a }
+    record { session = if_good a (Running s) (Over no_state); taken = if_good a n 0; text = plan_line a }
 
 -- "`plan refused N at P`, and then it stops"
 abbrev pub refused_at : Answer → Move
-refused_at a = record { session = over no_state; taken = 0; text = plan_line a }
+refused_at a = record { session = Over no_state; taken = 0; text = plan_line a }
 
 -- the first line, unless the plan is cut short and the input has not ended with these bytes
-unfoldable pub open_of : Session → Bool → List ℕ → Move
-open_of x last bytes =
-    cond (not last && eqb (number (read_of bytes).answer) 1) (stay x)
+unfoldable pub open_of : Bool → List ℕ → Move
+open_of last bytes =
+    cond (not last && eqb (number (read_of bytes).answer) 1) (stay Opening)
     (first_line (opening bytes) (start_of (read_of bytes).plan).state (read_of bytes).taken)
 
 -- a command's line; after a bad one the last line, too
-unfoldable pub command_move : State → Command → Move
-command_move s Slice = record { session = running (after s Slice); taken = 3; text = line_of s Slice }
-command_move s (Release kind e) = record { session = running (after s (Release kind e)); taken = 3; text = line_of s (Release kind e) }
-command_move s Bad = record { session = over s; taken = 0; text = bad_line ++ end_line s.slice }
+unfoldable pub command_move : State → Option Command → Move
+command_move s (Some k) = record { session = Running (after s (Some k)); taken = 3; text = line_of s (Some k) }
+command_move s None = record { session = Over s; taken = 0; text = bad_line ++ end_line s.slice }
 
 -- "Last line after a good plan .. `end CLOCK`"
 abbrev pub last_line : State → Move
-last_line s = record { session = over s; taken = 0; text = end_line s.slice }
+last_line s = record { session = Over s; taken = 0; text = end_line s.slice }
 
 -- the line of the command at the front, or the last line; where the input has not ended, only a whole command
-unfoldable pub run_of : Session → Bool → List ℕ → Move
-run_of x last bytes =
-    cond last (cond (eqb (length bytes) 0) (last_line x.state) (command_move x.state (command_of bytes)))
-    (cond (ltb (length bytes) 3) (stay x) (command_move x.state (command_of bytes)))
+unfoldable pub run_of : State → Bool → List ℕ → Move
+run_of s last bytes =
+    cond last (cond (eqb (length bytes) 0) (last_line s) (command_move s (command_of bytes)))
+    (cond (ltb (length bytes) 3) (stay (Running s)) (command_move s (command_of bytes)))
 
 -- the next line
 unfoldable pub step_of : Session → Bool → List ℕ → Move
-step_of x last bytes = at_stage x.stage (open_of x last bytes) (run_of x last bytes) (stay x)
+step_of Opening last bytes = open_of last bytes
+step_of (Running s) last bytes = run_of s last bytes
+step_of (Over s) last bytes = stay (Over s)
 
 -- ---- as many lines as there are, while there is room
 
@@ -129,4 +120,4 @@ Plays x last bytes out = Leaves (play_of x last bytes (length out)) out
 -- the lines of the commands from a state on, behind the bytes that are taken and the text that is printed: at most so many
 abbrev pub run_from : State → Bool → List ℕ → ℕ → List ℕ → ℕ → ℕ → Move
 run_from s last bytes taken out count lines =
-    onto taken (take count out) (lines_of lines (running s) last (drop taken bytes) (length out - count))
+    onto taken (take count out) (lines_of lines (Running s) last (drop taken bytes) (length out - count))

@@ -4,4 +4,4 @@
 mod run;
 mod session;
 
-pub use session::{Progress, Session, Stage};
+pub use session::{Progress, Session};

@@ -1,9 +1,9 @@
 // The commands' lines, one after the other. Every command hands its state on to the next, and a
 // state is long: the loop keeps it in one place, and makes a session of it only at its end.
 ghost use Rattle.std.specs.Prelude.{◌≡◌, not, ◌&&◌, ◌≤◌, ltb, eqb, length};
-ghost use Rattle.player.specs.Session.{running, over, run_from, Leaves};
+ghost use Rattle.player.specs.Session.{run_from, Leaves};
 
-use crate::{Progress, Session, Stage};
+use crate::{Progress, Session};
 use commands::Command;
 use lines::Line;
 use rack::State;
@@ -22,91 +22,70 @@ fn is_short(last: bool, left: usize) -> bool
     !last && left < 3
 }
 
-// The play among the commands.
-fn on(state: State, taken: usize, count: usize) -> Progress
-    ensures { result ≡ record { session = running state; taken = taken; count = count } }
-{
-    Progress {
-        session: Session {
-            stage: Stage::Running,
-            state,
-        },
-        taken,
-        count,
-    }
-}
-
-// The play after its last line.
-fn ended(state: State, taken: usize, count: usize) -> Progress
-    ensures { result ≡ record { session = over state; taken = taken; count = count } }
-{
-    Progress {
-        session: Session {
-            stage: Stage::Over,
-            state,
-        },
-        taken,
-        count,
-    }
-}
-
 // Plays commands from a state on, with so many bytes taken and so many printed: at most so many
 // lines.
 pub(crate) fn run(
-    start: State,
+    mut state: State,
     bytes: &[u8],
     last: bool,
     out: &mut [u8],
-    from: usize,
-    at: usize,
+    mut taken: usize,
+    mut count: usize,
     most: usize,
 ) -> Progress
-    requires { (from ≤ length bytes.now) × (at ≤ length out.old) }
-    ensures { Leaves (run_from start last bytes.now from out.old at most)
+    requires { (taken ≤ length bytes.now) × (count ≤ length out.old) }
+    ensures { Leaves (run_from state last bytes.now taken out.old count most)
         out.old result out.new }
 {
-    let mut state = start;
-    let mut taken = from;
-    let mut count = at;
-    let mut lines = most;
-    while 0 < lines {
+    for _played in 0..most {
         if out.len() - count < Line::ROOM {
-            return on(state, taken, count);
+            return Progress {
+                session: Session::Running(state),
+                taken,
+                count,
+            };
         }
-        let mut row = [0u8; 8];
+        let mut row = [0; 8];
         let left = bytes.len() - taken;
         if is_end(last, left) {
-            let end = Line::End(state.slice as u32).put(&row, out, count);
-            return ended(state, taken, end);
+            return Progress {
+                session: Session::Over(state),
+                taken,
+                count: Line::End(u32::from(state.slice)).put(&row, out, count),
+            };
         }
         if is_short(last, left) {
-            return on(state, taken, count);
+            return Progress {
+                session: Session::Running(state),
+                taken,
+                count,
+            };
         }
-        let command = Command::decode(&bytes[taken..]);
+        let Some(command) = Command::decode(&bytes[taken..]) else {
+            return Progress {
+                session: Session::Over(state),
+                taken,
+                count: Line::Bad(u32::from(state.slice)).put(&row, out, count),
+            };
+        };
+        taken += 3;
         match command {
             Command::Slice => {
-                let answer = state.show(&mut row);
-                let plan = state.plan;
-                let next = state.advance();
-                let after = next.state;
-                count = Line::Slice(answer, state.slice as u32, plan.cards).put(&row, out, count);
-                state = after;
-                taken += 3;
-                lines -= 1;
+                let shown = state.show(&mut row);
+                let line = Line::Slice(shown, u32::from(state.slice), state.plan.cards);
+                count = line.put(&row, out, count);
+                state = state.advance().state;
             }
             Command::Release(kind, e) => {
-                let next = state.release(kind as usize, e as u32);
-                let answer = next.answer;
-                count = Line::Release(kind, e, answer).put(&row, out, count);
+                let next = state.release(usize::from(kind), u32::from(e));
+                count = Line::Release(kind, e, next.answer).put(&row, out, count);
                 state = next.state;
-                taken += 3;
-                lines -= 1;
-            }
-            Command::Bad => {
-                let end = Line::Bad(state.slice as u32).put(&row, out, count);
-                return ended(state, taken, end);
             }
         }
     }
-    on(state, taken, count)
+    Progress {
+        session: Session::Running(state),
+        taken,
+        count,
+    }
 }

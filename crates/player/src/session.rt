@@ -3,26 +3,19 @@ ghost use Rattle.std.specs.Prelude.{◌≡◌, ◌≤◌, not, ◌&&◌, eqb, le
 ghost use Rattle.answer.specs.Answer.{number};
 ghost use Rattle.lines.specs.Line.{line_room};
 ghost use Rattle.player.specs.Session.{unopened, is_over, stay, progress_of, refused_at, Leaves, Plays};
-ghost use Rattle.player.specs.declared.session.Stage.TheVariants.{Opening};
 
 use crate::run::run;
 use answer::Answer;
 use lines::Line;
 use rack::State;
 
-// Before the plan, among the commands, or after the last line.
+// Where a play stands: before the plan, among the commands in a state, or after the last line, in
+// the state that it came to.
 #[derive(Clone, Copy)]
-pub enum Stage {
+pub enum Session {
     Opening,
-    Running,
-    Over,
-}
-
-// Where a play stands.
-#[derive(Clone, Copy)]
-pub struct Session {
-    pub stage: Stage,
-    pub state: State,
+    Running(State),
+    Over(State),
 }
 
 // What playing leaves: the session, the bytes taken, and the count of bytes printed.
@@ -45,16 +38,43 @@ fn refused(answer: Answer, out: &mut [u8]) -> Progress
     requires { line_room ≤ length out.old }
     ensures { Leaves (refused_at answer) out.old result out.new }
 {
-    let row = [0u8; 8];
-    let count = Line::Plan(answer).put(&row, out, 0);
     Progress {
-        session: Session {
-            stage: Stage::Over,
-            state: State::empty(),
-        },
+        session: Session::Over(State::empty()),
         taken: 0,
-        count,
+        count: Line::Plan(answer).put(&[0; 8], out, 0),
     }
+}
+
+// The first line, and then the commands' lines.
+fn open(bytes: &[u8], last: bool, out: &mut [u8]) -> Progress
+    ensures { Plays unopened last bytes.now out.old result out.new }
+{
+    if out.len() < Line::ROOM {
+        return Session::Opening.stay();
+    }
+    let reading = plan_reader::read(bytes);
+    let answer = reading.answer;
+    if waits(answer, last) {
+        return Session::Opening.stay();
+    }
+    let Answer::Good = answer else {
+        return refused(answer, out);
+    };
+    let start = State::start(reading.plan);
+    let started = start.answer;
+    let Answer::Good = started else {
+        return refused(started, out);
+    };
+    let count = Line::Plan(started).put(&[0; 8], out, 0);
+    run(
+        start.state,
+        bytes,
+        last,
+        out,
+        reading.taken,
+        count,
+        out.len() - 1,
+    )
 }
 
 impl Session {
@@ -62,22 +82,14 @@ impl Session {
     pub fn new() -> Self
         ensures { result ≡ unopened }
     {
-        Session {
-            stage: Stage::Opening,
-            state: State::empty(),
-        }
+        Self::Opening
     }
 
     // Whether the last line was printed.
     pub fn is_over(self) -> bool
         ensures { result ≡ is_over self }
     {
-        let stage = self.stage;
-        match stage {
-            Stage::Opening => false,
-            Stage::Running => false,
-            Stage::Over => true,
-        }
+        matches!(self, Session::Over(_))
     }
 
     // More input has to come first, or there is nothing more to print.
@@ -91,45 +103,15 @@ impl Session {
         }
     }
 
-    // The first line, and then the commands' lines.
-    fn open(self, bytes: &[u8], last: bool, out: &mut [u8]) -> Progress
-        requires { self.stage ≡ Opening }
-        ensures { Plays self last bytes.now out.old result out.new }
-    {
-        if out.len() < Line::ROOM {
-            return self.stay();
-        }
-        let reading = plan_reader::read(bytes);
-        let answer = reading.answer;
-        if waits(answer, last) {
-            return self.stay();
-        }
-        let Answer::Good = answer else {
-            return refused(answer, out);
-        };
-        let plan = reading.plan;
-        let start = State::start(plan);
-        let started = start.answer;
-        let Answer::Good = started else {
-            return refused(started, out);
-        };
-        let row = [0u8; 8];
-        let count = Line::Plan(started).put(&row, out, 0);
-        let state = start.state;
-        run(state, bytes, last, out, reading.taken, count, out.len() - 1)
-    }
-
     // Plays the bytes that are there: the lines that out has room for, from its front on. After
     // these bytes the input goes on, or has ended where last says so.
     pub fn play(self, bytes: &[u8], last: bool, out: &mut [u8]) -> Progress
         ensures { Plays self last bytes.now out.old result out.new }
     {
-        let stage = self.stage;
-        let state = self.state;
-        match stage {
-            Stage::Opening => self.open(bytes, last, out),
-            Stage::Running => run(state, bytes, last, out, 0, 0, out.len()),
-            Stage::Over => self.stay(),
+        match self {
+            Session::Opening => open(bytes, last, out),
+            Session::Running(state) => run(state, bytes, last, out, 0, 0, out.len()),
+            Session::Over(_) => self.stay(),
         }
     }
 }

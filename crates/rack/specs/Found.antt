@@ -1,12 +1,13 @@
--- What a check finds beside its answer: what the seats go by.
+-- What a check finds: what the seats go by, or the refusal.
 -- Assumes nothing.
-use Rattle.std.specs.Prelude.{ℕ, ◌≡◌, cond, List, eqb, replicate}
+use Rattle.std.specs.Prelude.{ℕ, ◌≡◌, cond, List, eqb, replicate, Result, Ok, Err}
 use Rattle.laws.specs.Written.{written}
-use Rattle.answer.specs.declared.Answer.{Answer}
-use Rattle.answer.specs.declared.Answer.TheVariants.{Good}
+use Rattle.answer.specs.declared.Answer.TheVariants.{Good, No}
+use Rattle.answer.specs.declared.Refusal.{Refusal}
 use Rattle.rack.specs.declared.State.{State}
 use Rattle.rack.specs.declared.form.Found.{Found}
 use Rattle.rack.specs.State.{unit_of}
+use Rattle.rack.specs.Form.{ready}
 use Rattle.rack.specs.Rank.{until}
 use Rattle.rack.specs.Seat.{works_of}
 
@@ -27,7 +28,7 @@ pub record AtWork (s : State) (works due : List ℕ) : Type 0 where
   pub works_for : works ≡ works_below s 16
   pub due_in : due ≡ due_below s 16
 
--- what a check finds that should answer a: that answer, and with a good one what the seats go by
-pub record Finds (s : State) (a : Answer) (r : Found) : Type 0 where
-  pub result : r.answer ≡ a
-  pub at_work : a ≡ Good → AtWork s r.works r.until
+-- what a check finds: of a state that is ready what the seats go by, and of another the refusal
+abbrev pub Finds : State → Result Found Refusal → Type 0
+Finds s (Ok r) = (ready s ≡ Good) × AtWork s r.works r.until
+Finds s (Err why) = ready s ≡ No why

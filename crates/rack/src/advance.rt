@@ -6,7 +6,7 @@
 ghost use Rattle.std.specs.Prelude.{◌≡◌, ◌+◌, ◌%◌, ◌<◌};
 ghost use Rattle.rack.specs.Advance.{advance_of};
 
-use crate::{Next, State, project_place};
+use crate::{Next, State};
 use answer::Answer;
 
 // The slice after one of a frame: the first after the last.
@@ -15,10 +15,7 @@ fn slice_after(slice: u8, frame: u8) -> u8
     ensures { result ≡ (slice + 1) % frame }
 {
     let next = slice + 1;
-    if next == frame {
-        return 0;
-    }
-    next
+    if next == frame { 0 } else { next }
 }
 
 impl State {
@@ -27,36 +24,35 @@ impl State {
     pub fn advance(mut self) -> Next
         ensures { result ≡ advance_of self }
     {
-        let found = self.check();
-        let answer = found.answer;
-        let Answer::Good = answer else {
-            return Next {
-                answer,
-                state: self,
-            };
+        let found = match self.check() {
+            Ok(found) => found,
+            Err(why) => {
+                return Next {
+                    answer: Answer::No(why),
+                    state: self,
+                };
+            }
         };
-        let works = found.works;
-        let until = found.until;
-        let seat = self.seats(&works, &until);
+        let seat = self.seats(&found.works, &found.until);
         let plan = self.plan;
         let kinds = plan.kind;
         let mut unit = self.unit;
         let mut sum = self.sum;
-        for i in 0..plan.kinds as usize {
+        // kept: four arrays go side by side, and an iterator over one would index the others still.
+        for i in 0..usize::from(plan.kinds) {
             let kind = kinds[i];
             let number = seat[i];
             unit[i] = unit[i].after(number != 0, kind.separation);
             if number == 0 {
                 continue;
             }
-            let project = project_place(kind);
-            sum[project] -= 1;
+            sum[usize::from(kind.project)] -= 1;
         }
         self.slice = slice_after(self.slice, plan.frame);
         self.unit = unit;
         self.sum = sum;
         Next {
-            answer,
+            answer: Answer::Good,
             state: self,
         }
     }

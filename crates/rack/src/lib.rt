@@ -17,7 +17,7 @@ ghost use Rattle.rack.specs.State.{fresh_of, no_state, kind_places, used};
 ghost use Rattle.rack.specs.Start.{start_of};
 
 use answer::Answer;
-use plan::{Kind, Plan};
+use plan::Plan;
 use unit::Unit;
 use verdict::judge;
 
@@ -32,18 +32,11 @@ pub struct State {
 }
 
 // What a call answers, and the state that it hands back.
+// kept: "a refused slice or release gives back the state handed in".
 #[derive(Clone, Copy)]
 pub struct Next {
     pub answer: Answer,
     pub state: State,
-}
-
-// The place of a kind's project.
-pub(crate) fn project_place(kind: Kind) -> usize
-    requires { kind.project < 8 }
-    ensures { (result ≡ kind.project) × (result < 8) }
-{
-    kind.project as usize
 }
 
 impl State {
@@ -51,14 +44,14 @@ impl State {
     pub(crate) fn places(self) -> usize
         ensures { result ≡ kind_places self }
     {
-        self.plan.kinds as usize
+        usize::from(self.plan.kinds)
     }
 
     // Whether a place is a kind's.
     pub(crate) fn in_use(self, place: usize) -> bool
         ensures { result ≡ used self place }
     {
-        place < self.plan.kinds as usize
+        place < usize::from(self.plan.kinds)
     }
 
     // The plan at slice 0, with no kind ever released and nothing left.

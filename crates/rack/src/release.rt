@@ -2,7 +2,7 @@
 ghost use Rattle.std.specs.Prelude.{◌≡◌};
 ghost use Rattle.rack.specs.Release.{release_answer, release_of};
 
-use crate::{Next, State, project_place};
+use crate::{Next, State};
 use answer::Answer;
 use unit::Unit;
 
@@ -12,36 +12,32 @@ impl State {
     pub fn release(mut self, kind: usize, length: u32) -> Next
         ensures { result ≡ release_of self kind length }
     {
-        let found = self.check();
-        let checked = found.answer;
-        let Answer::Good = checked else {
+        if let Err(why) = self.check() {
             return Next {
-                answer: checked,
+                answer: Answer::No(why),
                 state: self,
             };
-        };
+        }
         if !self.in_use(kind) {
             return Next {
                 answer: Answer::bare(12),
                 state: self,
             };
         }
-        let plan = self.plan;
-        let kinds = plan.kind;
-        let answer = self.unit[kind].may_start(kinds[kind], length);
+        let its_kind = self.plan.kind[kind];
+        let answer = self.unit[kind].may_start(its_kind, length);
         let Answer::Good = answer else {
             return Next {
                 answer,
                 state: self,
             };
         };
-        let project = project_place(kinds[kind]);
         self.unit[kind] = Unit {
             gone: 0,
             left: length as u16,
             released: true,
         };
-        self.sum[project] += length as u16;
+        self.sum[usize::from(its_kind.project)] += length as u16;
         Next {
             answer,
             state: self,

@@ -7,13 +7,12 @@
 // Of n kinds, a of them with slices left and a card to their project, on m cards for p projects, that
 // is at most 16(a + p) steps for the ranks and 3n + p + m for the rest.
 ghost use Rattle.std.specs.Prelude.{◌≡◌, ℕ, ◌≤◌, ◌<◌, length};
-ghost use Rattle.laws.specs.Written.{written};
 ghost use Rattle.plan.specs.Order.{InOrder};
 ghost use Rattle.seats.specs.Seats.{at};
 ghost use Rattle.rack.specs.Form.{Ready};
 ghost use Rattle.rack.specs.Found.{AtWork};
 ghost use Rattle.rack.specs.Row.{row_over};
-ghost use Rattle.rack.specs.Seat.{idle, ProjectCards, seats_of, seated};
+ghost use Rattle.rack.specs.Seat.{ProjectCards, seats_of, seated};
 
 use crate::State;
 use layout::cards_below;
@@ -37,7 +36,8 @@ fn project_cards(plan: Plan, slice: u8) -> Cards
     let mut cell: u16 = 0;
     let mut card: u8 = 0;
     let projects = plan.project;
-    for j in 0..plan.projects as usize {
+    // kept: three arrays go side by side, and what begins a project's cards is what ended the last's
+    for j in 0..usize::from(plan.projects) {
         low[j] = card;
         cell += projects[j].budget;
         card = cards_below(cell, plan.frame, slice) as u8;
@@ -46,27 +46,16 @@ fn project_cards(plan: Plan, slice: u8) -> Cards
     Cards { low, end }
 }
 
-// No kind on any card yet.
-fn clear(out: &mut [u8], cards: usize)
-    requires { cards ≤ length out.old }
-    ensures { out.new ≡ written cards idle out.old }
-{
-    for card in 0..cards {
-        out[card] = 0;
-    }
-}
-
 // Each kind's number plus 1 on the card where it sits.
 fn seat_kinds(out: &mut [u8], seat: &[u8; 16], kinds: usize)
     requires { (kinds ≤ 16) × ((k : ℕ) → at seat.now k ≤ length out.old) }
     ensures { out.new ≡ seated (at seat.now) kinds out.old }
 {
-    for i in 0..kinds {
-        let number = seat[i] as usize;
-        if number == 0 {
+    for (i, number) in seat[..kinds].iter().enumerate() {
+        if *number == 0 {
             continue;
         }
-        out[number - 1] = i as u8 + 1;
+        out[usize::from(*number) - 1] = i as u8 + 1;
     }
 }
 
@@ -76,11 +65,8 @@ impl State {
         requires { Ready self × AtWork self works.now until.now }
         ensures { result ≡ seats_of self }
     {
-        let plan = self.plan;
-        let cards = project_cards(plan, self.slice);
-        let low = cards.low;
-        let end = cards.end;
-        seats(works, until, &low, &end, self.places())
+        let cards = project_cards(self.plan, self.slice);
+        seats(works, until, &cards.low, &cards.end, self.places())
     }
 
     // Writes the row into a lent one, by the seats.
@@ -88,8 +74,7 @@ impl State {
         requires { Ready self × (self.plan.cards ≤ length out.old) × (seat.now ≡ seats_of self) }
         ensures { out.new ≡ row_over self out.old }
     {
-        let plan = self.plan;
-        clear(out, plan.cards as usize);
+        out[..usize::from(self.plan.cards)].fill(0);
         seat_kinds(out, seat, self.places());
     }
 }

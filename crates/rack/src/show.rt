@@ -14,19 +14,15 @@ impl State {
     pub fn show(self, row: &mut [u8]) -> Answer
         ensures { Shows self row.old result row.new }
     {
-        let found = self.check();
-        let answer = found.answer;
-        let Answer::Good = answer else {
-            return answer;
+        let found = match self.check() {
+            Ok(found) => found,
+            Err(why) => return Answer::No(why),
         };
-        let plan = self.plan;
-        if row.len() < plan.cards as usize {
+        if row.len() < usize::from(self.plan.cards) {
             return Answer::bare(9);
         }
-        let works = found.works;
-        let until = found.until;
-        let seat = self.seats(&works, &until);
+        let seat = self.seats(&found.works, &found.until);
         self.write_row(&seat, row);
-        answer
+        Answer::Good
     }
 }

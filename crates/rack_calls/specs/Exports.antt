@@ -21,7 +21,8 @@ fresh_answer plan state = room plan plan_size and_then (start_answer (plan_from 
 
 -- the fresh state of the plan
 abbrev pub Starts : List ℕ → List ℕ → ℕ → List ℕ → Type 0
-Starts plan state r after = Outcome (fresh_answer plan state) 0 (state_image (fresh_of (plan_from plan)) ++ drop state_size state) state r after
+Starts plan state r after =
+    Outcome (fresh_answer plan state) 0 (state_image (fresh_of (plan_from plan)) ++ drop state_size state) state r after
 
 -- whether an image is a state's: 9, the record order, and 10 where a released byte is neither 0 nor 1
 unfoldable pub state_answer : List ℕ → Answer
@@ -50,4 +51,5 @@ advances_answer state = state_answer state and_then advance_answer (state_from s
 
 -- the state that follows
 abbrev pub Advances : List ℕ → ℕ → List ℕ → Type 0
-Advances state r after = Outcome (advances_answer state) 0 (state_image (advanced (state_from state)) ++ drop state_size state) state r after
+Advances state r after =
+    Outcome (advances_answer state) 0 (state_image (advanced (state_from state)) ++ drop state_size state) state r after

@@ -14,12 +14,11 @@ use rack::State;
 pub fn parchbeetle_fresh(plan: &[u8], state: &mut [u8]) -> u64
     ensures { Starts plan.now state.old result state.new }
 {
-    let found = image_reader::plan_of(plan);
-    let seen = found.answer;
-    let Answer::Good = seen else {
-        return seen.told(0);
+    let given = match image_reader::plan_of(plan) {
+        Ok(given) => given,
+        Err(why) => return Answer::No(why).told(0),
     };
-    let start = State::start(found.plan);
+    let start = State::start(given);
     let answer = start.answer;
     let Answer::Good = answer else {
         return answer.told(0);
@@ -31,35 +30,27 @@ pub fn parchbeetle_fresh(plan: &[u8], state: &mut [u8]) -> u64
 fn limited_kind(kind: u64) -> usize
     ensures { result ≡ min kind 16 }
 {
-    if kind < Plan::KINDS as u64 {
-        return kind as usize;
-    }
-    Plan::KINDS
+    kind.min(Plan::KINDS as u64) as usize
 }
 
 // No kind's length is so large.
-const TOO_LONG: u32 = 65536;
+const TOO_LONG: u64 = 65536;
 
 // The length, or a length that is too large.
 fn limited_length(e: u64) -> u32
     ensures { result ≡ min e 65536 }
 {
-    if e < TOO_LONG as u64 {
-        return e as u32;
-    }
-    TOO_LONG
+    e.min(TOO_LONG) as u32
 }
 
 // Releases a unit of a kind, in a state's image.
 pub fn parchbeetle_release(state: &mut [u8], kind: u64, e: u64) -> u64
     ensures { Releases state.old kind e result state.new }
 {
-    let found = image_reader::state_of(state);
-    let seen = found.answer;
-    let Answer::Good = seen else {
-        return seen.told(0);
+    let given = match image_reader::state_of(state) {
+        Ok(given) => given,
+        Err(why) => return Answer::No(why).told(0),
     };
-    let given = found.state;
     let next = given.release(limited_kind(kind), limited_length(e));
     let answer = next.answer;
     let Answer::Good = answer else {
@@ -72,12 +63,11 @@ pub fn parchbeetle_release(state: &mut [u8], kind: u64, e: u64) -> u64
 pub fn parchbeetle_show(state: &[u8], row: &mut [u8]) -> u64
     ensures { ShowsRow state.now row.old result row.new }
 {
-    let found = image_reader::state_of(state);
-    let seen = found.answer;
-    let Answer::Good = seen else {
-        return seen.told(0);
+    let given = match image_reader::state_of(state) {
+        Ok(given) => given,
+        Err(why) => return Answer::No(why).told(0),
     };
-    let shown = found.state.show(row);
+    let shown = given.show(row);
     shown.told(0)
 }
 
@@ -85,12 +75,11 @@ pub fn parchbeetle_show(state: &[u8], row: &mut [u8]) -> u64
 pub fn parchbeetle_advance(state: &mut [u8]) -> u64
     ensures { Advances state.old result state.new }
 {
-    let found = image_reader::state_of(state);
-    let seen = found.answer;
-    let Answer::Good = seen else {
-        return seen.told(0);
+    let given = match image_reader::state_of(state) {
+        Ok(given) => given,
+        Err(why) => return Answer::No(why).told(0),
     };
-    let after = found.state.advance();
+    let after = given.advance();
     let answer = after.answer;
     let Answer::Good = answer else {
         return answer.told(0);

@@ -100,7 +100,8 @@ module _ (p : Plan) (shaped : Shaped p) (order : Passes p) where
 
     header_zero : header_spare s ≡ 0
     unfolding header_spare
-    header_zero = ap (λ (x : List ℕ). get_or (header_fields x) 4 0) s_all ∙ ap (λ (x : List ℕ). get_or x 4 0) (header_all p shaped order rest)
+    header_zero =
+        ap (λ (x : List ℕ). get_or (header_fields x) 4 0) s_all ∙ ap (λ (x : List ℕ). get_or x 4 0) (header_all p shaped order rest)
 
     project_zero : (j : ℕ) → j < p.projects → project_spare_at s j ≡ 0
     unfolding project_spare_at project_spare

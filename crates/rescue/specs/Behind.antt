@@ -13,8 +13,8 @@ use Rattle.plan_bytes.specs.Reading.{header_spare, project_spare, kind_spare, co
 use Rattle.plan_bytes.specs.RoundTrip.Behind.{header_same, headed_same, project_same, kind_same, decoded_same}
 use Rattle.rescue.specs.Entry.{Entry, change, entries_to}
 use Rattle.rescue.specs.Mended.{kept_at}
-use Rattle.rescue.specs.Rescue.{project_spare_at, kind_spare_at, project_spare_change, spare_entries, kind_spare_change, changes_in, changes}
-use Rattle.rescue.specs.Rescue.{project_changes, kind_changes, rest_answer, rescue_answer, rescue_of, list_over}
+use Rattle.rescue.specs.Rescue.{project_spare_at, kind_spare_at, project_spare_change, spare_entries, kind_spare_change, changes_in}
+use Rattle.rescue.specs.Rescue.{changes, project_changes, kind_changes, rest_answer, rescue_answer, rescue_of, list_over}
 
 entries_cong : (n : ℕ) (f g : ℕ → List Entry) → ((i : ℕ) → i < n → f i ≡ g i) → entries_to n f ≡ entries_to n g
 unfolding entries_to

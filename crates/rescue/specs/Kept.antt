@@ -101,7 +101,8 @@ module _ (p : Plan) where
           ]
       go false e h =
           let c = more_no n e in
-          wider n (get_or (kept_to p (suc n)) i no_kind) (get_or (kept_to p n) i no_kind) (ap (λ (t : List Kind). get_or t i no_kind) (kept_no n e))
+          wider n (get_or (kept_to p (suc n)) i no_kind) (get_or (kept_to p n) i no_kind)
+          (ap (λ (t : List Kind). get_or t i no_kind) (kept_no n e))
           (h (omega arith))
 
   -- ---- as bytes

@@ -119,7 +119,8 @@ module _ (s : List ℕ) (p : Plan) where
       (every_append (Says p) a b
       (every_change (Says p) 1 0 (header_spare s) 0 (change_says p 1 0 (header_spare s) 0 (omega arith) (omega arith) (omega arith)))
       (every_each (Says p) p.projects (project_spare_change s)
-      (λ k l. every_change (Says p) 2 k (project_spare_at s k) 0 (change_says p 2 k (project_spare_at s k) 0 (omega arith) (omega arith) l))))
+      (λ k l. every_change (Says p) 2 k (project_spare_at s k) 0
+      (change_says p 2 k (project_spare_at s k) 0 (omega arith) (omega arith) l))))
       (every_each (Says p) p.kinds (kind_spare_change s p) (λ k l. spare_says (kept_at p k) k (kind_spare_at s p.projects k) l)))
       (every_each (Says p) p.projects (project_changes p) (λ k l. project_says k (project_of p k) (project_for_at p k) l)))
       (every_each (Says p) p.kinds (kind_changes p) (λ k l. kind_says (kept_at p k) k (kind_of p k) (kind_for_at p k) l))

@@ -18,9 +18,9 @@ use Rattle.plan.specs.declared.Project.{Project}
 use Rattle.plan.specs.declared.Kind.{Kind}
 use Rattle.plan.specs.declared.Plan.{Plan}
 use Rattle.plan.specs.Record.{no_project, no_kind}
-use Rattle.plan.specs.Order.{project_of, kind_of, empty_project, empty_kind, tidy_project, tidy_kind, tidy_projects, tidy_kinds, unused, ranges}
-use Rattle.plan.specs.Order.{project_in_range, projects_in_range, kind_in_range_at, kinds_in_range, budgets_fit, checked, Sized, ProjectInRange}
-use Rattle.plan.specs.Order.{KindInRange}
+use Rattle.plan.specs.Order.{project_of, kind_of, empty_project, empty_kind, tidy_project, tidy_kind, tidy_projects, tidy_kinds, unused}
+use Rattle.plan.specs.Order.{ranges, project_in_range, projects_in_range, kind_in_range_at, kinds_in_range, budgets_fit, checked, Sized}
+use Rattle.plan.specs.Order.{ProjectInRange, KindInRange}
 use Rattle.plan.specs.Order.Properties.{sizes_of, sized_same, project_of_law, kind_of_law, used_place, kept_empty, no_project_empty}
 use Rattle.plan.specs.Order.Properties.{no_kind_empty}
 use Rattle.plan_bytes.specs.Parts.{Shaped, kind_widths, kind_fields, kind_from, kind_at, kinds_from, headed, after_projects, decoded}

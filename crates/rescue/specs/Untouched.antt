@@ -17,8 +17,9 @@ use Rattle.plan.specs.declared.Project.{Project}
 use Rattle.plan.specs.declared.Kind.{Kind}
 use Rattle.plan.specs.Record.{no_project, no_kind}
 use Rattle.plan.specs.Order.{Sized}
-use Rattle.plan_bytes.specs.Parts.{header_widths, project_widths, kind_widths, header_fields, project_fields, kind_fields, project_from, kind_from}
-use Rattle.plan_bytes.specs.Parts.{project_at, kind_at, projects_from, kinds_from, headed, after_header, after_projects, decoded, size}
+use Rattle.plan_bytes.specs.Parts.{header_widths, project_widths, kind_widths, header_fields, project_fields, kind_fields, project_from}
+use Rattle.plan_bytes.specs.Parts.{kind_from, project_at, kind_at, projects_from, kinds_from, headed, after_header, after_projects, decoded}
+use Rattle.plan_bytes.specs.Parts.{size}
 use Rattle.plan_bytes.specs.Reading.{header_spare, project_spare, kind_spare}
 use Rattle.rescue.specs.Rescue.{project_spare_at, kind_spare_at}
 use Rattle.rescue.specs.Applied.{entries_in, about, after, some, header_after, project_after, kind_after, applied}

@@ -12,8 +12,8 @@ use Rattle.answer.specs.declared.Answer.TheVariants.{Good, No}
 use Rattle.answer.specs.declared.Refusal.{Refusal}
 use Rattle.answer.specs.Answer.{number, bare, at_project, at_kind, refuse, ◌and_then◌, each_to}
 use Rattle.plan.specs.declared.Plan.{Plan}
-use Rattle.plan.specs.Order.{project_of, kind_of, in_range, timed, budgets, sized, sizes, project_in_range, projects_in_range, kind_in_range}
-use Rattle.plan.specs.Order.{kind_in_range_at, kinds_in_range, budgets_fit, ranges}
+use Rattle.plan.specs.Order.{project_of, kind_of, in_range, timed, budgets, sized, sizes, project_in_range, projects_in_range}
+use Rattle.plan.specs.Order.{kind_in_range, kind_in_range_at, kinds_in_range, budgets_fit, ranges}
 use Rattle.plan_bytes.specs.Parts.{headed, decoded, size}
 use Rattle.plan_bytes.specs.Reading.{spare_zero, body_answer, read_answer, read_of, counts_answer}
 use Rattle.rescue.specs.Mended.{kept_at, plan_for}
@@ -146,7 +146,8 @@ module _ (s list : List ℕ) where
   )
 
   -- "9 when the list's entries don't all fit"
-  pub nine_when : (number (rescue_answer s list) ≡ 9) ↔ ((counts_answer s ≡ Good) × (0 < (rescued_plan s).kinds) × (length list < list_size s))
+  pub nine_when : (number (rescue_answer s list) ≡ 9) ↔
+      ((counts_answer s ≡ Good) × (0 < (rescued_plan s).kinds) × (length list < list_size s))
   unfolding some short
   nine_when = (
     λ e.

@@ -1,11 +1,10 @@
 // The list of changes, in six bytes each: field, place in the original, old and new value, the high
-// byte first. Each function writes its entries from index at on and gives the index behind them.
-ghost use Rattle.std.specs.Prelude.{◌≡◌, ◌+◌, ◌*◌, ◌≤◌, length};
-ghost use Rattle.std.proofs.lemmas.List.Edits.{sets};
+// byte first.
+ghost use Rattle.std.specs.Prelude.{◌≡◌, ◌+◌, ◌*◌, ◌%◌, ◌≤◌, ◌<◌, [], ◌∷◌, length, replicate, drop};
+ghost use Rattle.codec.specs.Bytes.{number_to};
 ghost use Rattle.plan_bytes.specs.Parts.{size};
-ghost use Rattle.plan_bytes.specs.Reading.{header_spare};
-ghost use Rattle.rescue.specs.Entry.{entry, entry_bytes, change, entries_to, Noted};
-ghost use Rattle.rescue.specs.Rescue.{project_spare_at, kind_spare_at, project_spare_change, kind_spare_change};
+ghost use Rattle.rescue.specs.Entry.{entry, change, entries_to, Noted};
+ghost use Rattle.rescue.specs.Rescue.{project_spare_change, kind_spare_change};
 ghost use Rattle.rescue.specs.Rescue.{spare_entries, project_entries, kind_entries, project_changes, kind_changes, changes_in};
 
 use crate::mended;
@@ -15,154 +14,150 @@ use plan_bytes::{BITS_1, BITS_2, BITS_4, HEADER, KIND, PROJECT};
 // The bytes of an entry.
 const ENTRY: usize = 6;
 
-fn put(list: &mut [u8], at: usize, field: u8, place: u8, old: u16, new: u16)
-    requires { at + 6 ≤ length list.old }
-    ensures { list.new ≡ sets list.old at (entry_bytes (entry field place old new)) }
-{
-    list[at] = field;
-    list[at + 1] = place;
-    list[at + 2] = (old / 256) as u8;
-    list[at + 3] = (old % 256) as u8;
-    list[at + 4] = (new / 256) as u8;
-    list[at + 5] = (new % 256) as u8;
+// The bytes of the longest list: 57 entries.
+const LONGEST: usize = 342;
+
+// The list so far, in the first bytes.
+#[derive(Clone, Copy)]
+pub struct Notes {
+    pub bytes: [u8; LONGEST],
+    pub count: usize,
 }
 
-// A change, if it is one.
-fn note(list: &mut [u8], at: usize, field: u8, place: u8, old: u16, new: u16) -> usize
-    requires { at + 6 ≤ length list.old }
-    ensures { (Noted at list.old (change field place old new) result list.new) × (result ≤ at + 6) }
+// The lowest bits of the part of so many bytes that starts at from.
+fn spare(bytes: &[u8], from: usize, width: usize, bits: u64) -> u16
+    requires { (from + width ≤ length bytes.now) × (width ≤ 8) × (0 < bits) × (bits ≤ 65536) }
+    ensures { result ≡ number_to width (drop from bytes.now) % bits }
 {
-    if old == new {
-        return at;
+    (codec::number(&bytes[from..], width) % bits) as u16
+}
+
+impl Notes {
+    fn put(&mut self, field: u8, place: u8, old: u16, new: u16)
+        requires { self.old.count + 6 ≤ 342 }
+        ensures { Noted self.old.count self.old.bytes (entry field place old new ∷ []) self.new.count self.new.bytes }
+    {
+        let [old_high, old_low] = old.to_be_bytes();
+        let [new_high, new_low] = new.to_be_bytes();
+        let entry = [field, place, old_high, old_low, new_high, new_low];
+        self.bytes[self.count..self.count + ENTRY].copy_from_slice(&entry);
+        self.count += ENTRY;
     }
-    put(list, at, field, place, old, new);
-    at + ENTRY
-}
 
-// The spare bit of a kind, unless the kind is dropped.
-fn note_spare(list: &mut [u8], at: usize, place: u8, kept: bool, spare: u16) -> usize
-    requires { at + 6 ≤ length list.old }
-    ensures { (Noted at list.old (spare_entries kept place spare) result list.new) × (result ≤ at + 6) }
-{
-    if !kept {
-        return at;
+    // A change, if it is one.
+    fn note(&mut self, field: u8, place: u8, old: u16, new: u16)
+        requires { self.old.count + 6 ≤ 342 }
+        ensures { (Noted self.old.count self.old.bytes (change field place old new) self.new.count self.new.bytes)
+            × (self.new.count ≤ self.old.count + 6) }
+    {
+        if old != new {
+            self.put(field, place, old, new);
+        }
     }
-    note(list, at, 3, place, spare, 0)
-}
 
-// A project's ceiling and then its budget.
-fn note_project(list: &mut [u8], at: usize, place: u8, old: Project, new: Project) -> usize
-    requires { at + 12 ≤ length list.old }
-    ensures { (Noted at list.old (project_entries place old new) result list.new) × (result ≤ at + 12) }
-{
-    let next = note(list, at, 4, place, old.ceiling as u16, new.ceiling as u16);
-    note(list, next, 5, place, old.budget, new.budget)
-}
-
-// A kind's deadline, or that the kind is dropped.
-fn note_kind(list: &mut [u8], at: usize, place: u8, kept: bool, old: Kind, new: Kind) -> usize
-    requires { at + 6 ≤ length list.old }
-    ensures { (Noted at list.old (kind_entries kept place old new) result list.new) × (result ≤ at + 6) }
-{
-    if !kept {
-        put(list, at, 7, place, 0, 0);
-        return at + ENTRY;
+    // The spare bit of a kind, unless the kind is dropped.
+    fn note_spare(&mut self, place: u8, kept: bool, spare: u16)
+        requires { self.old.count + 6 ≤ 342 }
+        ensures { (Noted self.old.count self.old.bytes (spare_entries kept place spare) self.new.count self.new.bytes)
+            × (self.new.count ≤ self.old.count + 6) }
+    {
+        if kept {
+            self.note(3, place, spare, 0);
+        }
     }
-    note(list, at, 6, place, old.deadline, new.deadline)
-}
 
-fn header_spare(bytes: &[u8]) -> u16
-    requires { 3 ≤ length bytes.now }
-    ensures { result ≡ header_spare bytes.now }
-{
-    (codec::number(bytes, HEADER) % BITS_4) as u16
-}
-
-fn project_spare(bytes: &[u8], project: u8) -> u16
-    requires { 3 + 2 * project + 2 ≤ length bytes.now }
-    ensures { result ≡ project_spare_at bytes.now project }
-{
-    let from = HEADER + PROJECT * project as usize;
-    let to = from + PROJECT;
-    (codec::number(&bytes[from..to], PROJECT) % BITS_2) as u16
-}
-
-fn kind_spare(bytes: &[u8], projects: u8, kind: u8) -> u16
-    requires { 3 + 2 * projects + 5 * kind + 5 ≤ length bytes.now }
-    ensures { result ≡ kind_spare_at bytes.now projects kind }
-{
-    let from = HEADER + PROJECT * projects as usize + KIND * kind as usize;
-    let to = from + KIND;
-    (codec::number(&bytes[from..to], KIND) % BITS_1) as u16
-}
-
-fn spare_projects(bytes: &[u8], projects: u8, list: &mut [u8], at: usize) -> usize
-    requires { (projects ≤ 8) × (3 + 2 * projects ≤ length bytes.now) × (at + 6 * projects ≤ length list.old) }
-    ensures { (Noted at list.old (entries_to projects (project_spare_change bytes.now)) result list.new)
-        × (result ≤ at + 6 * projects) }
-{
-    let mut end = at;
-    for j in 0..projects {
-        let spare = project_spare(bytes, j);
-        end = note(list, end, 2, j, spare, 0);
+    // A project's ceiling and then its budget.
+    fn note_project(&mut self, place: u8, old: Project, new: Project)
+        requires { self.old.count + 12 ≤ 342 }
+        ensures { (Noted self.old.count self.old.bytes (project_entries place old new) self.new.count self.new.bytes)
+            × (self.new.count ≤ self.old.count + 12) }
+    {
+        self.note(4, place, u16::from(old.ceiling), u16::from(new.ceiling));
+        self.note(5, place, old.budget, new.budget);
     }
-    end
-}
 
-fn spare_kinds(bytes: &[u8], plan: Plan, list: &mut [u8], at: usize) -> usize
-    requires { (plan.projects ≤ 8) × (plan.kinds ≤ 16) × (size plan ≤ length bytes.now)
-        × (at + 6 * plan.kinds ≤ length list.old) }
-    ensures { (Noted at list.old
-        (entries_to plan.kinds (kind_spare_change bytes.now plan)) result list.new)
-        × (result ≤ at + 6 * plan.kinds) }
-{
-    let mut end = at;
-    for i in 0..plan.kinds {
-        let kind = plan.kind[i as usize];
-        let kept = mended::kept(kind, plan.projects);
-        let spare = kind_spare(bytes, plan.projects, i);
-        end = note_spare(list, end, i, kept, spare);
+    // A kind's deadline, or that the kind is dropped.
+    fn note_kind(&mut self, place: u8, kept: bool, old: Kind, new: Kind)
+        requires { self.old.count + 6 ≤ 342 }
+        ensures { (Noted self.old.count self.old.bytes (kind_entries kept place old new) self.new.count self.new.bytes)
+            × (self.new.count ≤ self.old.count + 6) }
+    {
+        if kept {
+            self.note(6, place, old.deadline, new.deadline);
+        } else {
+            self.put(7, place, 0, 0);
+        }
     }
-    end
-}
 
-fn projects(plan: Plan, list: &mut [u8], at: usize) -> usize
-    requires { (plan.projects ≤ 8) × (at + 12 * plan.projects ≤ length list.old) }
-    ensures { (Noted at list.old (entries_to plan.projects (project_changes plan)) result list.new)
-        × (result ≤ at + 12 * plan.projects) }
-{
-    let mut end = at;
-    for j in 0..plan.projects {
-        let project = plan.project[j as usize];
-        let mended = mended::project_for(project, plan.cards, plan.frame);
-        end = note_project(list, end, j, project, mended);
+    // kept: a loop for each of the four runs of entries, since each notes other things of a place; one
+    // loop over a closure would be no shorter.
+    fn spare_projects(&mut self, bytes: &[u8], projects: u8)
+        requires { (projects ≤ 8) × (3 + 2 * projects ≤ length bytes.now) × (self.old.count + 6 * projects ≤ 342) }
+        ensures { (Noted self.old.count self.old.bytes (entries_to projects (project_spare_change bytes.now)) self.new.count self.new.bytes)
+            × (self.new.count ≤ self.old.count + 6 * projects) }
+    {
+        // kept: by number, since no places are gone over, but bytes of the file.
+        for j in 0..projects {
+            let from = HEADER + PROJECT * usize::from(j);
+            self.note(2, j, spare(bytes, from, PROJECT, BITS_2), 0);
+        }
     }
-    end
-}
 
-fn kinds(plan: Plan, list: &mut [u8], at: usize) -> usize
-    requires { (plan.kinds ≤ 16) × (at + 6 * plan.kinds ≤ length list.old) }
-    ensures { (Noted at list.old (entries_to plan.kinds (kind_changes plan)) result list.new)
-        × (result ≤ at + 6 * plan.kinds) }
-{
-    let mut end = at;
-    for i in 0..plan.kinds {
-        let kind = plan.kind[i as usize];
-        let kept = mended::kept(kind, plan.projects);
-        let mended = mended::kind_for(kind);
-        end = note_kind(list, end, i, kept, kind, mended);
+    fn spare_kinds(&mut self, bytes: &[u8], plan: Plan)
+        requires { (plan.projects ≤ 8) × (plan.kinds ≤ 16) × (size plan ≤ length bytes.now)
+            × (self.old.count + 6 * plan.kinds ≤ 342) }
+        ensures { (Noted self.old.count self.old.bytes (entries_to plan.kinds (kind_spare_change bytes.now plan)) self.new.count
+            self.new.bytes)
+            × (self.new.count ≤ self.old.count + 6 * plan.kinds) }
+    {
+        let start = HEADER + PROJECT * usize::from(plan.projects);
+        for (i, kind) in plan.kind[..usize::from(plan.kinds)].iter().enumerate() {
+            let kept = mended::kept(*kind, plan.projects);
+            let spare = spare(bytes, start + KIND * i, KIND, BITS_1);
+            self.note_spare(i as u8, kept, spare);
+        }
     }
-    end
+
+    fn projects(&mut self, plan: Plan)
+        requires { (plan.projects ≤ 8) × (self.old.count + 12 * plan.projects ≤ 342) }
+        ensures { (Noted self.old.count self.old.bytes (entries_to plan.projects (project_changes plan)) self.new.count self.new.bytes)
+            × (self.new.count ≤ self.old.count + 12 * plan.projects) }
+    {
+        for (j, project) in plan.project[..usize::from(plan.projects)]
+            .iter()
+            .enumerate()
+        {
+            let mended = mended::project_for(*project, plan.cards, plan.frame);
+            self.note_project(j as u8, *project, mended);
+        }
+    }
+
+    fn kinds(&mut self, plan: Plan)
+        requires { (plan.kinds ≤ 16) × (self.old.count + 6 * plan.kinds ≤ 342) }
+        ensures { (Noted self.old.count self.old.bytes (entries_to plan.kinds (kind_changes plan)) self.new.count self.new.bytes)
+            × (self.new.count ≤ self.old.count + 6 * plan.kinds) }
+    {
+        for (i, kind) in plan.kind[..usize::from(plan.kinds)].iter().enumerate() {
+            let kept = mended::kept(*kind, plan.projects);
+            let mended = mended::kind_for(*kind);
+            self.note_kind(i as u8, kept, *kind, mended);
+        }
+    }
 }
 
 // All of them: spare bits, then project by project, then kind by kind.
-pub(crate) fn changes(bytes: &[u8], plan: Plan, list: &mut [u8]) -> usize
-    requires { (plan.projects ≤ 8) × (plan.kinds ≤ 16) × (size plan ≤ length bytes.now) × (342 ≤ length list.old) }
-    ensures { (Noted 0 list.old (changes_in bytes.now plan) result list.new) × (result ≤ 342) }
+pub(crate) fn changes(bytes: &[u8], plan: Plan) -> Notes
+    requires { (plan.projects ≤ 8) × (plan.kinds ≤ 16) × (size plan ≤ length bytes.now) }
+    ensures { (Noted 0 (replicate 342 0) (changes_in bytes.now plan) result.count result.bytes) × (result.count ≤ 342) }
 {
-    let header = note(list, 0, 1, 0, header_spare(bytes), 0);
-    let projects_clear = spare_projects(bytes, plan.projects, list, header);
-    let clear = spare_kinds(bytes, plan, list, projects_clear);
-    let fitted = projects(plan, list, clear);
-    kinds(plan, list, fitted)
+    let mut notes = Notes {
+        bytes: [0; LONGEST],
+        count: 0,
+    };
+    notes.note(1, 0, spare(bytes, 0, HEADER, BITS_4), 0);
+    notes.spare_projects(bytes, plan.projects);
+    notes.spare_kinds(bytes, plan);
+    notes.projects(plan);
+    notes.kinds(plan);
+    notes
 }

@@ -6,8 +6,7 @@
 mod entries;
 mod mended;
 
-ghost use Rattle.std.specs.Prelude.{◌≡◌, ◌≤◌, length, get_or};
-ghost use Rattle.laws.specs.Written.{written};
+ghost use Rattle.std.specs.Prelude.{◌≡◌};
 ghost use Rattle.plan.specs.Record.{no_plan};
 ghost use Rattle.rescue.specs.Rescue.{Rescues};
 
@@ -15,15 +14,13 @@ use answer::Answer;
 use plan::Plan;
 
 // The answer, the plan (all zero on a refusal) and how many bytes of the list were written.
+// kept: "any plan .. that its answer carries is zero when refused".
 #[derive(Clone, Copy)]
 pub struct Rescued {
     pub answer: Answer,
     pub plan: Plan,
     pub count: usize,
 }
-
-// The bytes of the longest list: 57 entries.
-const LONGEST: usize = 342;
 
 fn refused(answer: Answer) -> Rescued
     ensures { (result.answer ≡ answer) × (result.plan ≡ no_plan) × (result.count ≡ 0) }
@@ -32,15 +29,6 @@ fn refused(answer: Answer) -> Rescued
         answer,
         plan: Plan::empty(),
         count: 0,
-    }
-}
-
-fn copy(from: &[u8], count: usize, to: &mut [u8])
-    requires { (count ≤ length from.now) × (count ≤ length to.old) }
-    ensures { to.new ≡ written count (λ k. get_or from.now k 0) to.old }
-{
-    for i in 0..count {
-        to[i] = from[i];
     }
 }
 
@@ -58,12 +46,12 @@ pub fn rescue(bytes: &[u8], list: &mut [u8]) -> Rescued
     if plan.kinds == 0 {
         return refused(Answer::bare(20));
     }
-    let mut noted = [0u8; LONGEST];
-    let count = entries::changes(bytes, damaged, &mut noted);
+    let notes = entries::changes(bytes, damaged);
+    let count = notes.count;
     if list.len() < count {
         return refused(Answer::bare(9));
     }
-    copy(&noted, count, list);
+    list[..count].copy_from_slice(&notes.bytes[..count]);
     Rescued {
         answer: Answer::Good,
         plan,

@@ -1,7 +1,7 @@
 -- How ranks are counted: a kind's whole standing (its project, the slices until it is due, its number) is one number, and its rank how
 -- many lie from its project's least one up to its own.
 -- Assumes nothing.
-use Rattle.std.specs.Prelude.{ℕ, ◌+◌, ◌-◌, ◌*◌, ◌<◌, ◌≡◌, ◌≢◌, Bool, List, leb, length, replicate}
+use Rattle.std.specs.Prelude.{ℕ, ◌+◌, ◌-◌, ◌*◌, ◌<◌, ◌≡◌, Bool, List, leb, length, get_or, replicate, Option, Some, None}
 use Rattle.laws.specs.Count.{count_to}
 use Rattle.laws.specs.Written.{written}
 use Rattle.seats.specs.Seats.{at}
@@ -45,11 +45,11 @@ pub record Standings (works until : List ℕ) (n : ℕ) (r : List ℕ) : Type 0 
   pub works_small : (k : ℕ) → k < n → at works k < 256
   pub until_small : (k : ℕ) → k < n → at until k < 65536
 
--- what is known of how many are a project's least or after it: the count, or 0 where nobody has counted yet
-pub Known : List ℕ → ℕ → ℕ → Type 0
-Known standings least known = known ≢ 0 → known ≡ at_or_after standings least
+-- what is known of how many are a project's least or after it: the count, or nothing where nobody has counted yet
+unfoldable pub Known : List ℕ → ℕ → Option ℕ → Type 0
+Known standings least known = (x : ℕ) → known ≡ Some x → x ≡ at_or_after standings least
 
 -- the same of each of eight projects
-pub record Firsts (standings r : List ℕ) : Type 0 where
+pub record Firsts (standings : List ℕ) (r : List (Option ℕ)) : Type 0 where
   pub size : length r ≡ 8
-  pub known : (j : ℕ) → Known standings (least_of (j + 1)) (at r j)
+  pub known : (j : ℕ) → Known standings (least_of (j + 1)) (get_or r j None)

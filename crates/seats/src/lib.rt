@@ -28,63 +28,74 @@ fn standing(works: u8, until: u16, number: usize) -> u32
     requires { number < 16 }
     ensures { Standing works until number result }
 {
-    works as u32 * OWN + (until as u32 * 16 + number as u32)
+    u32::from(works) * OWN + (u32::from(until) * 16 + number as u32)
 }
 
-// The standings of the first kinds.
-fn standings(works: &[u8; KINDS], until: &[u16; KINDS], kinds: usize) -> [u32; KINDS]
-    requires { kinds ≤ 16 }
-    ensures { Standings works.now until.now kinds result }
-{
-    let mut standings = [0u32; KINDS];
-    for i in 0..kinds {
-        standings[i] = standing(works[i], until[i], i);
-    }
-    standings
+// The standings of all sixteen places, none of more than 28 bits.
+#[derive(Clone, Copy)]
+struct AllStandings {
+    each: [u32; KINDS],
+    ghost narrow: { Within28Bits each },
 }
 
-// How many standings are x or after it. There is no branch in the loop: what is carried out of 28 bits
-// is added, which on vectors costs less than a comparison.
-fn at_or_after(standings: &[u32; KINDS], x: u32) -> u32
-    requires { (x ≤ 268435456) × Within28Bits standings.now }
-    ensures { result ≡ at_or_after standings.now x }
-{
-    let turn = ALL - x;
-    let mut count: u32 = 0;
-    for k in 0..KINDS {
-        count += (standings[k] + turn) / ALL;
+impl AllStandings {
+    // Those of the first kinds.
+    fn of(works: &[u8; KINDS], until: &[u16; KINDS], kinds: usize) -> Self
+        requires { kinds ≤ 16 }
+        ensures { Standings works.now until.now kinds result.each }
+    {
+        let mut each = [0u32; KINDS];
+        // kept: three arrays go side by side, and the number is a part of what is stored
+        for i in 0..kinds {
+            each[i] = standing(works[i], until[i], i);
+        }
+        AllStandings { each }
     }
-    count
-}
 
-// The same of a project's least standing, which is counted only where it is not known yet: 0.
-fn first(standings: &[u32; KINDS], known: u32, least: u32) -> u32
-    requires { (least ≤ 268435456) × Within28Bits standings.now × Known standings.now least known }
-    ensures { result ≡ at_or_after standings.now least }
-{
-    if known != 0 {
-        return known;
+    // How many are x or after it. There is no branch in the loop: what is carried out of 28 bits is
+    // added, which on vectors costs less than a comparison.
+    fn at_or_after(&self, x: u32) -> u32
+        requires { x ≤ 268435456 }
+        ensures { result ≡ at_or_after self.now.each x }
+    {
+        let turn = ALL - x;
+        let mut count: u32 = 0;
+        for standing in &self.each {
+            count += (*standing + turn) / ALL;
+        }
+        count
     }
-    at_or_after(standings, least)
-}
 
-// Where a kind sits on its project's cards: its rank is how many are its project's least or after it,
-// less how many are its own or after it.
-fn seat(standings: &[u32; KINDS], first: u32, own: u32, low: u8, end: u8) -> u8
-    requires { (own ≤ 268435456) × Within28Bits standings.now × (at_or_after standings.now own ≤ first) × (first ≤ 16) }
-    ensures { result ≡ seat_at (low + (first - at_or_after standings.now own)) end }
-{
-    let rank = first - at_or_after(standings, own);
-    let card = low as u32 + rank;
-    if card < end as u32 {
-        return card as u8 + 1;
+    // The same of a project's least standing, which is counted only where it is not known yet.
+    #[tactic(auto, unfolding(crate::specs::Ranks::Known))]
+    fn first(&self, known: Option<u32>, least: u32) -> u32
+        requires { (least ≤ 268435456) × Known self.now.each least known }
+        ensures { result ≡ at_or_after self.now.each least }
+    {
+        known.unwrap_or_else(|| self.at_or_after(least))
     }
-    0
+
+    // Where a kind sits on its project's cards: its rank is how many are its project's least or after
+    // it, less how many are its own or after it.
+    #[tactic(auto, unfolding(crate::specs::Seats::seat_at))]
+    fn seat(&self, first: u32, own: u32, low: u8, end: u8) -> u8
+        requires { (own ≤ 268435456) × (at_or_after self.now.each own ≤ first) × (first ≤ 16) }
+        ensures { result ≡ seat_at (low + (first - at_or_after self.now.each own)) end }
+    {
+        let rank = first - self.at_or_after(own);
+        let card = u32::from(low) + rank;
+        if card < u32::from(end) {
+            card as u8 + 1
+        } else {
+            0
+        }
+    }
 }
 
 // Where every kind sits: the card that it takes, plus 1, or 0. A kind works for its project plus 1,
 // or for 0 where it has nothing left; low and end are each project's lowest card and the card
 // after its last.
+// kept: arrays side by side, of which `seats_by` speaks, and no branch in the count over them.
 pub fn seats(
     works: &[u8; KINDS],
     until: &[u16; KINDS],
@@ -98,24 +109,25 @@ pub fn seats(
     if KINDS < kinds {
         return seats;
     }
-    let standings = standings(works, until, kinds);
-    let mut firsts = [0u32; PROJECTS];
+    let standings = AllStandings::of(works, until, kinds);
+    let mut firsts = [None; PROJECTS];
+    // kept: three arrays go side by side, and for most kinds only one is looked at
     for i in 0..kinds {
-        let number = works[i] as usize;
+        let number = works[i];
         if number == 0 {
             continue;
         }
-        if PROJECTS < number {
+        let project = usize::from(number) - 1;
+        if PROJECTS <= project {
             continue;
         }
-        let project = number - 1;
         if end[project] <= low[project] {
             continue;
         }
-        let first = first(&standings, firsts[project], number as u32 * OWN);
-        firsts[project] = first;
-        let own = standings[i];
-        seats[i] = seat(&standings, first, own, low[project], end[project]);
+        let first = standings.first(firsts[project], u32::from(number) * OWN);
+        firsts[project] = Some(first);
+        let own = standings.each[i];
+        seats[i] = standings.seat(first, own, low[project], end[project]);
     }
     seats
 }

@@ -1,7 +1,8 @@
 -- Document 01, "Supply and verdict": whether a unit fits at k, and the least such k. Document 001's equation 4. The excess is that of
 -- document 02's (iii), and the bad slice beside them its (ii).
 -- Assumes nothing.
-use Rattle.std.specs.Prelude.{ℕ, zero, suc, ◌+◌, ◌-◌, ◌*◌, ◌/◌, ◌%◌, Bool, cond, not, ◌||◌, List, eqb, leb, ltb, get_or}
+use Rattle.std.specs.Prelude.{ℕ, zero, suc, ◌+◌, ◌-◌, ◌*◌, ◌/◌, ◌%◌, Bool, cond, not, ◌||◌, List, eqb, leb, ltb, get_or, min}
+use Rattle.laws.specs.Sum.{sum_to}
 use Rattle.laws.specs.Least.{least_to, least_place}
 use Rattle.laws.specs.First.{first_to}
 use Rattle.supply.specs.Supply.{supply, bad_slice}
@@ -71,6 +72,10 @@ least_with i least value slice = cond (eqb i 0 || ltb value least.value) (record
 -- the least of f over n places, and what g has for the first that attains it
 abbrev pub least_of : ℕ → (ℕ → ℕ) → (ℕ → ℕ) → Least
 least_of n f g = record { value = least_to n f; slice = g (least_place n f) }
+
+-- the cards that count at k of the first n slices of a list
+abbrev pub counted_to : ℕ → List ℕ → ℕ → ℕ
+counted_to k cards n = sum_to n (λ x. min k (get_or cards x 0))
 
 -- the supply over the first n starts, and its bad slice
 abbrev pub supplied_to : ℕ → (ℕ → ℕ) → ℕ → ℕ → Least

@@ -11,6 +11,7 @@ ghost use Rattle.supply.specs.Fit.{held_at, least_with, short_by, fit_of, suppli
 // The least k at which a unit fits, or 0 where there is none, and then the excess. Document 01's
 // k is a width here: the most cards that count at one slice. The slice is the bad one to arrive in,
 // for that k or for the one that the excess names.
+// kept: a width of 0 and no Option, as `fit_of` and its laws have document 01's k of 0.
 #[derive(Clone, Copy)]
 pub struct Fit {
     pub width: u8,
@@ -30,38 +31,12 @@ struct Least {
     slice: u8,
 }
 
-fn lesser(a: usize, b: usize) -> usize
-    ensures { result ≡ min a b }
-{
-    if a < b {
-        return a;
-    }
-    b
-}
-
-fn product(a: usize, b: usize) -> usize
-    requires { (a ≤ 65536) × (b ≤ 65535) }
-    ensures { (result ≡ a * b) × (result ≤ 4294901760) }
-{
-    a * b
-}
-
-// The difference, and 0 where it would be less.
-fn above(a: usize, b: usize) -> usize
-    ensures { result ≡ a - b }
-{
-    if a < b {
-        return 0;
-    }
-    a - b
-}
-
 // The whole units of another kind in t slices.
 fn whole_units(separation: usize, deadline: usize, t: usize) -> usize
     requires { (0 < separation) × (separation ≤ 65535) × (t ≤ 65535) }
     ensures { (result ≡ whole_units separation deadline t) × (result ≤ 65536) }
 {
-    (t + above(separation, deadline)) / separation
+    (t + separation.saturating_sub(deadline)) / separation
 }
 
 // What another kind of the same project adds to the workload in t slices: its whole units, and the
@@ -72,19 +47,12 @@ pub fn workload_part(separation: u16, deadline: u16, length: u16, t: u16) -> u32
     let length = length as usize;
     let t = t as usize;
     if separation == 0 {
-        return lesser(length, t) as u32;
+        return length.min(t) as u32;
     }
     let separation = separation as usize;
     let units = whole_units(separation, deadline as usize, t);
-    let carry_in = lesser(length, above(t, product(units, separation)));
-    (product(units, length) + carry_in) as u32
-}
-
-// The cards of one slice that count at this width.
-fn counted(width: u8, cards: u8) -> u16
-    ensures { (result ≡ min width cards) × (result ≤ 255) }
-{
-    lesser(width as usize, cards as usize) as u16
+    let carry_in = length.min(t.saturating_sub(units * separation));
+    (units * length + carry_in) as u32
 }
 
 // The least so far, with the value at this place and its slice. At place 0 that value is it, and
@@ -105,7 +73,7 @@ fn least_with(place: usize, least: Least, value: usize, slice: u8) -> Least
 fn asked(width: u8, length: u16, workload: u32) -> usize
     ensures { (result ≡ width * length + workload) × (result ≤ 8589934592) }
 {
-    product(width as usize, length as usize) + workload as usize
+    width as usize * length as usize + workload as usize
 }
 
 // How much longer a unit is than this width allows, with the width's bad slice: C minus the greatest
@@ -125,7 +93,7 @@ fn short_by(width: u8, length: u16, workload: u32, supply: usize, slice: u8) -> 
         };
     }
     let allowed = (supply - workload) / width as usize;
-    let short = length - lesser(allowed, length);
+    let short = length - allowed.min(length);
     Least {
         value: short,
         slice,
@@ -139,9 +107,8 @@ fn two_frames(held: [u8; 64], frame: usize) -> [u8; 128]
     ensures { result ≡ written (2 * frame) (held_at frame held) (replicate 128 0) }
 {
     let mut cards = [0u8; 128];
-    for s in 0..2 * frame {
-        cards[s] = held[s % frame];
-    }
+    cards[..frame].copy_from_slice(&held[..frame]);
+    cards[frame..2 * frame].copy_from_slice(&held[..frame]);
     cards
 }
 
@@ -183,19 +150,21 @@ pub fn least_fit(
         value: beyond,
         slice: 0,
     };
+    // kept: document 01 asks for loops over k, start and length, and for the labelled break.
     'widths: for below in 0..ceiling {
         let width = below + 1;
         let mut one_frame: u16 = 0;
         let mut least = Least { value: 0, slice: 0 };
+        // kept: as windows of the cards there would be none for a rest of 0.
         for start in 0..slices {
             let mut sum: u16 = 0;
-            for x in 0..rest {
-                sum += counted(width, cards[start + x]);
+            for here in &cards[start..start + rest] {
+                sum += u16::from(width.min(*here));
             }
             least = least_with(start, least, sum as usize, start as u8);
-            one_frame += counted(width, cards[start]);
+            one_frame += u16::from(width.min(cards[start]));
         }
-        let supply = product(frames, one_frame as usize) + least.value;
+        let supply = frames * one_frame as usize + least.value;
         let asked = asked(width, length, workload);
         if asked <= supply {
             found = width;
@@ -208,7 +177,7 @@ pub fn least_fit(
         }
         let here = short_by(width, length, workload, supply, least.slice);
         short = least_with(below as usize, short, here.value, here.slice);
-        excess = lesser(short.value, length as usize);
+        excess = short.value.min(length as usize);
     }
     Fit {
         width: found,
@@ -226,6 +195,7 @@ pub struct Supplied {
 
 // What one width is given in t slices. It goes the way of `least_fit`, which tries one width after the
 // other until the unit fits.
+// kept: the two loops stand here and in `least_fit`, since document 01 asks there for loops over k, start and length.
 pub fn supply(held: [u8; 64], frame: u8, width: u8, t: u16) -> Supplied
     ensures { result ≡ supplied_of frame held width t }
 {
@@ -241,15 +211,16 @@ pub fn supply(held: [u8; 64], frame: u8, width: u8, t: u16) -> Supplied
     let cards = two_frames(held, slices);
     let mut one_frame: u16 = 0;
     let mut least = Least { value: 0, slice: 0 };
+    // kept: as windows of the cards there would be none for a rest of 0.
     for start in 0..slices {
         let mut sum: u16 = 0;
-        for x in 0..rest {
-            sum += counted(width, cards[start + x]);
+        for here in &cards[start..start + rest] {
+            sum += u16::from(width.min(*here));
         }
         least = least_with(start, least, sum as usize, start as u8);
-        one_frame += counted(width, cards[start]);
+        one_frame += u16::from(width.min(cards[start]));
     }
-    let value = (product(frames, one_frame as usize) + least.value) as u32;
+    let value = (frames * one_frame as usize + least.value) as u32;
     Supplied {
         value,
         slice: least.slice,

@@ -6,43 +6,43 @@ use crate::Unit;
 use plan::Kind;
 
 impl Unit {
+    #[tactic(auto, unfolding(crate::specs::Form::untouched))]
     fn is_untouched(self) -> bool
         ensures { result ≡ untouched self }
     {
         self.gone == 0 && self.left == 0
     }
 
+    #[tactic(auto, unfolding(crate::specs::Form::due_in_time))]
     fn is_in_time(self, deadline: u16) -> bool
         ensures { result ≡ due_in_time deadline self }
     {
         self.left == 0 || self.gone < deadline
     }
 
+    #[tactic(auto, unfolding(crate::specs::Form::underway))]
     fn is_underway(self, kind: Kind) -> bool
         ensures { result ≡ underway kind self }
     {
-        if kind.separation < self.gone {
-            return false;
-        }
-        if kind.length < self.left {
-            return false;
-        }
-        self.is_in_time(kind.deadline)
+        self.gone <= kind.separation && self.left <= kind.length && self.is_in_time(kind.deadline)
     }
 
+    #[tactic(auto, unfolding(crate::specs::Form::unit_in_form))]
     fn in_form(self, kind: Kind) -> bool
         ensures { result ≡ unit_in_form kind self }
     {
         if self.released {
-            return self.is_underway(kind);
+            self.is_underway(kind)
+        } else {
+            self.is_untouched()
         }
-        self.is_untouched()
     }
 
+    #[tactic(auto, unfolding(crate::specs::Form::empty_unit, crate::specs::Form::untouched))]
     fn is_empty(self) -> bool
         ensures { result ≡ empty_unit self }
     {
-        !self.released && self.is_untouched()
+        self == Unit::empty()
     }
 
     // Whether it may stand at its place: in form where the plan has that kind, zeros where not.
@@ -50,8 +50,9 @@ impl Unit {
         ensures { result ≡ fits_place used kind self }
     {
         if used {
-            return self.in_form(kind);
+            self.in_form(kind)
+        } else {
+            self.is_empty()
         }
-        self.is_empty()
     }
 }

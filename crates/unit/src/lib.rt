@@ -13,7 +13,8 @@ ghost use Rattle.std.specs.Prelude.{◌≡◌};
 ghost use Rattle.unit.specs.Unit.{no_unit};
 
 // A kind's last unit. It takes six bytes.
-#[derive(Clone, Copy)]
+// kept: no Option, since a record may say never released beside slices that are not 0: 10 is for it.
+#[derive(Clone, Copy, PartialEq, Eq)]
 pub struct Unit {
     pub gone: u16,
     pub left: u16,

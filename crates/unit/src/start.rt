@@ -7,13 +7,15 @@ use crate::Unit;
 use answer::Answer;
 use plan::Kind;
 
+#[tactic(auto, unfolding(plan::specs::Order::within))]
 fn fits(length: u32, most: u16) -> bool
     ensures { result ≡ within most length }
 {
-    length != 0 && length <= most as u32
+    length != 0 && length <= u32::from(most)
 }
 
 impl Unit {
+    #[tactic(auto, unfolding(crate::specs::Start::early))]
     fn is_early(self, separation: u16) -> bool
         ensures { result ≡ early separation self }
     {
@@ -21,6 +23,7 @@ impl Unit {
     }
 
     // Whether the kind may start one of that length after this one.
+    #[tactic(auto, unfolding(crate::specs::Start::startable))]
     pub fn may_start(self, kind: Kind, length: u32) -> Answer
         ensures { result ≡ startable kind self length }
     {

@@ -6,39 +6,31 @@ use crate::Unit;
 
 impl Unit {
     // The slices until it is due.
+    #[tactic(auto, unfolding(crate::specs::Step::until_due))]
     pub fn until_due(self, deadline: u16) -> u16
         ensures { result ≡ until_due deadline self }
     {
-        if deadline <= self.gone {
-            return 0;
-        }
-        deadline - self.gone
+        deadline.saturating_sub(self.gone)
     }
 
     // The slices gone a slice later: one more, held at the separation, for a kind ever released.
+    #[tactic(auto, unfolding(crate::specs::Step::gone_after))]
     fn gone_after(self, separation: u16) -> u16
         ensures { result ≡ gone_after separation self }
     {
-        if !self.released {
-            return self.gone;
+        if self.released {
+            separation.min(self.gone.saturating_add(1))
+        } else {
+            self.gone
         }
-        if separation <= self.gone {
-            return separation;
-        }
-        self.gone + 1
     }
 
     // The slices left a slice later: one less where it was served.
+    #[tactic(auto, unfolding(crate::specs::Step::left_after))]
     fn left_after(self, served: bool) -> u16
         ensures { result ≡ left_after served self }
     {
-        if !served {
-            return self.left;
-        }
-        if self.left == 0 {
-            return 0;
-        }
-        self.left - 1
+        self.left.saturating_sub(u16::from(served))
     }
 
     // The unit a slice later, served in it or not.

@@ -3,20 +3,21 @@
 // number is answered: the record order first, then 12.
 ghost use Rattle.std.specs.Prelude.{◌≡◌, ◌<◌};
 ghost use Rattle.answer.specs.declared.Answer.TheVariants.{Good};
-ghost use Rattle.plan.specs.Order.{InOrder};
 ghost use Rattle.verdict.specs.Figures.{no_figures, figures_with, figures_of};
 
 use crate::all_cards;
 use answer::Answer;
-use plan::Plan;
+use plan::{Ordered, Plan};
 
 // The answer, and beside it how many k there are, the workload, and S(k,D) and its bad slice with
 // those of k at place k - 1. Places beyond the ceiling hold 0, and on a refusal everything does.
+// kept: "any .. figure .. that its answer carries is zero when refused".
 #[derive(Clone, Copy)]
 pub struct Figures {
     pub answer: Answer,
     pub widths: u8,
     pub workload: u32,
+    // kept: two arrays, as `figures_of` and the C interface have them.
     pub supply: [u32; Plan::CARDS],
     pub slice: [u8; Plan::CARDS],
 }
@@ -34,11 +35,12 @@ fn no_figures(answer: Answer) -> Figures
 }
 
 // The figures of a kind of a plan in order.
-fn figures_on(plan: Plan, i: u8) -> Figures
-    requires { (InOrder plan) × (i < plan.kinds) }
-    ensures { result ≡ figures_with plan i Good }
+fn figures_on(ordered: Ordered, i: u8) -> Figures
+    requires { i < ordered.plan.kinds }
+    ensures { result ≡ figures_with ordered.plan i Good }
 {
-    let all = all_cards(plan);
+    let plan = ordered.plan;
+    let all = all_cards(ordered);
     let kind = plan.kind[i as usize];
     let project = kind.project as usize;
     let ceiling = plan.project[project].ceiling;
@@ -46,6 +48,7 @@ fn figures_on(plan: Plan, i: u8) -> Figures
     let others = workload::workload(plan, i as usize) as u32;
     let mut supply = [0u32; Plan::CARDS];
     let mut slice = [0u8; Plan::CARDS];
+    // kept: by place, since one call gives what stands there in both arrays.
     for below in 0..ceiling {
         let given = supply::supply(cards, plan.frame, below + 1, kind.deadline);
         supply[below as usize] = given.value;
@@ -71,5 +74,5 @@ pub fn kind_figures(plan: Plan, kind: usize) -> Figures
     if plan.kinds as usize <= kind {
         return no_figures(Answer::bare(12));
     }
-    figures_on(plan, kind as u8)
+    figures_on(Ordered { plan }, kind as u8)
 }

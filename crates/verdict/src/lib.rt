@@ -6,21 +6,23 @@ mod figures;
 
 ghost use Rattle.std.specs.Prelude.{◌≡◌, ◌+◌, ◌*◌, ◌≤◌, ◌<◌, eqb};
 ghost use Rattle.answer.specs.Answer.{not_admitted, refuse};
-ghost use Rattle.plan.specs.Order.{kind_of, InOrder};
+ghost use Rattle.plan.specs.Order.{kind_of};
 ghost use Rattle.verdict.specs.Verdict.{admitted, verdict_of, judged};
 ghost use Rattle.verdict.specs.Steps.{run_cards, project_cards, all_cards, fit_on};
 
 use answer::Answer;
 pub use figures::{Figures, kind_figures};
-use plan::Plan;
+use plan::{Ordered, Plan};
 use supply::Fit;
 
 // The answer, and beside it document 01's k for each kind: the most cards that count at one
 // slice, hence a width; and the bad slice to arrive in for that k. Places beyond the kinds hold 0,
 // and on a refusal every place does.
+// kept: "A refused verdict gives k 0 for every kind".
 #[derive(Clone, Copy)]
 pub struct Verdict {
     pub answer: Answer,
+    // kept: two arrays, as `judged` and the C interface have them.
     pub width: [u8; Plan::KINDS],
     pub slice: [u8; Plan::KINDS],
 }
@@ -32,33 +34,33 @@ fn run_cards(first: u16, budget: u16, frame: u8) -> [u8; Plan::FRAME]
 {
     let end = first + budget;
     let mut cards = [0u8; Plan::FRAME];
-    for s in 0..frame {
-        let below = layout::cards_below(first, frame, s);
-        cards[s as usize] = (layout::cards_below(end, frame, s) - below) as u8;
+    for (s, held) in cards[..frame as usize].iter_mut().enumerate() {
+        let below = layout::cards_below(first, frame, s as u8);
+        *held = (layout::cards_below(end, frame, s as u8) - below) as u8;
     }
     cards
 }
 
 // The cards that each project holds at each slice of the frame.
-fn all_cards(plan: Plan) -> [[u8; Plan::FRAME]; Plan::PROJECTS]
-    requires { InOrder plan }
-    ensures { result ≡ all_cards plan }
+fn all_cards(ordered: Ordered) -> [[u8; Plan::FRAME]; Plan::PROJECTS]
+    ensures { result ≡ all_cards ordered.plan }
 {
+    let plan = ordered.plan;
     let mut cards = [[0u8; Plan::FRAME]; Plan::PROJECTS];
     let mut first: u16 = 0;
-    for j in 0..plan.projects {
-        let budget = plan.project[j as usize].budget;
-        cards[j as usize] = run_cards(first, budget, plan.frame);
-        first += budget;
+    for (j, project) in plan.project[..plan.projects as usize].iter().enumerate() {
+        cards[j] = run_cards(first, project.budget, plan.frame);
+        first += project.budget;
     }
     cards
 }
 
 // The k, the excess and the bad slice of a kind, from the cards that its project holds.
-fn fit_on(plan: Plan, cards: [u8; Plan::FRAME], i: u8) -> Fit
-    requires { (InOrder plan) × (i < plan.kinds) × (cards ≡ project_cards plan (kind_of plan i).project) }
-    ensures { result ≡ fit_on plan i }
+fn fit_on(ordered: Ordered, cards: [u8; Plan::FRAME], i: u8) -> Fit
+    requires { (i < ordered.plan.kinds) × (cards ≡ project_cards ordered.plan (kind_of ordered.plan i).project) }
+    ensures { result ≡ fit_on ordered.plan i }
 {
+    let plan = ordered.plan;
     let kind = plan.kind[i as usize];
     let ceiling = plan.project[kind.project as usize].ceiling;
     let others = workload::workload(plan, i as usize);
@@ -84,17 +86,17 @@ fn told(fit: Fit, place: u8) -> Answer
 }
 
 // The verdict on a plan in order.
-fn fits(plan: Plan) -> Verdict
-    requires { InOrder plan }
-    ensures { result ≡ verdict_of plan (admitted plan) }
+fn fits(ordered: Ordered) -> Verdict
+    ensures { result ≡ verdict_of ordered.plan (admitted ordered.plan) }
 {
-    let cards = all_cards(plan);
+    let plan = ordered.plan;
+    let cards = all_cards(ordered);
     let mut width = [0u8; Plan::KINDS];
     let mut slice = [0u8; Plan::KINDS];
-    for i in 0..plan.kinds {
-        let project = plan.kind[i as usize].project as usize;
-        let fit = fit_on(plan, cards[project], i);
-        let answer = told(fit, i);
+    for (i, kind) in plan.kind[..plan.kinds as usize].iter().enumerate() {
+        let place = i as u8;
+        let fit = fit_on(ordered, cards[kind.project as usize], place);
+        let answer = told(fit, place);
         let Answer::Good = answer else {
             return Verdict {
                 answer,
@@ -102,8 +104,8 @@ fn fits(plan: Plan) -> Verdict
                 slice: [0u8; Plan::KINDS],
             };
         };
-        width[i as usize] = fit.width;
-        slice[i as usize] = fit.slice;
+        width[i] = fit.width;
+        slice[i] = fit.slice;
     }
     Verdict {
         answer: Answer::Good,
@@ -124,5 +126,5 @@ pub fn judge(plan: Plan) -> Verdict
             slice: [0u8; Plan::KINDS],
         };
     };
-    fits(plan)
+    fits(Ordered { plan })
 }

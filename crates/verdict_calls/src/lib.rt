@@ -14,23 +14,12 @@ use plan::Plan;
 // The bytes of a verdict.
 const VERDICT: usize = 32;
 
-fn verdict_byte(width: [u8; Plan::KINDS], slice: [u8; Plan::KINDS], at: usize) -> u8
-    requires { at < 32 }
-    ensures { result ≡ verdict_byte width slice at }
-{
-    if at < Plan::KINDS {
-        return width[at];
-    }
-    slice[at - Plan::KINDS]
-}
-
-fn put_verdict(width: [u8; Plan::KINDS], slice: [u8; Plan::KINDS], k: &mut [u8])
+fn put_verdict(width: &[u8; Plan::KINDS], slice: &[u8; Plan::KINDS], k: &mut [u8])
     requires { 32 ≤ length k.old }
-    ensures { k.new ≡ written 32 (verdict_byte width slice) k.old }
+    ensures { k.new ≡ written 32 (verdict_byte width.now slice.now) k.old }
 {
-    for i in 0..VERDICT {
-        k[i] = verdict_byte(width, slice, i);
-    }
+    k[..Plan::KINDS].copy_from_slice(width);
+    k[Plan::KINDS..VERDICT].copy_from_slice(slice);
 }
 
 // The verdict on an image's plan: document 01's k for each kind, a byte each, and then the bad
@@ -38,12 +27,11 @@ fn put_verdict(width: [u8; Plan::KINDS], slice: [u8; Plan::KINDS], k: &mut [u8])
 pub fn parchbeetle_verdict(plan: &[u8], k: &mut [u8]) -> u64
     ensures { Judges plan.now k.old result k.new }
 {
-    let found = image_reader::plan_of(plan);
-    let seen = found.answer;
-    let Answer::Good = seen else {
-        return seen.told(0);
+    let given = match image_reader::plan_of(plan) {
+        Ok(given) => given,
+        Err(why) => return Answer::No(why).told(0),
     };
-    let verdict = verdict::judge(found.plan);
+    let verdict = verdict::judge(given);
     let answer = verdict.answer;
     let Answer::Good = answer else {
         return answer.told(0);
@@ -51,9 +39,7 @@ pub fn parchbeetle_verdict(plan: &[u8], k: &mut [u8]) -> u64
     if k.len() < VERDICT {
         return Answer::bare(9).told(0);
     }
-    let width = verdict.width;
-    let slice = verdict.slice;
-    put_verdict(width, slice, k);
+    put_verdict(&verdict.width, &verdict.slice, k);
     answer.told(0)
 }
 
@@ -61,12 +47,11 @@ pub fn parchbeetle_verdict(plan: &[u8], k: &mut [u8]) -> u64
 pub fn parchbeetle_figures(plan: &[u8], kind: u64, out: &mut [u8]) -> u64
     ensures { WritesFigures plan.now kind out.old result out.new }
 {
-    let found = image_reader::plan_of(plan);
-    let seen = found.answer;
-    let Answer::Good = seen else {
-        return seen.told(0);
+    let given = match image_reader::plan_of(plan) {
+        Ok(given) => given,
+        Err(why) => return Answer::No(why).told(0),
     };
-    let figures = verdict::kind_figures(found.plan, kind as usize);
+    let figures = verdict::kind_figures(given, kind as usize);
     let answer = figures.answer;
     let Answer::Good = answer else {
         return answer.told(0);
@@ -75,7 +60,7 @@ pub fn parchbeetle_figures(plan: &[u8], kind: u64, out: &mut [u8]) -> u64
     let Answer::Good = done else {
         return done.told(0);
     };
-    let widths = figures.widths as u16;
+    let widths = u16::from(figures.widths);
     done.told(widths)
 }
 
@@ -83,12 +68,11 @@ pub fn parchbeetle_figures(plan: &[u8], kind: u64, out: &mut [u8]) -> u64
 pub fn parchbeetle_smallest_budget(plan: &[u8], project: u64) -> u64
     ensures { result ≡ budget_told plan.now project }
 {
-    let found = image_reader::plan_of(plan);
-    let seen = found.answer;
-    let Answer::Good = seen else {
-        return seen.told(0);
+    let given = match image_reader::plan_of(plan) {
+        Ok(given) => given,
+        Err(why) => return Answer::No(why).told(0),
     };
-    let smallest = smallest_budget::smallest_budget(found.plan, project as usize);
+    let smallest = smallest_budget::smallest_budget(given, project as usize);
     let answer = smallest.answer;
     answer.told(smallest.budget)
 }

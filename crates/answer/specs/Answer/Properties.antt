@@ -1,6 +1,6 @@
 -- Laws of answers in an order.
 -- Assumes nothing.
-use Rattle.std.specs.Prelude.{◌≡◌, refl, Bool, true, false, not, ℕ, zero, suc, ◌+◌, ◌≤◌, ◌<◌, leb}
+use Rattle.std.specs.Prelude.{◌≡◌, refl, Ok, Err, Bool, true, false, not, ℕ, zero, suc, ◌+◌, ◌≤◌, ◌<◌, leb}
 use Rattle.std.proofs.Common.{sym, ap, ◌∙◌, true≢false, add-one, arith, le-leb}
 use Rattle.std.proofs.Math.Decide.{dec_lt}
 use Rattle.std.proofs.lemmas.Bool.{lt-leb}
@@ -9,7 +9,7 @@ use Rattle.answer.specs.declared.Answer.{Answer}
 use Rattle.answer.specs.declared.Answer.TheVariants.{Good, No}
 use Rattle.answer.specs.declared.Refusal.{Refusal}
 use Rattle.answer.specs.declared.Refusal.TheVariants.{ByKind}
-use Rattle.answer.specs.Answer.{number, place, excess, slice, ◌and_then◌, each_to, refuse}
+use Rattle.answer.specs.Answer.{number, place, excess, slice, ◌and_then◌, each_to, refuse, with_value}
 
 -- ---- a stage that is good hands on to the next; one that is not is the answer
 
@@ -75,6 +75,20 @@ pub ruleset stages = (refused, passed, opened_no, stage_on)
 
 pub opened_on : (r a b x : Answer) → r ≡ Good → r ≡ a → x ≡ b → x ≡ (a and_then b)
 opened_on r a b x e q p = rw (← q, e) p
+
+-- ---- a value that comes with an answer
+
+pub value_good : {A : Type 0} (a : Answer) (x y : A) → Ok y ≡ with_value a x → a ≡ Good
+value_good Good x y e = refl
+value_good (No r) x y e = cc
+
+pub value_is : {A : Type 0} (a : Answer) (x y : A) → Ok y ≡ with_value a x → y ≡ x
+value_is Good x y e = cc
+value_is (No r) x y e = cc
+
+pub value_no : {A : Type 0} (a : Answer) (x : A) (w : Refusal) → Err w ≡ with_value a x → a ≡ No w
+value_no Good x w e = cc
+value_no (No r) x w e = cc
 
 -- ---- the steps of a loop over places
 

@@ -1,7 +1,9 @@
 -- A number and its bytes are inverse, over any count of bytes.
 -- Assumes nothing.
-use Rattle.std.specs.Prelude.{◌≡◌, refl, List, [], ◌∷◌, ◌++◌, ℕ, zero, suc, ◌+◌, ◌*◌, ◌-◌, ◌/◌, ◌%◌, ◌^◌, ◌≤◌, ◌<◌, min, length, get_or, take, drop, set}
-use Rattle.std.proofs.Common.{sym, ap, ap₂, ◌∙◌, add-suc, mul_assoc, pow-suc, div-one, div-lt_iff_lt-mul, lt_of_lt_of_le, add-one, arith, length-append, take-suc, get_or-take, get_or-drop, length-take-le, drop_at, drop-drop}
+use Rattle.std.specs.Prelude.{◌≡◌, refl, List, [], ◌∷◌, ◌++◌, ℕ, zero, suc, ◌+◌, ◌*◌, ◌-◌, ◌/◌, ◌%◌, ◌^◌, ◌≤◌, ◌<◌, min, length, get_or}
+use Rattle.std.specs.Prelude.{take, drop, set}
+use Rattle.std.proofs.Common.{sym, ap, ap₂, ◌∙◌, add-suc, mul_assoc, pow-suc, div-one, div-lt_iff_lt-mul, lt_of_lt_of_le, add-one, arith}
+use Rattle.std.proofs.Common.{length-append, take-suc, get_or-take, get_or-drop, length-take-le, drop_at, drop-drop}
 use Rattle.std.proofs.Math.Nat.{pow-succ', div-div-eq-div-mul, pow-le-pow_right}
 use Rattle.std.proofs.Math.Arith.{digits_lt, digits_div, digits_mod}
 use Rattle.std.proofs.Math.ListN.{get_or-append}
@@ -136,23 +138,25 @@ bytes_more (suc n) x =
 drop_set : (l : List ℕ) (k v : ℕ) → k < length l → drop k (set l k v) ≡ v ∷ drop (suc k) l
 drop_set l k v h = ap (drop k) (set_split l k v h) ∙ drop_at (take k l) (v ∷ drop (suc k) l) k (length-take-le k l (omega arith))
 
-pub stored_none : (x : ℕ) (l : List ℕ) → (x ≡ x / 256 ^ 0) × (drop (length l - 0) l ≡ bytes_of 0 x)
+pub stored_none : (x n : ℕ) (l : List ℕ) → length l ≡ n → (x ≡ x / 256 ^ (n - n)) × (drop n l ≡ bytes_of (n - n) x)
 unfolding bytes_of
-stored_none x l = let z : length l - 0 ≡ length l = omega arith in (sym (div-one x), rw z (drop-length l))
+stored_none x n l m = let z : n - n ≡ 0 = omega arith in rw z (sym (div-one x), ap (λ (k : ℕ). drop k l) (sym m) ∙ drop-length l)
 
-pub stored_again : (x rest i n : ℕ) (l : List ℕ) → length l ≡ n → i < n → rest ≡ x / 256 ^ i → drop (n - i) l ≡ bytes_of i x
-    → drop (n - (i + 1)) (set l (n - 1 - i) (rest % 256)) ≡ bytes_of (i + 1) x
-stored_again x rest i n l m q e h =
-    let k : n - (i + 1) ≡ n - 1 - i = omega arith in
-    let j : suc (n - 1 - i) ≡ n - i = omega arith in
-    rw (k, add-one i, bytes_more i x)
-    (drop_set l (n - 1 - i) (rest % 256) (omega arith) ∙ ap₂ (λ (a : ℕ) (b : List ℕ). a % 256 ∷ b) e (ap (λ (y : ℕ). drop y l) j ∙ h))
+pub stored_again : (x rest i n : ℕ) (l : List ℕ) → 0 < i → i ≤ n → length l ≡ n → rest ≡ x / 256 ^ (n - i) → drop i l ≡ bytes_of (n - i) x
+    → drop (i - 1) (set l (i - 1) (rest % 256)) ≡ bytes_of (n - (i - 1)) x
+stored_again x rest i n l p q m e h =
+    let k : n - (i - 1) ≡ suc (n - i) = omega arith in
+    let j : suc (i - 1) ≡ i = omega arith in
+    rw (k, bytes_more (n - i) x)
+    (drop_set l (i - 1) (rest % 256) (omega arith) ∙ ap₂ (λ (a : ℕ) (b : List ℕ). a % 256 ∷ b) e (ap (λ (y : ℕ). drop y l) j ∙ h))
 
-pub stored_rest : (x rest i : ℕ) → rest ≡ x / 256 ^ i → rest / 256 ≡ x / 256 ^ (i + 1)
-stored_rest x rest i e = rw (add-one i, pow-suc, e) (div-div-eq-div-mul x (256 ^ i) 256)
+pub stored_rest : (x rest i n : ℕ) → 0 < i → i ≤ n → rest ≡ x / 256 ^ (n - i) → rest / 256 ≡ x / 256 ^ (n - (i - 1))
+stored_rest x rest i n p q e =
+    let k : n - (i - 1) ≡ suc (n - i) = omega arith in
+    rw (k, pow-suc, e) (div-div-eq-div-mul x (256 ^ (n - i)) 256)
 
-pub stored_end : (x i n : ℕ) (l : List ℕ) → drop (n - i) l ≡ bytes_of i x → i ≤ n → n ≤ i → l ≡ bytes_of n x
-stored_end x i n l h a b =
-    let z : 0 ≡ n - i = omega arith in
-    let e : i ≡ n = omega arith in
+pub stored_end : (x i n : ℕ) (l : List ℕ) → drop i l ≡ bytes_of (n - i) x → i ≤ 0 → l ≡ bytes_of n x
+stored_end x i n l h a =
+    let z : 0 ≡ i = omega arith in
+    let e : n - i ≡ n = omega arith in
     ap (λ (k : ℕ). drop k l) z ∙ h ∙ ap (λ (k : ℕ). bytes_of k x) e

@@ -1,7 +1,8 @@
 -- Laws of places: the steps of a loop that stores them, what the whole list is then, and each place found again.
 -- Assumes nothing.
 use Rattle.std.specs.Prelude.{◌≡◌, refl, List, ◌++◌, ℕ, zero, suc, ◌+◌, ◌*◌, ◌-◌, ◌≤◌, ◌<◌, min, length, take, drop}
-use Rattle.std.proofs.Common.{sym, ap, ap₂, ◌∙◌, append_assoc, append-nil, mul-suc, mul-zero, add-one, arith, length-append, length-drop, length-take-le, take_at, take_all, take-add, drop_at, drop-drop}
+use Rattle.std.proofs.Common.{sym, ap, ap₂, ◌∙◌, append_assoc, append-nil, mul-suc, mul-zero, add-one, arith, length-append, length-drop}
+use Rattle.std.proofs.Common.{length-take-le, take_at, take_all, take-add, drop_at, drop-drop}
 use Rattle.std.proofs.Math.Decide.{dec_lt}
 use Rattle.std.proofs.lemmas.List.Edits.{sets, sets-eq}
 use Rattle.std.proofs.Math.Seq.{length-sets, drop-append-add}
@@ -114,7 +115,9 @@ parts_drop (suc n) w f rest i h l =
         ∙ ap (λ (k : ℕ). f k ++ rest) (sym e)
 
 -- parts cut out one after the other are the front
-pub parts_front : (n w : ℕ) (f : ℕ → List ℕ) (s : List ℕ) → ((i : ℕ) → i < n → f i ≡ take w (drop (w * i) s)) → parts_to n f ≡ take (w * n) s
+pub parts_front : (n w : ℕ) (f : ℕ → List ℕ) (s : List ℕ) →
+    ((i : ℕ) → i < n → f i ≡ take w (drop (w * i) s)) →
+    parts_to n f ≡ take (w * n) s
 unfolding parts_to
 parts_front zero w f s h = rw (mul-zero w)
 parts_front (suc n) w f s h =

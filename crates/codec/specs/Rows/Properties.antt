@@ -1,7 +1,8 @@
 -- Laws of rows: their length, each place found again, the rows stored one after the other, and a row stored as it was found.
 -- Assumes nothing.
 use Rattle.std.specs.Prelude.{◌≡◌, refl, List, [], ◌∷◌, ◌++◌, ℕ, zero, suc, ◌+◌, ◌*◌, ◌≤◌, ◌<◌, length, get_or, take, drop}
-use Rattle.std.proofs.Common.{sym, ap, ◌∙◌, append_assoc, append-nil, le_refl, mul-suc, mul-le-mul, arith, length-append, length-drop, take-append-drop, drop-drop, drop_at, length-take-le}
+use Rattle.std.proofs.Common.{sym, ap, ◌∙◌, append_assoc, append-nil, le_refl, mul-suc, mul-le-mul, arith, length-append, length-drop}
+use Rattle.std.proofs.Common.{take-append-drop, drop-drop, drop_at, length-take-le}
 use Rattle.codec.specs.Pack.{Fitting}
 use Rattle.codec.specs.Bytes.{AreBytes}
 use Rattle.codec.specs.Bytes.Properties.{bytes_behind}
@@ -47,9 +48,12 @@ abbrev pub values_at : List Values → ℕ → Values
 values_at fs k = get_or fs k (λ i. [])
 
 -- what stands where row k starts begins with that row
-row_found : (from : ℕ) (rs : List Row) (fs : List Values) (k : ℕ) (s rest : List ℕ) → length fs ≡ length rs → k < length rs
-    → drop from s ≡ rows_bytes rs fs ++ rest
-    → (more : List ℕ) × (drop (end_from from (take k rs)) s ≡ parts_to (row_at rs k).places (placed_at (row_at rs k) (values_at fs k)) ++ more)
+row_found : (from : ℕ) (rs : List Row) (fs : List Values) (k : ℕ) (s rest : List ℕ) →
+    length fs ≡ length rs →
+    k < length rs →
+    drop from s ≡ rows_bytes rs fs ++ rest →
+    (more : List ℕ) ×
+    (drop (end_from from (take k rs)) s ≡ parts_to (row_at rs k).places (placed_at (row_at rs k) (values_at fs k)) ++ more)
 unfolding rows_bytes
 row_found from [] fs k s rest e l h = absurd (omega arith)
 row_found from (r ∷ rs) [] k s rest e l h = absurd (omega arith)
@@ -102,7 +106,8 @@ rows_stored rs fs l n m = stored_behind rs fs 0 [] l l n refl refl m
 pub rows_between : (rs : List Row) (fs : List Values) (from : ℕ) (l : List ℕ) → length fs ≡ length rs → end_from from rs ≤ length l
     → put_rows from rs fs l ≡ take from l ++ rows_bytes rs fs ++ drop (end_from from rs) l
 rows_between rs fs from l n m =
-    stored_behind rs fs from (take from l) l l n (length-take-le from l (omega (arith, end_after from rs))) (sym (take-append-drop from l)) m
+    stored_behind rs fs from (take from l) l l n (length-take-le from l (omega (arith, end_after from rs)))
+    (sym (take-append-drop from l)) m
 
 -- a row stored as it was found from `from` on is the bytes there
 pub row_again : (r : Row) (f : Values) (from : ℕ) (s : List ℕ) → Whole r.widths → AreBytes s → from + row_size r ≤ length s

@@ -90,7 +90,8 @@ module _ (s : State) (r : Ready s) (places : Places s) (j v : ℕ) (l : j < 8) (
   order = in_order_good s.plan r.order
 
   pub sum_flip : ready t ≡ bare (sum_told_number s j)
-  sum_flip = elim (dec_lt j (project_places s)) [ yes m ↦ rw (project_used_law s j m) (inside m) | no m ↦ rw (project_unused s j m) (beyond m) ]
+  sum_flip =
+      elim (dec_lt j (project_places s)) [ yes m ↦ rw (project_used_law s j m) (inside m) | no m ↦ rw (project_unused s j m) (beyond m) ]
     where
       inside : ProjectInUse s j → ready t ≡ bare 16
       inside m =
@@ -122,7 +123,10 @@ module _ (s : State) (r : Ready s) (places : Places s) (i v : ℕ) (l : i < 16) 
   in_order = in_order_good s.plan r.order
 
   -- what could be left is in form
-  form_still : InUse s i → (unit_of s i).released ≡ true → v ≤ (kind_at s i).length → (0 < v → (unit_of s i).gone < (kind_at s i).deadline) →
+  form_still : InUse s i →
+      (unit_of s i).released ≡ true →
+      v ≤ (kind_at s i).length →
+      (0 < v → (unit_of s i).gone < (kind_at s i).deadline) →
       InForm u
   form_still m e q w = record {
     slice_below = r.form.slice_below;

@@ -8,7 +8,8 @@ use Rattle.answer.specs.Numbers.Properties.{bare_numbered, project_numbered, kin
 use Rattle.answer.specs.Numbers.Properties.{refuse_numbered, and_then_numbered, each_numbered}
 use Rattle.plan.specs.declared.Plan.{Plan}
 use Rattle.plan.specs.Order.{sized, tidy_projects, tidy_kinds, in_range, timed, budgets, project_of, kind_of}
-use Rattle.plan.specs.Order.{sizes, unused, project_in_range, projects_in_range, kind_in_range, kind_in_range_at, kinds_in_range, budgets_fit}
+use Rattle.plan.specs.Order.{sizes, unused, project_in_range, projects_in_range, kind_in_range, kind_in_range_at, kinds_in_range}
+use Rattle.plan.specs.Order.{budgets_fit}
 use Rattle.plan.specs.Open.{project_there, in_range_open, project_in_range_open, projects_in_range_open}
 
 module _ (listed : List ℕ) (p : Plan) where

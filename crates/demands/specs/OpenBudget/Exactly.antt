@@ -18,7 +18,8 @@ use Rattle.answer.specs.Answer.Properties.{refuse_good}
 use Rattle.answer.specs.Numbers.{among, Numbered}
 use Rattle.answer.specs.Numbers.Properties.{and_then_numbered}
 use Rattle.plan.specs.declared.Plan.{Plan}
-use Rattle.plan.specs.Order.{project_of, kind_of, budgets, tidy_project, tidy_kind, tidy_projects, tidy_kinds, Sized, sizes, unused, kinds_in_range}
+use Rattle.plan.specs.Order.{project_of, kind_of, budgets, tidy_project, tidy_kind, tidy_projects, tidy_kinds, Sized, sizes, unused}
+use Rattle.plan.specs.Order.{kinds_in_range}
 use Rattle.plan.specs.Order.Properties.{sizes_says, sizes_of}
 use Rattle.plan.specs.Open.{with_budget, project_there, projects_in_range_open, ranges_open, checked_open, InOrderOpen}
 use Rattle.layout.specs.Layout.{first_cell}

@@ -82,7 +82,8 @@ module _ (p : Plan) (j b i : ℕ) where
     excess_whole =
         excess_within p.frame (held_with p j b) (kind_of p i).length (workload p i) (kind_of p i).deadline (project_of p j).ceiling
 
-    excess_allowed : excess_with p j b i < (kind_of p i).length → (k : ℕ) × AllowsWith p j b i ((kind_of p i).length - excess_with p j b i) k
+    excess_allowed : excess_with p j b i < (kind_of p i).length →
+        (k : ℕ) × AllowsWith p j b i ((kind_of p i).length - excess_with p j b i) k
     unfolding excess_with
     excess_allowed l =
         allows_gives ((kind_of p i).length - excess_with p j b i)

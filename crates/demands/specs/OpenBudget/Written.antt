@@ -16,8 +16,8 @@ use Rattle.answer.specs.Answer.{bare, at_project, not_admitted, refuse, ◌and_t
 use Rattle.plan.specs.declared.Project.{Project}
 use Rattle.plan.specs.declared.Plan.{Plan}
 use Rattle.plan.specs.Record.{no_project}
-use Rattle.plan.specs.Order.{project_of, kind_of, budget_of, budgets, within, empty_project, tidy_project, tidy_projects, tidy_kinds, InOrder}
-use Rattle.plan.specs.Order.{sized, sizes, unused, kinds_in_range, budgets_fit}
+use Rattle.plan.specs.Order.{project_of, kind_of, budget_of, budgets, within, empty_project, tidy_project, tidy_projects, tidy_kinds}
+use Rattle.plan.specs.Order.{InOrder, sized, sizes, unused, kinds_in_range, budgets_fit}
 use Rattle.plan.specs.Open.{with_budget, project_there, in_range_open, projects_in_range_open, ranges_open, checked_open, InOrderOpen}
 use Rattle.plan.specs.Open.Properties.{with_other, with_there}
 use Rattle.layout.specs.Cards.{held_from}
@@ -28,8 +28,8 @@ use Rattle.supply.specs.Fit.{least_width, least_excess, named_slice}
 use Rattle.workload.specs.Workload.{besides, part_of, workload}
 use Rattle.verdict.specs.Verdict.{project_on}
 use Rattle.verdict.specs.Admission.{asked, given, Fits}
-use Rattle.smallest_budget.specs.Smallest.{its, width_with, excess_with, slice_with, serves, most_budget, least_budget, served_with, sum_fits}
-use Rattle.smallest_budget.specs.Smallest.{smallest_answer, smallest_of}
+use Rattle.smallest_budget.specs.Smallest.{its, width_with, excess_with, slice_with, serves, most_budget, least_budget, served_with}
+use Rattle.smallest_budget.specs.Smallest.{sum_fits, smallest_answer, smallest_of}
 use Rattle.smallest_budget.specs.Rotation.{supply_anywhere}
 use Rattle.smallest_budget.specs.Growth.{budget_grows}
 use Rattle.demands.specs.OpenBudget.{given_with, FitsWith}

@@ -49,8 +49,11 @@ tells_later : (s next : State) (i : ℕ) (since : Since) → (kind_at next i).se
 tells_later s next i never k p q t = p ∙ t
 tells_later s next i (ago slices) k p q t = (p ∙ t.0, omega (arith, q t.0, t.1))
 
-tells_kept : (s next : State) (i : ℕ) (since : Since) → (kind_at next i).separation ≡ (kind_at s i).separation → unit_of next i ≡ unit_of s i →
-    Tells s i since → Tells next i since
+tells_kept : (s next : State) (i : ℕ) (since : Since) →
+    (kind_at next i).separation ≡ (kind_at s i).separation →
+    unit_of next i ≡ unit_of s i →
+    Tells s i since →
+    Tells next i since
 tells_kept s next i never k v t = ap (λ (x : Unit). x.released) v ∙ t
 tells_kept s next i (ago slices) k v t =
     (ap (λ (x : Unit). x.released) v ∙ t.0, ap (λ (x : Unit). x.gone) v ∙ t.1 ∙ ap (λ (x : ℕ). min x slices) (sym k))

@@ -28,9 +28,10 @@ abbrev pub long : Plan
 long = with_length plan_b 0 3
 
 eight : let a = (judged long).answer in (number a ≡ 8) × (place a ≡ 0) × (excess a ≡ 2)
-unfolding sum_to least_to first_to count_to all_to each_to within sized empty_project empty_kind tidy_projects tidy_kinds in_range timed budgets
-    sizes unused projects_in_range kind_in_range kinds_in_range budgets_fit ranges checked cell_at first_cell owns slot_of held window supply
-    workload_part fits_at least_width greatest_to allowed_length least_excess besides part_of workload width_of excess_of fitted admitted judged
+unfolding sum_to least_to first_to count_to all_to each_to within sized empty_project empty_kind tidy_projects tidy_kinds in_range timed
+    budgets sizes unused projects_in_range kind_in_range kinds_in_range budgets_fit ranges checked cell_at first_cell owns slot_of held
+    window supply workload_part fits_at least_width greatest_to allowed_length least_excess besides part_of workload width_of excess_of
+    fitted admitted judged
 eight = (refl, refl, refl)
 
 -- "length 1 fits"

@@ -74,10 +74,10 @@ pub record Figures : Type 0 where
   pub full_given : given full 0 1 ≡ 2
 
 pub figures : Figures
-unfolding sum_to least_to least_place first_to count_to all_to written each_to within sized empty_project empty_kind tidy_projects tidy_kinds
-    in_range timed budgets sizes unused projects_in_range kind_in_range kinds_in_range budgets_fit ranges checked cell_at first_cell owns
-    slot_of held window supply bad_slice workload_part fits_at least_width greatest_to allowed_length least_excess named_width named_slice
-    besides part_of workload width_of excess_of bad_slice_of fitted admitted judged
+unfolding sum_to least_to least_place first_to count_to all_to written each_to within sized empty_project empty_kind tidy_projects
+    tidy_kinds in_range timed budgets sizes unused projects_in_range kind_in_range kinds_in_range budgets_fit ranges checked cell_at
+    first_cell owns slot_of held window supply bad_slice workload_part fits_at least_width greatest_to allowed_length least_excess
+    named_width named_slice besides part_of workload width_of excess_of bad_slice_of fitted admitted judged
 figures = record {
   order = refl;
   good = refl;

@@ -160,14 +160,15 @@ pub record Running : Type 0 where
   pub enough_rows : length one_slice ≡ 1
 
 pub running : Running
-unfolding sum_to least_to first_to count_to all_to written rank_in first_in sooner each_to within sized empty_project empty_kind tidy_projects
-    tidy_kinds in_range timed budgets sizes unused projects_in_range kind_in_range kinds_in_range budgets_fit ranges checked cell_at held_from
-    first_cell owns slot_of held window supply workload_part fits_at least_width greatest_to allowed_length least_excess besides part_of
-    workload width_of excess_of fitted admitted untouched due_in_time underway unit_in_form empty_unit early startable left_for project_left
-    sums_right sum_fits sums_in_form in_form sums_told ready until_due gone_after left_after working active active_kinds outranks has_card
-    cards_held rank_of chosen takes_card byte_on view_of rank served holds byte_by row_byte row_of row_over start_answer start_of release_answer
-    released release_of unit_after served_for sum_after advanced advance_of room_for show_answer buffer_shown run_from accepted_in slices_of
-    unshown handed_back since_call since_from names_kind bytes_in shown_by shown up_to last_from restarted kinds_left
+unfolding sum_to least_to first_to count_to all_to written rank_in first_in sooner each_to within sized empty_project empty_kind
+    tidy_projects tidy_kinds in_range timed budgets sizes unused projects_in_range kind_in_range kinds_in_range budgets_fit ranges checked
+    cell_at held_from first_cell owns slot_of held window supply workload_part fits_at least_width greatest_to allowed_length least_excess
+    besides part_of workload width_of excess_of fitted admitted untouched due_in_time underway unit_in_form empty_unit early startable
+    left_for project_left sums_right sum_fits sums_in_form in_form sums_told ready until_due gone_after left_after working active
+    active_kinds outranks has_card cards_held rank_of chosen takes_card byte_on view_of rank served holds byte_by row_byte row_of row_over
+    start_answer start_of release_answer released release_of unit_after served_for sum_after advanced advance_of room_for show_answer
+    buffer_shown run_from accepted_in slices_of unshown handed_back since_call since_from names_kind bytes_in shown_by shown up_to last_from
+    restarted kinds_left
 running = record {
   admitted_a = refl;
   kind_one = refl;
@@ -302,10 +303,10 @@ verdicts = record {
 
 pub ranks : Ranked
 unfolding sum_to first_to count_to all_to rank_in first_in sooner each_to within sized empty_project empty_kind tidy_projects tidy_kinds
-    in_range timed budgets sizes unused projects_in_range kind_in_range kinds_in_range budgets_fit ranges checked cell_at held_from first_cell
-    owns slot_of held untouched due_in_time underway unit_in_form empty_unit left_for project_left sums_right sum_fits sums_in_form in_form sums_told
-    ready until_due working active active_kinds outranks has_card cards_held rank_of chosen takes_card byte_on view_of rank holds byte_by
-    row_byte
+    in_range timed budgets sizes unused projects_in_range kind_in_range kinds_in_range budgets_fit ranges checked cell_at held_from
+    first_cell owns slot_of held untouched due_in_time underway unit_in_form empty_unit left_for project_left sums_right sum_fits
+    sums_in_form in_form sums_told ready until_due working active active_kinds outranks has_card cards_held rank_of chosen takes_card
+    byte_on view_of rank holds byte_by row_byte
 ranks = record {
   ready_both = refl;
   ready_waiting = refl;

@@ -32,7 +32,8 @@ use Rattle.smallest_budget.specs.declared.Smallest.{Smallest}
 use Rattle.smallest_budget.specs.Smallest.{smallest_of}
 use Rattle.demands.specs.AnyWorkload.{judged_by, start_by, smallest_by}
 use Rattle.demands.specs.EquationFive.{judged_by_its_own, start_by_its_own, smallest_by_its_own}
-use Rattle.demands.specs.EquationFive.{part_by_five, workload_by_five, workload_by_five_law, judged_by_five, start_by_five, smallest_by_five}
+use Rattle.demands.specs.EquationFive.{part_by_five, workload_by_five, workload_by_five_law, judged_by_five, start_by_five}
+use Rattle.demands.specs.EquationFive.{smallest_by_five}
 
 -- one card, one project that has it in one slice of two or in both, and two kinds; the second of this length
 abbrev early : ℕ → Plan

@@ -59,10 +59,11 @@ pub record Computed : Type 0 where
   pub two_slice : get_or (figures_of plan_a 2).slice 0 0 ≡ 0
 
 pub computed : Computed
-unfolding sum_to least_to least_place first_to count_to all_to written each_to within sized empty_project empty_kind tidy_projects tidy_kinds
-    in_range timed budgets sizes unused projects_in_range kind_in_range kinds_in_range budgets_fit ranges checked cell_at first_cell owns
-    slot_of held window supply bad_slice workload_part fits_at least_width greatest_to allowed_length least_excess named_width named_slice
-    besides part_of workload width_of excess_of bad_slice_of fitted admitted judged figures_answer supply_at bad_slice_at figures_of
+unfolding sum_to least_to least_place first_to count_to all_to written each_to within sized empty_project empty_kind tidy_projects
+    tidy_kinds in_range timed budgets sizes unused projects_in_range kind_in_range kinds_in_range budgets_fit ranges checked cell_at
+    first_cell owns slot_of held window supply bad_slice workload_part fits_at least_width greatest_to allowed_length least_excess
+    named_width named_slice besides part_of workload width_of excess_of bad_slice_of fitted admitted judged figures_answer supply_at
+    bad_slice_at figures_of
 computed = record {
   order = refl;
   refused = refl;

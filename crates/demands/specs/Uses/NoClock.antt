@@ -62,13 +62,13 @@ record Figures : Type 0 where
   plan : (OldRun.after plan_a four_slices).plan ≡ plan_a
 
 figures : Figures
-unfolding sum_to least_to first_to count_to all_to written rank_in first_in sooner each_to within sized empty_project empty_kind tidy_projects
-    tidy_kinds in_range timed budgets sizes unused projects_in_range kind_in_range kinds_in_range budgets_fit ranges checked cell_at held_from
-    first_cell owns slot_of held window supply workload_part fits_at least_width greatest_to allowed_length least_excess besides part_of
-    workload width_of excess_of fitted admitted sum_fits has_card cards_held rank_of chosen takes_card byte_on start_answer Old.start_of
-    OldForm.untouched OldForm.underway OldForm.unit_in_form OldForm.empty_unit OldForm.place_in_form OldForm.sums_in_form OldForm.in_form
-    OldForm.left_for OldForm.project_left OldForm.sums_right OldForm.ready OldRank.due OldRank.active OldRank.outranks OldRank.view_of
-    OldRank.served OldRow.byte_by OldRow.row_byte OldRow.row_of OldRow.row_over OldRelease.early OldRelease.startable
+unfolding sum_to least_to first_to count_to all_to written rank_in first_in sooner each_to within sized empty_project empty_kind
+    tidy_projects tidy_kinds in_range timed budgets sizes unused projects_in_range kind_in_range kinds_in_range budgets_fit ranges checked
+    cell_at held_from first_cell owns slot_of held window supply workload_part fits_at least_width greatest_to allowed_length least_excess
+    besides part_of workload width_of excess_of fitted admitted sum_fits has_card cards_held rank_of chosen takes_card byte_on start_answer
+    Old.start_of OldForm.untouched OldForm.underway OldForm.unit_in_form OldForm.empty_unit OldForm.place_in_form OldForm.sums_in_form
+    OldForm.in_form OldForm.left_for OldForm.project_left OldForm.sums_right OldForm.ready OldRank.due OldRank.active OldRank.outranks
+    OldRank.view_of OldRank.served OldRow.byte_by OldRow.row_byte OldRow.row_of OldRow.row_over OldRelease.early OldRelease.startable
     OldRelease.release_answer OldRelease.released OldRelease.release_of OldAdvance.unit_after OldAdvance.served_for OldAdvance.sum_after
     OldAdvance.advanced OldAdvance.time_left OldAdvance.advance_answer OldAdvance.advance_of OldShow.show_answer OldShow.buffer_shown
     OldRun.run_from OldRun.advances

@@ -19,8 +19,8 @@ use Rattle.plan.specs.declared.Project.{Project}
 use Rattle.plan.specs.declared.Kind.{Kind}
 use Rattle.plan.specs.declared.Plan.{Plan}
 use Rattle.plan.specs.Record.{no_plan}
-use Rattle.plan.specs.Order.{project_of, kind_of, within, sized, empty_project, empty_kind, tidy_projects, tidy_kinds, in_range, timed, budgets}
-use Rattle.plan.specs.Order.{sizes, unused, projects_in_range, kind_in_range, kinds_in_range, budgets_fit, ranges, checked}
+use Rattle.plan.specs.Order.{project_of, kind_of, within, sized, empty_project, empty_kind, tidy_projects, tidy_kinds, in_range, timed}
+use Rattle.plan.specs.Order.{budgets, sizes, unused, projects_in_range, kind_in_range, kinds_in_range, budgets_fit, ranges, checked}
 use Rattle.plan_bytes.specs.declared.Reading.{Reading}
 use Rattle.plan_bytes.specs.Parts.{size, encoded}
 use Rattle.plan_bytes.specs.Reading.{read_of}
@@ -38,8 +38,8 @@ use Rattle.smallest_budget.specs.Smallest.{smallest_of}
 use Rattle.one_kind.specs.declared.Built.{Built}
 use Rattle.one_kind.specs.Divisor.{repeated, divisor, divisor_to}
 use Rattle.one_kind.specs.Wanted.{kinds_in, field_at, separation_in, length_in}
-use Rattle.one_kind.specs.Built.{rounded_up, offered, counts, frame_for, frame_fits, timed_alone, kinds_timed, budget_for, answer_for, built_of}
-use Rattle.one_kind.specs.Built.{Timed, InLimits, Buildable}
+use Rattle.one_kind.specs.Built.{rounded_up, offered, counts, frame_for, frame_fits, timed_alone, kinds_timed, budget_for, answer_for}
+use Rattle.one_kind.specs.Built.{built_of, Timed, InLimits, Buildable}
 use Rattle.unit.specs.Form.{untouched, due_in_time, underway, unit_in_form, empty_unit}
 use Rattle.unit.specs.Step.{until_due, gone_after, left_after}
 use Rattle.unit.specs.Start.{early, startable}
@@ -136,14 +136,15 @@ record Figures : Type 0 where
   bare_seven : among placed 7 ≡ false
 
 figures : Figures
-unfolding sum_to least_to first_to count_to all_to written rank_in first_in sooner each_to within sized empty_project empty_kind tidy_projects
-    tidy_kinds in_range timed budgets sizes unused projects_in_range kind_in_range kinds_in_range budgets_fit ranges checked cell_at held_from
-    first_cell owns slot_of held window supply workload_part fits_at least_width greatest_to allowed_length least_excess besides part_of
-    workload width_of excess_of fitted admitted untouched due_in_time underway unit_in_form empty_unit early startable left_for project_left
-    sums_right sum_fits sums_in_form in_form sums_told ready until_due gone_after left_after working active active_kinds outranks has_card
-    cards_held rank_of chosen takes_card byte_on view_of rank served holds byte_by row_byte row_of row_over start_answer start_of release_answer
-    released release_of unit_after served_for sum_after advanced advance_of run_from accepted_in slices_of size among kinds_in field_at
-    repeated divisor divisor_to rounded_up offered counts frame_fits timed_alone kinds_timed answer_for built_of
+unfolding sum_to least_to first_to count_to all_to written rank_in first_in sooner each_to within sized empty_project empty_kind
+    tidy_projects tidy_kinds in_range timed budgets sizes unused projects_in_range kind_in_range kinds_in_range budgets_fit ranges checked
+    cell_at held_from first_cell owns slot_of held window supply workload_part fits_at least_width greatest_to allowed_length least_excess
+    besides part_of workload width_of excess_of fitted admitted untouched due_in_time underway unit_in_form empty_unit early startable
+    left_for project_left sums_right sum_fits sums_in_form in_form sums_told ready until_due gone_after left_after working active
+    active_kinds outranks has_card cards_held rank_of chosen takes_card byte_on view_of rank served holds byte_by row_byte row_of row_over
+    start_answer start_of release_answer released release_of unit_after served_for sum_after advanced advance_of run_from accepted_in
+    slices_of size among kinds_in field_at repeated divisor divisor_to rounded_up offered counts frame_fits timed_alone kinds_timed
+    answer_for built_of
 figures = record {
   three_kinds = refl;
   separations = (refl, refl, refl);

@@ -2,7 +2,8 @@
 -- with damage: B of project 1 is judged with the new q and makes the sum too large, C of kind 2 is above the new D and not above the old,
 -- and kind 1, which is dropped, has its spare bit set.
 -- Assumes nothing.
-use Rattle.std.specs.Prelude.{◌≡◌, refl, ◌≢◌, true, false, cond, List, [], ◌∷◌, ◌++◌, ℕ, zero, suc, ◌*◌, ◌≤◌, ◌<◌, length, take, drop, replicate}
+use Rattle.std.specs.Prelude.{◌≡◌, refl, ◌≢◌, true, false, cond, List, [], ◌∷◌, ◌++◌, ℕ, zero, suc, ◌*◌, ◌≤◌, ◌<◌, length, take, drop}
+use Rattle.std.specs.Prelude.{replicate}
 use Rattle.std.proofs.Common.{sym, ap, ◌∙◌, true≢false, arith}
 use Rattle.laws.specs.All.{all_to}
 use Rattle.laws.specs.Sum.{sum_to}
@@ -18,14 +19,14 @@ use Rattle.codec.specs.Places.{parts_to}
 use Rattle.plan.specs.declared.Plan.{Plan}
 use Rattle.plan.specs.Record.{no_plan, no_project, no_kind}
 use Rattle.plan.specs.Example.{plan_a, bytes_a, project, kind}
-use Rattle.plan.specs.Order.{project_of, kind_of, within, sized, empty_project, empty_kind, tidy_projects, tidy_kinds, in_range, timed, budgets}
-use Rattle.plan.specs.Order.{sizes, unused, projects_in_range, kind_in_range, kinds_in_range, budgets_fit, ranges, checked}
+use Rattle.plan.specs.Order.{project_of, kind_of, within, sized, empty_project, empty_kind, tidy_projects, tidy_kinds, in_range, timed}
+use Rattle.plan.specs.Order.{budgets, sizes, unused, projects_in_range, kind_in_range, kinds_in_range, budgets_fit, ranges, checked}
 use Rattle.plan_bytes.specs.declared.Reading.{Reading}
 use Rattle.plan.specs.Order.Properties.{in_order}
 use Rattle.plan_bytes.specs.Parts.{header_fields, project_fields, kind_fields, project_from, kind_from, projects_from, kinds_from, headed}
 use Rattle.plan_bytes.specs.Parts.{decoded, size, header_bytes, project_bytes, kind_bytes, encoded}
-use Rattle.plan_bytes.specs.Reading.{header_spare, project_spare, kind_spare, projects_spare, kinds_spare, places_spare, spare_zero, body_answer}
-use Rattle.plan_bytes.specs.Reading.{read_answer, read_of, counts_answer}
+use Rattle.plan_bytes.specs.Reading.{header_spare, project_spare, kind_spare, projects_spare, kinds_spare, places_spare, spare_zero}
+use Rattle.plan_bytes.specs.Reading.{body_answer, read_answer, read_of, counts_answer}
 use Rattle.plan_bytes.specs.RoundTrip.Reads.{order_passes}
 use Rattle.rescue.specs.declared.Rescued.{Rescued}
 use Rattle.rescue.specs.Entry.{Entry, entry, entry_bytes, listed, change, entries_to}
@@ -138,12 +139,13 @@ record Figures : Type 0 where
   dropped_change : cond (kept_at (decoded damaged) 2) [] (entry 7 2 0 0 ∷ []) ≡ entry 7 2 0 0 ∷ []
 
 figures : Figures
-unfolding sum_to count_to all_to written each_to within sized empty_project empty_kind tidy_projects tidy_kinds in_range timed budgets sizes unused
-    projects_in_range kind_in_range kinds_in_range budgets_fit ranges checked pack unpack number_to bytes_of parts_to header_fields project_fields
-    kind_fields project_from kind_from projects_from kinds_from headed decoded size header_bytes project_bytes kind_bytes encoded header_spare
-    project_spare kind_spare projects_spare kinds_spare places_spare spare_zero body_answer read_answer read_of counts_answer entry_bytes listed
-    change entries_to raised lowered project_for kind_for kept kept_to plan_for project_spare_at kind_spare_at project_spare_change spare_entries
-    kind_spare_change project_entries project_changes kind_entries kind_changes changes_in turn_of among
+unfolding sum_to count_to all_to written each_to within sized empty_project empty_kind tidy_projects tidy_kinds in_range timed budgets sizes
+    unused projects_in_range kind_in_range kinds_in_range budgets_fit ranges checked pack unpack number_to bytes_of parts_to header_fields
+    project_fields kind_fields project_from kind_from projects_from kinds_from headed decoded size header_bytes project_bytes kind_bytes
+    encoded header_spare project_spare kind_spare projects_spare kinds_spare places_spare spare_zero body_answer read_answer read_of
+    counts_answer entry_bytes listed change entries_to raised lowered project_for kind_for kept kept_to plan_for project_spare_at
+    kind_spare_at project_spare_change spare_entries kind_spare_change project_entries project_changes kind_entries kind_changes changes_in
+    turn_of among
 figures = record {
   stands = refl;
   made = refl;

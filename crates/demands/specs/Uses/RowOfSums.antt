@@ -76,13 +76,14 @@ record Figures : Type 0 where
   none_open : (unit_of opened 15).left ≡ 0
 
 figures : Figures
-unfolding sum_to least_to first_to count_to all_to written rank_in first_in sooner each_to within sized empty_project empty_kind tidy_projects
-    tidy_kinds in_range timed budgets sizes unused projects_in_range kind_in_range kinds_in_range budgets_fit ranges checked cell_at held_from
-    first_cell owns slot_of held window supply workload_part fits_at least_width greatest_to allowed_length least_excess besides part_of
-    workload width_of excess_of fitted admitted untouched due_in_time underway unit_in_form empty_unit early startable left_for project_left
-    sums_right sum_fits sums_in_form in_form sums_told ready until_due gone_after left_after working active outranks has_card cards_held rank_of
-    chosen takes_card byte_on view_of rank served byte_by row_byte row_of row_over start_answer start_of release_answer released release_of
-    unit_after served_for sum_after advanced advance_of run_from accepted_in slices_of names_project bytes_in
+unfolding sum_to least_to first_to count_to all_to written rank_in first_in sooner each_to within sized empty_project empty_kind
+    tidy_projects tidy_kinds in_range timed budgets sizes unused projects_in_range kind_in_range kinds_in_range budgets_fit ranges checked
+    cell_at held_from first_cell owns slot_of held window supply workload_part fits_at least_width greatest_to allowed_length least_excess
+    besides part_of workload width_of excess_of fitted admitted untouched due_in_time underway unit_in_form empty_unit early startable
+    left_for project_left sums_right sum_fits sums_in_form in_form sums_told ready until_due gone_after left_after working active outranks
+    has_card cards_held rank_of chosen takes_card byte_on view_of rank served byte_by row_byte row_of row_over start_answer start_of
+    release_answer released release_of unit_after served_for sum_after advanced advance_of run_from accepted_in slices_of names_project
+    bytes_in
 figures = record {
   left_open = refl;
   left_one = refl;
@@ -145,7 +146,8 @@ whole = record { sixteen = refl; eight = refl }
 five : Told (with_sum both 1 5) 16
 five = sum_told both tick taken whole 1 5 (omega arith) (λ e. omega (arith, figures.sum_both))
 
-pub five_answers : ((next_after (with_sum both 1 5) look).answer ≡ bare 16) × ((next_after (with_sum both 1 5) (release 0 6)).answer ≡ bare 16)
+pub five_answers : ((next_after (with_sum both 1 5) look).answer ≡ bare 16) ×
+    ((next_after (with_sum both 1 5) (release 0 6)).answer ≡ bare 16)
 five_answers = (five.answer look, five.answer (release 0 6))
 
 pub five_kept : (next_after (with_sum both 1 5) tick).state ≡ with_sum both 1 5

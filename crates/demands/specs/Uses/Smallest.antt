@@ -31,7 +31,8 @@ use Rattle.workload.specs.Workload.{besides, part_of, workload}
 use Rattle.verdict.specs.Verdict.{judged}
 use Rattle.verdict.specs.Admission.{asked, given, Fits}
 use Rattle.smallest_budget.specs.declared.Smallest.{Smallest}
-use Rattle.smallest_budget.specs.Smallest.{held_with, width_with, excess_with, serves, least_budget, served_with, smallest_answer, smallest_of}
+use Rattle.smallest_budget.specs.Smallest.{held_with, width_with, excess_with, serves, least_budget, served_with, smallest_answer}
+use Rattle.smallest_budget.specs.Smallest.{smallest_of}
 use Rattle.demands.specs.Outcomes.{finding, finding_refused}
 use Rattle.demands.specs.Numbers.{check_open_numbers, smallest_numbers}
 use Rattle.demands.specs.OpenBudget.{given_with, FitsWith, Serves, Least, AllowsWith, NotServed}

@@ -35,8 +35,8 @@ use Rattle.rack.specs.Sums.Properties.{written_changed}
 use Rattle.rack.specs.Release.{release_of}
 use Rattle.rack.specs.Advance.{advance_of}
 use Rattle.images.specs.Image.{count_widths, project_widths, kind_widths, slice_widths, unit_widths, sum_widths, plan_size, state_size}
-use Rattle.images.specs.Image.{project_place, kind_place, slice_place, unit_place, sum_place, field, project_from, kind_from, slice_from, unit_from}
-use Rattle.images.specs.Image.{sum_from, units_from, plan_from, state_from, released_at, released_told}
+use Rattle.images.specs.Image.{project_place, kind_place, slice_place, unit_place, sum_place, field, project_from, kind_from, slice_from}
+use Rattle.images.specs.Image.{unit_from, sum_from, units_from, plan_from, state_from, released_at, released_told}
 use Rattle.images.specs.Lent.{room}
 use Rattle.images.specs.Typed.Properties.{state_found_typed}
 use Rattle.images.specs.Outcome.{Outcome}

@@ -1,14 +1,13 @@
 -- `image_reader::projects_from` meets its contract.
 -- Assumes nothing.
-use Rattle.std.proofs.Common.{arith}
-use Rattle.laws.specs.Written.Properties.{written_none, written_again, written_stop}
+use Rattle.std.specs.Prelude.{drop}
+use Rattle.std.proofs.Common.{rules}
+use Rattle.plan.specs.Record.{no_project}
+use Rattle.images.specs.Image.{project_place, project_from}
+use Rattle.image_reader.proofs.Arrays.{from_fn_written}
 use Rattle.image_reader.proofs.projects_from.Goals as goal
 
-pub loop-j-init : goal.loop-j-init
-loop-j-init c = (omega arith, rw c.empty-none.ensures (written_none _ _))
-
-pub loop-j-preserved : goal.loop-j-preserved
-loop-j-preserved c = (omega arith, search written_again)
-
 pub returns : goal.returns
-returns c = search written_stop
+returns c =
+    from_fn_written _ (λ j. project_from (drop (project_place j) c.args.s.now)) _
+    (λ k y q e. search rules) _ no_project 8 c.from_fn.ensures.items

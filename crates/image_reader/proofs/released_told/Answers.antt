@@ -1,18 +1,16 @@
 -- `image_reader::released_told` meets its contract.
 -- Assumes nothing.
-use Rattle.std.proofs.Common.{arith}
-use Rattle.laws.specs.All.Properties.{all_none}
-use Rattle.images.specs.Image.Properties.{told_again, told_fails, told_end}
+use Rattle.std.specs.Prelude.{refl}
+use Rattle.std.proofs.Common.{◌∙◌, rules, tests}
+use Rattle.std.proofs.lemmas.Iterator.{YieldsList-from_range}
+use Rattle.std.proofs.lemmas.Iterator.Search.{all_from_yields_List}
+use Rattle.images.specs.Image.{released_at, released_told}
+use Rattle.image_reader.proofs.Arrays.{all_below}
 use Rattle.image_reader.proofs.released_told.Goals as goal
 
-pub loop-i-init : goal.loop-i-init
-loop-i-init c = (omega arith, all_none _)
-
-pub returns-then-released_at-gt1 : goal.returns-then-released_at-gt1
-returns-then-released_at-gt1 c = search told_fails
-
-pub loop-i-preserved : goal.loop-i-preserved
-loop-i-preserved c = (omega arith, search told_again)
-
 pub returns : goal.returns
-returns c = search told_end
+unfolding released_told
+returns c =
+    let told = released_at c.args.s.now in
+    all_from_yields_List told _ _ _ c.all.ensures.ran (YieldsList-from_range 0 16 16 refl refl) (λ x b q e. search (rules, tests))
+    ∙ all_below 16 told

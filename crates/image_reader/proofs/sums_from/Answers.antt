@@ -1,14 +1,11 @@
 -- `image_reader::sums_from` meets its contract.
 -- Assumes nothing.
-use Rattle.std.proofs.Common.{arith}
-use Rattle.laws.specs.Written.Properties.{written_none, written_again, written_stop}
+use Rattle.std.specs.Prelude.{drop}
+use Rattle.std.proofs.Common.{rules}
+use Rattle.images.specs.Image.{sum_place, sum_from}
+use Rattle.image_reader.proofs.Arrays.{from_fn_written}
 use Rattle.image_reader.proofs.sums_from.Goals as goal
 
-pub loop-j-init : goal.loop-j-init
-loop-j-init c = (omega arith, written_none _ _)
-
-pub loop-j-preserved : goal.loop-j-preserved
-loop-j-preserved c = (omega arith, search written_again)
-
 pub returns : goal.returns
-returns c = search written_stop
+returns c =
+    from_fn_written _ (λ j. sum_from (drop (sum_place j) c.args.s.now)) _ (λ k y q e. search rules) _ 0 8 c.from_fn.ensures.items

@@ -1,14 +1,12 @@
 -- `image_reader::units_from` meets its contract.
 -- Assumes nothing.
-use Rattle.std.proofs.Common.{arith}
-use Rattle.laws.specs.Written.Properties.{written_none, written_again, written_stop}
+use Rattle.std.specs.Prelude.{drop}
+use Rattle.std.proofs.Common.{rules}
+use Rattle.unit.specs.Unit.{no_unit}
+use Rattle.images.specs.Image.{unit_place, unit_from}
+use Rattle.image_reader.proofs.Arrays.{from_fn_written}
 use Rattle.image_reader.proofs.units_from.Goals as goal
 
-pub loop-i-init : goal.loop-i-init
-loop-i-init c = (omega arith, rw c.empty-unit.ensures (written_none _ _))
-
-pub loop-i-preserved : goal.loop-i-preserved
-loop-i-preserved c = (omega arith, search written_again)
-
 pub returns : goal.returns
-returns c = search written_stop
+returns c =
+    from_fn_written _ (λ i. unit_from (drop (unit_place i) c.args.s.now)) _ (λ k y q e. search rules) _ no_unit 16 c.from_fn.ensures.items

@@ -1,13 +1,12 @@
 -- Laws of outcomes: one for each way that a function leaves.
 -- Assumes nothing.
-use Rattle.std.specs.Prelude.{◌≡◌, List, ◌++◌, ℕ, drop}
+use Rattle.std.specs.Prelude.{◌≡◌, refl, Err, List, ◌++◌, ℕ, drop}
 use Rattle.std.proofs.Common.{sym, ap, ◌∙◌}
 use Rattle.answer.specs.declared.Answer.{Answer}
 use Rattle.answer.specs.declared.Answer.TheVariants.{Good, No}
 use Rattle.answer.specs.declared.Refusal.{Refusal}
 use Rattle.answer.specs.Answer.{◌and_then◌, if_good}
 use Rattle.answer.specs.Word.{told}
-use Rattle.images.specs.declared.PlanFound.{PlanFound}
 use Rattle.images.specs.Image.{plan_size}
 use Rattle.images.specs.Lent.{room, plan_found, Stores}
 use Rattle.images.specs.Lent.Properties.{plan_no}
@@ -21,10 +20,10 @@ refused_outcome a x w n new old r e f g =
     record { result = f ∙ ap (λ (v : Answer). told v 0) e ∙ rw z; buffer = rw z }
 
 -- refused because no plan was found, whatever the answer would be after that
-pub unfound_outcome : (plan : List ℕ) (f : PlanFound) (w : Refusal) (b : Answer) (n : ℕ) (new old : List ℕ) (r : ℕ) → f ≡ plan_found plan →
-    f.answer ≡ No w → r ≡ told f.answer 0 → Outcome (room plan plan_size and_then b) n new old r old
-unfound_outcome plan f w b n new old r e g h =
-    refused_outcome (room plan plan_size and_then b) f.answer w n new old r g h (plan_no plan f b w e g)
+pub unfound_outcome : (plan : List ℕ) (w : Refusal) (b : Answer) (n : ℕ) (new old : List ℕ) (r : ℕ) → Err w ≡ plan_found plan →
+    r ≡ told (No w) 0 → Outcome (room plan plan_size and_then b) n new old r old
+unfound_outcome plan w b n new old r e h =
+    refused_outcome (room plan plan_size and_then b) (No w) w n new old r refl h (plan_no plan b w e)
 
 -- good
 pub good_outcome : (a : Answer) (n : ℕ) (new old : List ℕ) (r : ℕ) (after : List ℕ) → Good ≡ a → r ≡ told Good n → after ≡ new →

@@ -35,7 +35,8 @@ use Rattle.rack.specs.Advance.{unit_after, advanced, advance_answer}
 use Rattle.rack.proofs.Laws.Advance.{advance_says, advance_places, sum_falls, after_released, after_gone, after_left}
 use Rattle.images.specs.Image.{count_widths, project_widths, kind_widths, slice_widths, unit_widths, sum_widths, project_place, kind_place}
 use Rattle.images.specs.Image.{slice_place, unit_place, sum_place, sum_from}
-use Rattle.images.specs.Image.{project_from, kind_from, slice_from, unit_from, plan_from, state_from, project_fields, kind_fields, unit_fields}
+use Rattle.images.specs.Image.{project_from, kind_from, slice_from, unit_from, plan_from, state_from, project_fields, kind_fields}
+use Rattle.images.specs.Image.{unit_fields}
 use Rattle.images.specs.Typed.{PlanTyped, StateTyped}
 
 -- ---- found in an image

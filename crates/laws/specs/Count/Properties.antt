@@ -86,7 +86,11 @@ count_extra (suc n) f g l = go (f n) (g n) refl refl (count_extra n f g) l
     up : Found n → Found (suc n)
     up t = (t.0, omega (arith, t.1), t.2, t.3)
 
-    go : (a b : Bool) → f n ≡ a → g n ≡ b → (count_to n g < count_to n f → Found n) → count_to n g + cond b 1 0 < count_to n f + cond a 1 0 →
+    go : (a b : Bool) →
+        f n ≡ a →
+        g n ≡ b →
+        (count_to n g < count_to n f → Found n) →
+        count_to n g + cond b 1 0 < count_to n f + cond a 1 0 →
         Found (suc n)
     go true true p q r s = up (r (omega arith))
     go true false p q r s = (n, omega arith, p, q)

@@ -48,7 +48,10 @@ written_kept zero f l d i p = refl
 written_kept (suc n) f l d i p = get_or-set_other (written n f l) n i (f n) d (λ e. omega arith) ∙ written_kept n f l d i (omega arith)
 
 -- what is there already need not be stored
-pub written_same : {A : Type 0} (i : ℕ) (f : ℕ → A) (l m : List A) (d : A) → m ≡ written i f l → f i ≡ get_or l i d → m ≡ written (i + 1) f l
+pub written_same : {A : Type 0} (i : ℕ) (f : ℕ → A) (l m : List A) (d : A) →
+    m ≡ written i f l →
+    f i ≡ get_or l i d →
+    m ≡ written (i + 1) f l
 written_same i f l m d p q =
     p ∙ sym (set-get_or (written i f l) i d) ∙ ap (λ (v : _). set (written i f l) i v) (written_kept i f l d i (omega arith) ∙ sym q)
     ∙ sym (written_more i f l)

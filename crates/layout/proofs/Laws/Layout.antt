@@ -58,7 +58,8 @@ owns_from p j x e = leb-true (first_cell p j) x (and_left (leb (first_cell p j) 
 
 pub owns_to : (p : Plan) (j x : ℕ) → owns p j x ≡ true → x < first_cell p j + budget_of p j
 unfolding owns
-owns_to p j x e = ltb-true x (first_cell p j + budget_of p j) (and_right (leb (first_cell p j) x) (ltb x (first_cell p j + budget_of p j)) e)
+owns_to p j x e =
+    ltb-true x (first_cell p j + budget_of p j) (and_right (leb (first_cell p j) x) (ltb x (first_cell p j + budget_of p j)) e)
 
 -- no cell has two owners
 pub one_owner : (p : Plan) (i j x : ℕ) → owns p i x ≡ true → owns p j x ≡ true → i ≡ j

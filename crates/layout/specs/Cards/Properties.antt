@@ -2,7 +2,8 @@
 -- Assumes nothing.
 use Rattle.std.specs.Prelude.{◌≡◌, Bool, ◌&&◌, leb, ltb}
 use Rattle.std.proofs.Math.Path.{refl, sym, ap}
-use Rattle.std.proofs.Common.{◌∙◌, suc-mul, mul-le-mul_right, div-add-mod', mod-lt, le-div_iff_mul-le, lt-ltb, le-ltb, eq-eqb, ne_eqb, eqb-true}
+use Rattle.std.proofs.Common.{◌∙◌, suc-mul, mul-le-mul_right, div-add-mod', mod-lt, le-div_iff_mul-le, lt-ltb, le-ltb, eq-eqb, ne_eqb}
+use Rattle.std.proofs.Common.{eqb-true}
 use Rattle.std.proofs.Math.Bool.{true, false, cond}
 use Prim.Native.Nat.{ℕ, zero, suc, ◌+◌, ◌-◌, ◌*◌, ◌/◌, ◌%◌, ◌≤◌, ◌<◌}
 use Rattle.std.proofs.Math.Decide.{dec_le, dec_lt}
@@ -108,7 +109,8 @@ module _ (frame slice : ℕ) (l : slice < frame) where
 
   -- and not below it exactly when it is not
   pub cell_past : (x card : ℕ) → cards_below frame x slice ≤ card → x ≤ cell_at frame card slice
-  cell_past x card h = elim (dec_lt (cell_at frame card slice) x) [ yes q ↦ absurd (omega (arith, below_cell x card q)) | no q ↦ omega arith ]
+  cell_past x card h =
+      elim (dec_lt (cell_at frame card slice) x) [ yes q ↦ absurd (omega (arith, below_cell x card q)) | no q ↦ omega arith ]
 
   pub past_cell : (x card : ℕ) → x ≤ cell_at frame card slice → cards_below frame x slice ≤ card
   past_cell x card h =

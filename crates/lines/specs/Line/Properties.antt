@@ -1,7 +1,7 @@
 -- Laws of the lines: each from its parts, as the code stores them.
 -- Assumes nothing.
-use Rattle.std.specs.Prelude.{◌≡◌, List, ◌++◌, ℕ, ◌+◌, ◌-◌, ◌≤◌, ◌<◌, min, length}
-use Rattle.std.proofs.Common.{ap, ◌∙◌, add-one, le-leb}
+use Rattle.std.specs.Prelude.{◌≡◌, refl, List, ◌++◌, ℕ, zero, suc, ◌+◌, ◌-◌, ◌≤◌, ◌<◌, min, length, take}
+use Rattle.std.proofs.Common.{ap, ap₂, ◌∙◌, add-one, get_or-take, length-take-le, le-leb}
 use native.Mathlib.Omega.{arith}
 use Rattle.std.proofs.lemmas.Bool.{lt-leb}
 use Rattle.answer.specs.declared.Answer.{Answer}
@@ -45,14 +45,34 @@ outcome_no l m o at i j a w n e f x y =
     let n-is : n ≡ number (No w) = f ∙ ap number e in
     rw (e, ← n-is) (puts_then l m o at i j (ascii " refused " ++ decimal n) (ascii "\n") x y)
 
-pub slice_good : (l m : List ℕ) (at next : ℕ) (a : Answer) (clock cards most : ℕ) (row : ℕ → ℕ) → a ≡ Good → most ≡ min cards 8
-    → Puts l at (slice_line Good clock most row) next m → Puts l at (slice_line a clock (min cards 8) row) next m
-slice_good l m at next a clock cards most row e f p = rw (e, ← f) p
+-- two rows that agree on the cards print the same
+pub row_same : (cards : ℕ) (f g : ℕ → ℕ) → ((card : ℕ) → card < cards → f card ≡ g card) → row_text cards f ≡ row_text cards g
+unfolding row_text parts_to
+row_same zero f g h = refl
+row_same (suc cards) f g h =
+    ap₂ ◌++◌ (row_same cards f g (λ card l. h card (omega arith))) (ap (λ (n : ℕ). ascii " " ++ decimal n) (h cards (omega arith)))
+
+pub slice_good : (l m : List ℕ) (at next : ℕ) (a : Answer) (clock cards n most : ℕ) (row : List ℕ) → a ≡ Good → length row ≡ 8 → n ≡ cards
+    → most ≡ min n 8
+    → Puts l at (slice_line Good clock (length (take most row)) (card_byte (take most row))) next m
+    → Puts l at (slice_line a clock (min cards 8) (card_byte row)) next m
+unfolding slice_line
+slice_good l m at next a clock cards n most row e eight q f p =
+    let k : length (take most row) ≡ most = length-take-le most row (omega arith) in
+    let s = row_same most (card_byte (take most row)) (card_byte row) (λ card h. get_or-take most row card 0 h) in
+    rw (e, ← q, ← f, ← s) (rw k at p)
 
 pub slice_no : (l m o : List ℕ) (at i j : ℕ) (a : Answer) (w : Refusal) (clock cards : ℕ) (row : ℕ → ℕ) → a ≡ No w
     → Puts l at (ascii "t") i m → Puts m i (outcome a) j o → Puts l at (slice_line a clock cards row) j o
 unfolding slice_line
 slice_no l m o at i j a w clock cards row e x y = rw e (puts_then l m o at i j (ascii "t") (outcome (No w)) x (rw e at y))
+
+pub release_parts : (l m o p : List ℕ) (at i j k kind e kind_is e_is : ℕ) (a : Answer) → kind_is ≡ kind → e_is ≡ e
+    → Puts l at (ascii "r " ++ decimal kind_is) i m → Puts m i (ascii " " ++ decimal e_is) j o → Puts o j (outcome a) k p
+    → Puts l at (release_line kind e a) k p
+unfolding release_line
+release_parts l m o p at i j k kind e n q a f g x y z =
+    rw (← f, ← g) (puts_three l m o p at i j k (ascii "r " ++ decimal n) (ascii " " ++ decimal q) (outcome a) x y z)
 
 -- ---- the steps of the loop over a row
 
@@ -60,15 +80,12 @@ pub row_none : (l : List ℕ) (at : ℕ) (row : ℕ → ℕ) → Puts l at (row_
 unfolding row_text parts_to
 row_none l at row = puts_none l at
 
-pub row_again : (l m o : List ℕ) (at i j card : ℕ) (row : ℕ → ℕ) → Puts l at (row_text card row) i m
-    → Puts m i (ascii " " ++ decimal (row card)) j o → Puts l at (row_text (card + 1) row) j o
+pub row_again : (l m o : List ℕ) (at i j card n : ℕ) (row : ℕ → ℕ) → n ≡ row card → Puts l at (row_text card row) i m
+    → Puts m i (ascii " " ++ decimal n) j o → Puts l at (row_text (card + 1) row) j o
 unfolding row_text parts_to
-row_again l m o at i j card row p q =
-    rw (add-one card) (puts_then l m o at i j (parts_to card (λ c. ascii " " ++ decimal (row c))) (ascii " " ++ decimal (row card)) p q)
-
-pub row_stop : (l m : List ℕ) (at i card cards : ℕ) (row : ℕ → ℕ) → Puts l at (row_text card row) i m → card ≤ cards → cards ≤ card
-    → Puts l at (row_text cards row) i m
-row_stop l m at i card cards row p a b = let e : cards ≡ card = omega arith in rw e p
+row_again l m o at i j card n row e p q =
+    rw (add-one card) (puts_then l m o at i j (parts_to card (λ c. ascii " " ++ decimal (row c))) (ascii " " ++ decimal (row card)) p
+    (rw e at q))
 
 -- ---- one of the lines: each way out
 
@@ -94,8 +111,13 @@ module _ (line : Line) (row out : List ℕ) (at : ℕ) where
   prints_nothing e k l = record { text = rw (printed_is (omega arith), e) (puts_none out at); room = omega arith }
 
   module _ (next : ℕ) (after : List ℕ) where
-    prints : (text : List ℕ) → line_text line row ≡ text → line_room ≤ length out → at ≤ length out - line_room → Puts out at text next after
-        → next ≤ at + line_room → Prints line row out at next after
+    prints : (text : List ℕ) →
+        line_text line row ≡ text →
+        line_room ≤ length out →
+        at ≤ length out - line_room →
+        Puts out at text next after →
+        next ≤ at + line_room →
+        Prints line row out at next after
     prints text e k l p m = record { text = rw (printed_is (omega arith), e) p; room = m }
 
     pub prints_plan : (a : Answer) → line ≡ Plan a → line_room ≤ length out → at ≤ length out - line_room

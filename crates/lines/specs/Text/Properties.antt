@@ -1,11 +1,15 @@
 -- Laws of text.
 -- Assumes nothing.
-use Rattle.std.specs.Prelude.{◌≡◌, refl, List, [], ◌∷◌, ◌++◌, ℕ, zero, suc, ◌+◌, ◌-◌, ◌*◌, ◌/◌, ◌%◌, ◌^◌, ◌≤◌, ◌<◌, length, take, get_or, set}
-use Rattle.std.proofs.Common.{sym, ap, ap₂, ◌∙◌, add-zero, pow-suc, div-lt_iff_lt-mul, add-one, arith, length-append, length-take-le, take-suc, take_all, lt-ltb, le-ltb}
+use Rattle.std.specs.Prelude.{◌≡◌, refl, List, [], ◌∷◌, ◌++◌, ℕ, zero, suc, ◌+◌, ◌-◌, ◌*◌, ◌/◌, ◌%◌, ◌^◌, ◌≤◌, ◌<◌, length, take, drop}
+use Rattle.std.specs.Prelude.{get_or, set}
+use Rattle.std.proofs.Common.{sym, append_assoc, drop-drop, ap, ap₂, ◌∙◌, add-zero, arith, length-append, lt-ltb, le-ltb}
 use Rattle.std.proofs.Math.Decide.{dec_lt}
 use Rattle.std.proofs.Math.ListN.{get_or-append}
-use Rattle.std.proofs.lemmas.List.Edits.{sets}
-use Rattle.std.proofs.Math.Seq.{length-sets, get_or-append_seam}
+use Rattle.std.proofs.lemmas.List.Edits.{sets, sets-eq}
+use borrow.Rule.Slice.PartMut.{put_mid}
+use Rattle.std.proofs.Math.Seq.{get_or-append_seam}
+use Rattle.std.specs.Fmt as library
+use Rattle.std.proofs.lemmas.Fmt.{decimal_by_steps}
 use Rattle.lines.specs.Text.{digit, decimal_in, decimal, IsDigit, says_behind, says, Puts}
 
 -- ---- stores one behind the other
@@ -43,25 +47,17 @@ pub puts_four : (l m o p q : List ℕ) (at n k j i : ℕ) (xs ys zs ws : List �
 puts_four l m o p q at n k j i xs ys zs ws a b c d =
     puts_then l p q at j i (xs ++ ys ++ zs) ws (puts_three l m o p at n k j xs ys zs a b c) d
 
--- one byte more
-puts_byte : (l m : List ℕ) (at n : ℕ) (xs : List ℕ) (v : ℕ) → Puts l at xs n m → Puts l at (xs ++ (v ∷ [])) (n + 1) (set m n v)
-puts_byte l m at n xs v p = puts_then l m (set m n v) at n (n + 1) xs (v ∷ []) p (record { end = refl; buffer = refl })
+-- ---- a word, stored in the part of the buffer that was lent for it and is back
 
-puts_length : (l m : List ℕ) (at n : ℕ) (xs : List ℕ) → Puts l at xs n m → length m ≡ length l
-puts_length l m at n xs p = ap length p.buffer ∙ length-sets l at xs
-
--- ---- the steps of a loop that stores a word
-
-pub word_again : (l m : List ℕ) (at i : ℕ) (w : List ℕ) → m ≡ sets l at (take i w) → i < length w
-    → set m (at + i) (get_or w i 0) ≡ sets l at (take (i + 1) w)
-word_again l m at i w e h =
-    let n : length (take i w) ≡ i = length-take-le i w (omega arith) in
-    let k : at + length (take i w) ≡ at + i = omega arith in
-    rw (add-one i, take-suc w i 0 h, sets_append l at (take i w) (get_or w i 0 ∷ []), k, ← e)
-
-pub word_stop : (l m : List ℕ) (at i n : ℕ) (w : List ℕ) → m ≡ sets l at (take i w) → i ≤ n → n ≤ i → n ≡ length w
-    → Puts l at w (at + length w) m
-word_stop l m at i n w e a b f = record { end = refl; buffer = e ∙ ap (sets l at) (take_all i w (omega arith)) }
+pub puts_lent : (l w ys : List ℕ) (at : ℕ) → at + length w ≤ length l → ys ≡ w
+    → Puts l at w (at + length w) (put_mid at (at + length w - at) l ys)
+puts_lent l w ys at h e =
+    let m : at + length w - at ≡ length w = omega arith in
+    record {
+      end = refl;
+      buffer =
+          rw (e, m, drop-drop (length w) at l) (sym (append_assoc (take at l) w (drop (at + length w) l)) ∙ sym (sets-eq w l at h));
+    }
 
 -- ---- a number's digits
 
@@ -84,53 +80,20 @@ decimal_large : (n : ℕ) → 10 ≤ n → decimal n ≡ decimal (n / 10) ++ (di
 unfolding decimal decimal_in
 decimal_large n l = rw (le-ltb n 10 l, decimal_steps n (suc (n / 10)) (n / 10) (omega arith) (omega arith))
 
+-- the library's digits are these
+pub decimal_is : (n : ℕ) → n < 2 ^ 64 → library.decimal n ≡ decimal n
+decimal_is n h =
+    decimal_by_steps (λ k ds. ds ≡ decimal k) (λ k l. sym (decimal_small k l))
+    (λ k ds l e. ap (λ (x : List ℕ). x ++ (digit (k % 10) ∷ [])) e ∙ sym (decimal_large k l)) n h
+
 pub digits_first : (l : List ℕ) (at n : ℕ) → n < 10 → Puts l at (decimal n) (at + 1) (set l at (48 + n))
 digits_first l at n h = rw (decimal_small n h) (record { end = refl; buffer = refl })
 
-pub digits_last : (l m : List ℕ) (at next n : ℕ) → 10 ≤ n → Puts l at (decimal (n / 10)) next m
-    → Puts l at (decimal n) (next + 1) (set m next (48 + n % 10))
-digits_last l m at next n h p = rw (decimal_large n h) (puts_byte l m at next (decimal (n / 10)) (48 + n % 10) p)
-
--- the room that it takes
-decimal_more : (n : ℕ) → 10 ≤ n → length (decimal n) ≡ length (decimal (n / 10)) + 1
-decimal_more n h = rw (decimal_large n h) (length-append (decimal (n / 10)) (digit (n % 10) ∷ []))
-
-pub decimal_one : (n : ℕ) → n < 10 → length (decimal n) ≡ 1
-decimal_one n h = rw (decimal_small n h)
-
-decimal_most : (k n : ℕ) → n < 10 ^ suc k → length (decimal n) ≤ suc k
-decimal_most zero n h = omega (arith, decimal_one n h)
-decimal_most (suc k) n h =
-    elim (dec_lt n 10) [
-      | yes p ↦ omega (arith, decimal_one n p)
-      | no p ↦
-          let q : n / 10 < 10 ^ suc k = (div-lt_iff_lt-mul {k = 10} {x = n} {y = 10 ^ suc k} (omega arith)).1 (rw pow-suc at h) in
-          omega (arith, decimal_more n (omega arith), decimal_most k (n / 10) q)
-    ]
-
--- a number of 32 bits has at most ten digits
-decimal_ten : (n : ℕ) → n < 2 ^ 32 → length (decimal n) ≤ 10
-decimal_ten n h = decimal_most 9 n (omega arith)
-
-pub room-first : (at n len : ℕ) → n < 10 → at + length (decimal n) ≤ len → at < len
-room-first at n len h l = omega (arith, decimal_one n h)
-
-pub room-tenth : (at n len : ℕ) → 10 ≤ n → at + length (decimal n) ≤ len → at + length (decimal (n / 10)) ≤ len
-room-tenth at n len h l = omega (arith, decimal_more n h)
-
-pub room-last : (at n next : ℕ) (out after : List ℕ) → 10 ≤ n → at + length (decimal n) ≤ length out
-    → Puts out at (decimal (n / 10)) next after → next < length after
-room-last at n next out after h l p = omega (arith, decimal_more n h, p.end, puts_length out after at next (decimal (n / 10)) p)
-
-pub room_after : (at n next : ℕ) (out after : List ℕ) → 10 ≤ n → at + length (decimal n) ≤ length out → length out < 2 ^ 64
-    → Puts out at (decimal (n / 10)) next after → next + 1 < 2 ^ 64
-room_after at n next out after h l m p = omega (arith, decimal_more n h, p.end)
-
-pub room-ten : (at n len : ℕ) → n < 2 ^ 32 → at + 10 ≤ len → at + length (decimal n) ≤ len
-room-ten at n len h l = omega (arith, decimal_ten n h)
-
-pub ends_ten : (at n next : ℕ) (out after : List ℕ) → n < 2 ^ 32 → Puts out at (decimal n) next after → next ≤ at + 10
-ends_ten at n next out after h p = omega (arith, decimal_ten n h, p.end)
+pub puts_number : (l m text bytes : List ℕ) (at next n : ℕ) → n < 2 ^ 32 → text ≡ library.decimal n → bytes ≡ text → Puts l at bytes next m
+    → Puts l at (decimal n) next m
+puts_number l m text bytes at next n h e f p =
+    let d = decimal_is n (omega arith) in
+    rw (f, e, d) at p
 
 -- ---- what the digits say
 
@@ -154,7 +117,8 @@ digits_in zero n i = λ l. absurd (omega arith)
 digits_in (suc steps) n i =
     elim (dec_lt n 10) [
       | yes p ↦ rw (lt-ltb n 10 p) (λ l. alone n i p l)
-      | no p ↦ rw (le-ltb n 10 (omega arith)) (λ l. behind (decimal_in steps (n / 10)) (n % 10) i (omega arith) (digits_in steps (n / 10)) l)
+      | no p ↦ rw (le-ltb n 10 (omega arith)) (λ l. behind (decimal_in steps (n / 10)) (n % 10) i (omega arith)
+          (digits_in steps (n / 10)) l)
     ]
 
 -- each byte is a digit

@@ -91,5 +91,6 @@ module _ (bytes list later : List ℕ) (v : Rescued) (done : Rescues bytes list 
     rescue_short x r g l b h =
         let q : room plan plan_size ≡ bare 9 = sym (short_room plan plan_size (bare 9) refl l) in
         let e : (rescue_answer bytes other and_then room plan plan_size) ≡ bare 9
-        = ap (λ (y : Answer). rescue_answer bytes other and_then y) q ∙ roomy_good bytes list other room-enough (sym rescue_answer_law ∙ g) in
+        = ap (λ (y : Answer). rescue_answer bytes other and_then y) q
+        ∙ roomy_good bytes list other room-enough (sym rescue_answer_law ∙ g) in
         record { result = rw e (h ∙ ap (λ (y : Answer). told y 0) b); buffer = rw e; second = rw e }

@@ -3,7 +3,7 @@
 use Rattle.one_kind.specs.Wanted.{separation_in, length_in}
 use Rattle.one_kind.specs.Built.{InLimits}
 use Rattle.one_kind.specs.Built.Properties.{cards_fit, kinds_fit}
-use Rattle.one_kind.specs.Steps.Properties.{listed, counts_refused, kinds_refused, in_limits, built_on}
+use Rattle.one_kind.specs.Steps.Properties.{listed, listed_most, timed_all, counts_refused, kinds_refused, in_limits, built_on}
 use Rattle.one_kind.proofs.build.Goals as goal
 
 pub returns-in_default : goal.returns-in_default
@@ -13,24 +13,20 @@ pub overflow_cast-kinds : goal.overflow_cast-kinds
 overflow_cast-kinds c = search kinds_fit
 
 pub kinds_timed-timed-requires : goal.kinds_timed-timed-requires
-kinds_timed-timed-requires c = search listed
+kinds_timed-timed-requires c = (search listed, search listed_most)
 
 pub returns-in_default-timed : goal.returns-in_default-timed
-returns-in_default-timed c = search kinds_refused
+returns-in_default-timed c = search (kinds_refused, timed_all)
 
 pub overflow_cast-cards : goal.overflow_cast-cards
 overflow_cast-cards c = search cards_fit
 
-pub overflow_cast-kinds-2 : goal.overflow_cast-kinds-2
-overflow_cast-kinds-2 c = search kinds_fit
-
 pub finished-requires : goal.finished-requires
 finished-requires c =
-    let start = c in
-    let list = start.args.list.now in
+    let list = c.args.list.now in
     let n = c.kinds_in-kinds.result in
-    let o : InLimits start.args.cards n (separation_in list) (length_in list) = search in_limits in
-    (o, search listed)
+    let o : InLimits c.args.cards n (separation_in list) (length_in list) = search (in_limits, timed_all) in
+    (o, search)
 
 pub returns : goal.returns
-returns c = search built_on
+returns c = search (built_on, timed_all)

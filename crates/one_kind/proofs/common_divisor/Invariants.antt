@@ -1,13 +1,12 @@
 -- `one_kind::common_divisor` meets its contract.
 -- Assumes nothing.
 use Rattle.std.proofs.Math.Path.{◌≡◌}
-use Prim.Native.Nat.{◌≤◌, ◌-◌}
+use Rattle.std.specs.Prelude.{◌*◌, ◌≤◌, length, drop}
 use Rattle.one_kind.specs.Divisor.{divisor_to}
 use Rattle.one_kind.specs.Wanted.{separation_in}
 use Rattle.one_kind.proofs.common_divisor.Given as goal
 
-abbrev pub invariant-loop-i : goal.invariant-loop-i
-invariant-loop-i l = (l.i ≤ l.kinds) × (l.common ≡ divisor_to l.i (separation_in l.list))
-
-abbrev pub decreases-loop-i : goal.decreases-loop-i
-decreases-loop-i l = l.kinds - l.i
+abbrev pub invariant-loop-kind : goal.invariant-loop-kind
+invariant-loop-kind l =
+    (l.kind-iterator.size ≡ 4) × (l.kind-iterator.rest.now ≡ drop (4 * length l.yielded) l.list) × (4 * length l.yielded ≤ length l.list)
+    × (l.common ≡ divisor_to (length l.yielded) (separation_in l.list))

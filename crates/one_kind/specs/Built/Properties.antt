@@ -19,12 +19,11 @@ use Rattle.answer.specs.Answer.Properties.{each_of}
 use Rattle.plan.specs.declared.Project.{Project}
 use Rattle.plan.specs.declared.Kind.{Kind}
 use Rattle.plan.specs.Record.{no_project, no_kind}
-use Rattle.plan.specs.Order.{within, empty_project, empty_kind, tidy_project, tidy_kind, tidy_projects, tidy_kinds, project_of, kind_of, budgets}
-use Rattle.plan.specs.Order.{Sized, ProjectInRange, KindInRange, InOrder, unused, project_in_range, projects_in_range, kind_in_range_at}
-use Rattle.plan.specs.Order.{kinds_in_range}
-use Rattle.plan.specs.Order.{ranges, checked, budgets_fit}
-use Rattle.plan.specs.Order.Properties.{within_low, within_high, within_of, sizes_of, project_of_law, kind_of_law, kept_empty, no_project_empty}
-use Rattle.plan.specs.Order.Properties.{no_kind_empty}
+use Rattle.plan.specs.Order.{within, empty_project, empty_kind, tidy_project, tidy_kind, tidy_projects, tidy_kinds, project_of, kind_of}
+use Rattle.plan.specs.Order.{budgets, Sized, ProjectInRange, KindInRange, InOrder, unused, project_in_range, projects_in_range}
+use Rattle.plan.specs.Order.{kind_in_range_at, kinds_in_range, ranges, checked, budgets_fit}
+use Rattle.plan.specs.Order.Properties.{within_low, within_high, within_of, sizes_of, project_of_law, kind_of_law, kept_empty}
+use Rattle.plan.specs.Order.Properties.{no_project_empty, no_kind_empty}
 use Rattle.one_kind.specs.Divisor.Properties.{divisor_some}
 use Rattle.one_kind.specs.Built.{rounded_up, offered, counts, frame_for, timed_alone, kind_for, kind_timed, kinds_timed, budget_for}
 use Rattle.one_kind.specs.Built.{project_for, plan_for}

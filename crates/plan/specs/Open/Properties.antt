@@ -1,12 +1,12 @@
 -- Laws of the record order with one budget open: what a good answer says, and that nothing less is asked; and of the plan with a budget
 -- written in.
 -- Assumes nothing.
-use Rattle.std.specs.Prelude.{◌≡◌, refl, ◌≢◌, Bool, true, false, not, ◌&&◌, ◌||◌, ℕ, ◌*◌, ◌≤◌, ◌<◌, ltb, eqb, length}
+use Rattle.std.specs.Prelude.{◌≡◌, refl, ◌≢◌, Option, None, Some, Bool, true, not, ◌&&◌, ◌||◌, ℕ, ◌*◌, ◌≤◌, ◌<◌, ltb, eqb, length}
 use Rattle.std.proofs.Common.{sym, ap, ◌∙◌, arith, get_or-set_same, get_or-set_other}
 use Rattle.std.proofs.Math.Decide.{dec_lt, ℕ_discrete}
 use Rattle.std.proofs.Math.ListN.{get_or-eq_default}
 use borrow.Author.Tests.{lt-ltb, eq-eqb, ne_eqb, ltb-true, not-false}
-use Rattle.laws.specs.Tests.{and_left, and_right, told_yes}
+use Rattle.laws.specs.Tests.{and_left, and_right}
 use Rattle.laws.specs.All.Properties.{all_at, all_of}
 use Rattle.plan.specs.declared.Project.{Project}
 use Rattle.plan.specs.declared.Plan.{Plan}
@@ -14,23 +14,37 @@ use Rattle.answer.specs.declared.Answer.{Answer}
 use Rattle.answer.specs.declared.Answer.TheVariants.{Good}
 use Rattle.answer.specs.Answer.{◌and_then◌}
 use Rattle.answer.specs.Answer.Properties.{and_then_left, and_then_right, refuse_good, each_at, each_of}
+use Rattle.std.specs.Option.{option_eq}
+use Rattle.answer.specs.Answer.{at_project, refuse, each_to}
+use Rattle.plan.specs.Order.{in_range}
+use Rattle.plan.specs.Open.{project_in_range_but, projects_in_range_but}
 use Rattle.plan.specs.Record.{no_project}
 use Rattle.plan.specs.Order.{Sized, ProjectInRange, KindInRange, InOrder, within, empty_project, tidy_project, tidy_kind}
 use Rattle.plan.specs.Order.{tidy_projects, tidy_kinds}
-use Rattle.plan.specs.Order.{budgets, project_of, kind_of, sizes, unused, project_in_range, projects_in_range, kind_in_range_at, kinds_in_range}
-use Rattle.plan.specs.Order.{budgets_fit, ranges, checked}
+use Rattle.plan.specs.Order.{budgets, project_of, kind_of, sizes, unused, project_in_range, projects_in_range, kind_in_range_at}
+use Rattle.plan.specs.Order.{kinds_in_range, budgets_fit, ranges, checked}
 use Rattle.plan.specs.Order.Properties.{within_low, within_high, within_of, sizes_says, sizes_of, sized_same, project_of_law, kind_says}
 use Rattle.plan.specs.Order.Properties.{kind_of_law}
-use Rattle.plan.specs.Open.{with_budget, project_there, in_range_open, project_in_range_open, projects_in_range_open, ranges_open, checked_open}
-use Rattle.plan.specs.Open.{InOrderOpen}
+use Rattle.plan.specs.Open.{with_budget, project_there, in_range_open, project_in_range_open, projects_in_range_open, ranges_open}
+use Rattle.plan.specs.Open.{checked_open, InOrderOpen}
 
--- ---- the code's way to 4: r is what the test of the ceiling answered, and a what it should
+-- ---- the code's way to 4: b says whether project i's budget is skipped, and r is what the test of the project answered
 
-pub skip_yes : (a b skipped r : Bool) → r ≡ a → not r ≡ false → skipped ≡ true → true ≡ (a && (skipped || b))
-skip_yes a b skipped r e t s = rw (told_yes a r e t, s)
+eqb_turned : (i j : ℕ) → eqb i j ≡ eqb j i
+eqb_turned i j =
+    elim (ℕ_discrete i j) [ yes e ↦ rw (eq-eqb i j e, eq-eqb j i (sym e)) | no n ↦ rw (ne_eqb i j n, ne_eqb j i (λ e. n (sym e))) ]
 
-pub skip_no : (a b skipped r x : Bool) → r ≡ a → not r ≡ false → skipped ≡ false → x ≡ b → x ≡ (a && (skipped || b))
-skip_no a b skipped r x e t s q = rw (told_yes a r e t, s) q
+pub but_is : (o : Option ℕ) (p : Plan) (i : ℕ) (b r : Bool) → b ≡ option_eq eqb o (Some i)
+    → r ≡ (within p.cards (project_of p i).ceiling && (b || within ((project_of p i).ceiling * p.frame) (project_of p i).budget))
+    → refuse (not r) (at_project 4 i) ≡ project_in_range_but o p i
+unfolding in_range in_range_open
+but_is None p i b r e q = rw (q, e)
+but_is (Some j) p i b r e q = rw (q, e, eqb_turned j i)
+
+pub but_each : (o : Option ℕ) (p : Plan) → projects_in_range_but o p ≡ each_to p.projects (project_in_range_but o p)
+unfolding projects_in_range projects_in_range_open
+but_each None p = refl
+but_each (Some j) p = refl
 
 -- ---- the plan with a budget written in
 

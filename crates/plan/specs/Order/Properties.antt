@@ -1,7 +1,16 @@
 -- Laws of the record's order: what a good answer says of each field, and that nothing less is asked.
 -- Assumes nothing.
-use Rattle.std.specs.Prelude.{◌≡◌, refl, Bool, true, false, not, ◌&&◌, ◌||◌, ℕ, ◌*◌, ◌≤◌, ◌<◌, leb, ltb, eqb}
-use Rattle.std.proofs.Common.{sym, ◌∙◌, true≢false, arith, lt-ltb, le-ltb, le-leb, ne_eqb, ltb-true, leb-true}
+use Rattle.std.specs.Prelude.{◌≡◌, refl, Bool, true, false, not, ◌&&◌, ◌||◌, List, ℕ, zero, suc, ◌+◌, ◌-◌, ◌*◌, ◌≤◌, ◌<◌, leb, ltb, eqb}
+use Rattle.std.specs.Prelude.{length, get_or, take, drop}
+use Rattle.std.specs.List.{list_all, sum_by}
+use Rattle.std.proofs.Common.{sym, ap, ap₂, ◌∙◌, true≢false, add-suc, add-one, arith, lt-ltb, le-ltb, le-leb, ne_eqb, ltb-true, leb-true}
+use Rattle.std.proofs.Common.{length-drop, get_or-drop}
+use Rattle.std.proofs.lemmas.List.Folds.{list_all_more}
+use Rattle.std.proofs.lemmas.List.Sums.{sum_by_more}
+use Rattle.laws.specs.Sum.{sum_to}
+use Rattle.laws.specs.All.{all_to}
+use Rattle.plan.specs.declared.Project.{Project}
+use Rattle.plan.specs.Order.{budget_of}
 use Rattle.std.proofs.lemmas.Bool.{eqb-false, not-true, not-false}
 use Rattle.laws.specs.Tests.{and_left, and_right}
 use Rattle.laws.specs.All.Properties.{all_at, all_of}
@@ -13,7 +22,8 @@ use Rattle.answer.specs.Answer.{at_kind, refuse, ◌and_then◌}
 use Rattle.answer.specs.Answer.Properties.{and_then_left, and_then_right, refuse_good, each_at, each_of}
 use Rattle.plan.specs.Order.{Sized, ProjectInRange, KindInRange, InOrder, within, sized, empty_project, empty_kind, tidy_project}
 use Rattle.plan.specs.Order.{tidy_kind, tidy_projects, tidy_kinds, in_range, timed, budgets, project_of, kind_of, sizes, unused}
-use Rattle.plan.specs.Order.{project_in_range, projects_in_range, kind_in_range, kind_in_range_at, kinds_in_range, budgets_fit, ranges, checked}
+use Rattle.plan.specs.Order.{project_in_range, projects_in_range, kind_in_range, kind_in_range_at, kinds_in_range, budgets_fit, ranges}
+use Rattle.plan.specs.Order.{checked}
 
 -- ---- "1..most"
 
@@ -112,9 +122,42 @@ pub no_kind_empty : empty_kind no_kind ≡ true
 unfolding empty_kind
 no_kind_empty = refl
 
-pub full_place : (j used n : ℕ) (e r : Bool) → used ≡ n → used ≤ j → r ≡ e → not r ≡ true → (ltb j n || e) ≡ false
-full_place j used n e true q l p t = absurd (true≢false (sym t))
-full_place j used n e false q l p t = rw (le-ltb j n (omega arith), ← p)
+-- the places from the first unused one on, one after the other
+tidy_from : {A : Type 0} (e : A → Bool) (d : A) (xs : List A) (used k : ℕ) → used + k ≤ length xs
+    → all_to (used + k) (λ j. ltb j used || e (get_or xs j d)) ≡ list_all e (take k (drop used xs))
+unfolding all_to
+tidy_from e d xs used zero l =
+    let f = λ (j : ℕ). ltb j used || e (get_or xs j d) in
+    let z : used + 0 ≡ used = omega arith in
+    rw z (all_of used f (λ i m. rw (lt-ltb i used m)))
+tidy_from e d xs used (suc k) l =
+    let f = λ (j : ℕ). ltb j used || e (get_or xs j d) in
+    let ys = drop used xs in
+    let m : k < length ys = omega (arith, length-drop used xs) in
+    let v : f (used + k) ≡ e (get_or ys k d) = rw (le-ltb (used + k) used (omega arith)) (ap e (sym (get_or-drop used xs k d))) in
+    ap (λ (n : ℕ). all_to n f) (add-suc used k) ∙ ap₂ ◌&&◌ (tidy_from e d xs used k (omega arith)) v
+    ∙ sym (list_all_more e ys k d m) ∙ ap (λ (n : ℕ). list_all e (take n ys)) (add-one k)
+
+pub tidy_all : {A : Type 0} (n used : ℕ) (e : A → Bool) (d : A) (xs : List A) (r : Bool) → length xs ≡ n → used ≤ n
+    → r ≡ list_all e (take (n - used) (drop used xs)) → r ≡ all_to n (λ j. ltb j used || e (get_or xs j d))
+tidy_all n used e d xs r m l q =
+    let k : used + (n - used) ≡ n = omega arith in
+    q ∙ sym (tidy_from e d xs used (n - used) (omega arith)) ∙ ap (λ (i : ℕ). all_to i (λ j. ltb j used || e (get_or xs j d))) k
+
+-- ---- the budgets of the first projects, one after the other
+
+budgets_to : (p : Plan) (n : ℕ) → n ≤ length p.project → sum_by (λ (v : Project). v.budget) (take n p.project) ≡ sum_to n (budget_of p)
+unfolding sum_to
+budgets_to p zero l = refl
+budgets_to p (suc n) l =
+    ap (λ (k : ℕ). sum_by (λ (v : Project). v.budget) (take k p.project)) (sym (add-one n))
+    ∙ sum_by_more (λ (v : Project). v.budget) p.project n no_project (omega arith)
+    ∙ ap (λ (k : ℕ). k + budget_of p n) (budgets_to p n (omega arith))
+
+pub budgets_all : (p : Plan) (r : ℕ) → p.projects ≤ length p.project → r ≡ sum_by (λ (v : Project). v.budget) (take p.projects p.project)
+    → r ≡ budgets p
+unfolding budgets
+budgets_all p r l q = q ∙ budgets_to p p.projects l
 
 -- ---- a project and a kind in range
 

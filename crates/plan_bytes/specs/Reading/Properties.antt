@@ -15,8 +15,8 @@ use Rattle.answer.specs.declared.Refusal.{Refusal}
 use Rattle.plan.specs.Record.{no_project, no_kind, no_plan}
 use Rattle.answer.specs.Answer.{bare, refuse, ◌and_then◌}
 use Rattle.answer.specs.Answer.Properties.{refused, passed, stage_on, opened_no, opened_on}
-use Rattle.plan.specs.Order.{project_of, kind_of, empty_project, empty_kind, tidy_project, tidy_kind, tidy_projects, tidy_kinds, sized, sizes}
-use Rattle.plan.specs.Order.{unused, ranges, checked}
+use Rattle.plan.specs.Order.{project_of, kind_of, empty_project, empty_kind, tidy_project, tidy_kind, tidy_projects, tidy_kinds, sized}
+use Rattle.plan.specs.Order.{sizes, unused, ranges, checked}
 use Rattle.plan.specs.Order.Properties.{used_place, kept_empty, no_project_empty, no_kind_empty}
 use Rattle.plan_bytes.specs.declared.Reading.{Reading}
 use Rattle.plan_bytes.specs.Parts.{project_at, kind_at, project_from, kind_from, projects_from, kinds_from, after_header, after_projects}
@@ -58,8 +58,12 @@ pub kinds_spare_stop : (i n : ℕ) (s : List ℕ) (b : Bool) → b ≡ kinds_spa
 unfolding kinds_spare
 kinds_spare_stop i n s b p x y = all_stop b i n (λ k. eqb (kind_spare (kind_at s k)) 0) p x y
 
-pub places_spare_law : (s : List ℕ) (p : Plan) (a b r : Bool) → p ≡ headed s → a ≡ projects_spare p.projects (take (length s - 3) (drop 3 s))
-    → b ≡ kinds_spare p.kinds (take (length s - (3 + 2 * p.projects)) (drop (3 + 2 * p.projects) s)) → r ≡ (a && b) → r ≡ places_spare s
+pub places_spare_law : (s : List ℕ) (p : Plan) (a b r : Bool) →
+    p ≡ headed s →
+    a ≡ projects_spare p.projects (take (length s - 3) (drop 3 s)) →
+    b ≡ kinds_spare p.kinds (take (length s - (3 + 2 * p.projects)) (drop (3 + 2 * p.projects) s)) →
+    r ≡ (a && b) →
+    r ≡ places_spare s
 unfolding places_spare
 places_spare_law s p a b r e f g h =
     let x : a ≡ projects_spare (headed s).projects (drop 3 s) = f ∙ ap (projects_spare p.projects) (handed_on s 3)
@@ -121,7 +125,8 @@ module _ (s : List ℕ) (p : Plan) (headed-is : p ≡ headed s) (total : ℕ) (t
   unfolding body_answer
   body_short x b l =
       let e = total_headed in
-      opened_no x (refuse (ltb (length s) (size (headed s))) (bare 1)) (refuse (not (spare_zero s)) (bare 3) and_then ranges (decoded s)) _ b
+      opened_no x (refuse (ltb (length s) (size (headed s))) (bare 1))
+      (refuse (not (spare_zero s)) (bare 3) and_then ranges (decoded s)) _ b
       (rw (lt-ltb (length s) (size (headed s)) (omega arith)) b)
 
   body_whole : (x : Answer) → total ≤ length s → x ≡ (refuse (not (spare_zero s)) (bare 3) and_then ranges (decoded s)) → x ≡ body_answer s
@@ -139,7 +144,8 @@ module _ (s : List ℕ) (p : Plan) (headed-is : p ≡ headed s) (total : ℕ) (t
     pub body_spare : (x : Answer) → x ≡ bare 3 → total ≤ length s → not r ≡ true → x ≡ body_answer s
     body_spare x b l t =
         body_whole x l
-        (opened_no x (refuse (not (spare_zero s)) (bare 3)) (ranges (decoded s)) _ b (refused (spare_zero s) r (bare 3) x spare_zero_law t b))
+        (opened_no x (refuse (not (spare_zero s)) (bare 3)) (ranges (decoded s)) _ b
+        (refused (spare_zero s) r (bare 3) x spare_zero_law t b))
 
     pub body_checked : (x : Answer) (q : Plan) → total ≤ length s → not r ≡ false → q ≡ decoded s → x ≡ checked q → sizes p ≡ Good
         → x ≡ body_answer s

@@ -77,7 +77,8 @@ module _ (s t : List ℕ) (long : size (headed s) ≤ length s) (other : size (h
   projects_same : projects_from (headed s).projects (after_header s) ≡ projects_from (headed t).projects (after_header t)
   unfolding projects_from project_from
   projects_same =
-      written_cong (headed s).projects (λ j. project_from (project_at (after_header s) j)) (λ j. project_from (project_at (after_header t) j))
+      written_cong (headed s).projects (λ j. project_from (project_at (after_header s) j))
+      (λ j. project_from (project_at (after_header t) j))
       (replicate 8 no_project) (λ j l. ap made (project_same j l))
       ∙ ap (λ (p : Plan). projects_from p.projects (after_header t)) headed_same
     where

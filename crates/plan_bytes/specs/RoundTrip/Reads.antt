@@ -108,8 +108,12 @@ order_passes p o =
     }
 
 -- n places stored, and empty ones beyond them, are the list l where it has the same
-written_back : {A : Type 0} (empty : A) (m n : ℕ) (f : ℕ → A) (l : List A) → length l ≡ m → n ≤ m
-    → ((k : ℕ) → k < n → f k ≡ get_or l k empty) → ((k : ℕ) → n ≤ k → k < m → get_or l k empty ≡ empty) → written n f (replicate m empty) ≡ l
+written_back : {A : Type 0} (empty : A) (m n : ℕ) (f : ℕ → A) (l : List A) →
+    length l ≡ m →
+    n ≤ m →
+    ((k : ℕ) → k < n → f k ≡ get_or l k empty) →
+    ((k : ℕ) → n ≤ k → k < m → get_or l k empty ≡ empty) →
+    written n f (replicate m empty) ≡ l
 written_back empty m n f l e most used beyond = ext_get_or empty (written n f (replicate m empty)) l (long ∙ sym e) same
   where
     long : length (written n f (replicate m empty)) ≡ m
@@ -209,9 +213,10 @@ module _ (p : Plan) (shaped : Shaped p) (order : Passes p) (rest : List ℕ) whe
       ap (λ (s : List ℕ). project_fields (drop (2 * j) s)) after_header_law ∙ ap project_fields t.1
       ∙ project_fields_law p (project_of p j) t.0 order.counts.cards_most order.counts.frame_most (order.project_at_law j l)
 
-  pub kind_all : (i : ℕ) → i < p.kinds
-      → kind_fields
-      (kind_at (after_projects all) i) ≡ (kind_of p i).project ∷ (kind_of p i).separation ∷ (kind_of p i).deadline ∷ (kind_of p i).length ∷ 0 ∷ []
+  pub kind_all : (i : ℕ) →
+      i < p.kinds →
+      kind_fields (kind_at (after_projects all) i) ≡
+      (kind_of p i).project ∷ (kind_of p i).separation ∷ (kind_of p i).deadline ∷ (kind_of p i).length ∷ 0 ∷ []
   unfolding kinds_part
   kind_all i l =
       let t = parts_drop p.kinds 5 (kind_bytes_at p) rest i (λ k. kind_length (kind_of p k)) l in

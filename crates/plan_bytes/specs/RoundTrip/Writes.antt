@@ -97,7 +97,8 @@ unfolding header_bytes headed header_spare header_fields unpack placed fields_of
 header_same s b l e =
     ap (λ (z : ℕ). bytes_of 3
     (pack header_widths
-    (get_or (header_fields s) 0 0 ∷ get_or (header_fields s) 1 0 ∷ get_or (header_fields s) 2 0 ∷ get_or (header_fields s) 3 0 ∷ z ∷ []))) (sym e)
+    (get_or (header_fields s) 0 0 ∷ get_or (header_fields s) 1 0 ∷ get_or (header_fields s) 2 0 ∷ get_or (header_fields s) 3 0 ∷ z ∷ [])))
+    (sym e)
     ∙ placed_fields header_widths s refl b l
 
 project_same : (s : List ℕ) → AreBytes s → 2 ≤ length s → project_spare s ≡ 0 → project_bytes (project_from s) ≡ take 2 s
@@ -110,7 +111,8 @@ kind_same : (s : List ℕ) → AreBytes s → 5 ≤ length s → kind_spare s �
 unfolding kind_bytes kind_from kind_spare kind_fields unpack placed fields_of
 kind_same s b l e =
     ap (λ (z : ℕ). bytes_of 5
-    (pack kind_widths (get_or (kind_fields s) 0 0 ∷ get_or (kind_fields s) 1 0 ∷ get_or (kind_fields s) 2 0 ∷ get_or (kind_fields s) 3 0 ∷ z ∷ [])))
+    (pack kind_widths
+    (get_or (kind_fields s) 0 0 ∷ get_or (kind_fields s) 1 0 ∷ get_or (kind_fields s) 2 0 ∷ get_or (kind_fields s) 3 0 ∷ z ∷ [])))
     (sym e) ∙ placed_fields kind_widths s refl b l
 
 -- ---- the whole
@@ -130,7 +132,8 @@ module _ (s : List ℕ) (b : AreBytes s) (good : ReadGood s) where
   project_spare_law : (j : ℕ) → j < (headed s).projects → project_spare (project_at (after_header s) j) ≡ 0
   unfolding places_spare projects_spare
   project_spare_law j l =
-      let c = and_left (projects_spare (headed s).projects (after_header s)) (kinds_spare (headed s).kinds (after_projects s)) places_clean in
+      let c = and_left (projects_spare (headed s).projects (after_header s)) (kinds_spare (headed s).kinds (after_projects s))
+      places_clean in
       eqb-true (project_spare (project_at (after_header s) j)) 0
       (all_at (headed s).projects (λ k. eqb (project_spare (project_at (after_header s) k)) 0) c j l)
 

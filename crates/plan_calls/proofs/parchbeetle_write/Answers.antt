@@ -6,12 +6,12 @@ use Rattle.plan_calls.specs.Exports.Properties.{write_count, write_told}
 use Rattle.std.proofs.Common.{rules}
 use Rattle.plan_calls.proofs.parchbeetle_write.Goals as goal
 
-pub returns-in_default : goal.returns-in_default
+pub returns-in-Err : goal.returns-in-Err
 unfolding writes_answer
-returns-in_default c = search unfound_outcome
+returns-in-Err c = search (unfound_outcome, c.in-Err.ensures)
 
 pub overflow_cast-written : goal.overflow_cast-written
 overflow_cast-written c = search (write_count, rules)
 
 pub returns : goal.returns
-returns c = search write_told
+returns c = search (write_told, c.in-Ok.ensures)

@@ -1,6 +1,6 @@
--- Laws of what the exported functions answer: one for each way that a function leaves. f is what was found in the image.
+-- Laws of what the exported functions answer: one for each way that a function leaves. f is the plan or the state that the image says.
 -- Assumes nothing.
-use Rattle.std.specs.Prelude.{◌≡◌, refl, List, ℕ, ◌*◌, ◌≤◌, ◌<◌, ltb, length}
+use Rattle.std.specs.Prelude.{◌≡◌, refl, Ok, Err, List, ℕ, ◌*◌, ◌≤◌, ◌<◌, ltb, length}
 use Rattle.std.proofs.Common.{sym, ap, ◌∙◌, mul-le-mul, arith}
 use Rattle.plan.specs.declared.Plan.{Plan}
 use Rattle.answer.specs.declared.Answer.{Answer}
@@ -11,14 +11,12 @@ use Rattle.answer.specs.Answer.Properties.{and_then_left, opened_no, opened_on}
 use Rattle.plan.specs.Order.{checked}
 use Rattle.plan.specs.Order.Properties.{in_order}
 use Rattle.plan_bytes.specs.declared.Reading.{Reading}
-use Rattle.plan_bytes.specs.declared.Written.{Written}
+use Rattle.answer.specs.declared.Written.{Written}
 use Rattle.plan_bytes.specs.Parts.{size}
 use Rattle.plan_bytes.specs.Reading.{read_of}
 use Rattle.plan_bytes.specs.RoundTrip.Writes.{read_checked, read_size}
 use Rattle.plan_bytes.specs.Writing.{write_answer, Writes}
-use Rattle.layout.specs.declared.table.TableWritten.{TableWritten}
 use Rattle.layout.specs.Table.{table_answer, table_length, Tabled}
-use Rattle.images.specs.declared.PlanFound.{PlanFound}
 use Rattle.images.specs.Image.{plan_size, plan_from, plan_image}
 use Rattle.images.specs.Lent.{room, plan_found, StoresPlan}
 use Rattle.images.specs.Lent.Properties.{plan_room, plan_is, plan_no, plan_on}
@@ -28,16 +26,16 @@ use Rattle.plan_calls.specs.Exports.{check_answer, reads_answer, Reads, writes_a
 
 -- ---- `parchbeetle_check`
 
-pub check_unfound : (plan : List ℕ) (f : PlanFound) (w : Refusal) (r : ℕ) → f ≡ plan_found plan → f.answer ≡ No w → r ≡ told f.answer 0 →
+pub check_unfound : (plan : List ℕ) (w : Refusal) (r : ℕ) → Err w ≡ plan_found plan → r ≡ told (No w) 0 →
     r ≡ told (check_answer plan) 0
 unfolding check_answer
-check_unfound plan f w r e g h = h ∙ ap (λ (x : Answer). told x 0) (plan_no plan f (checked (plan_from plan)) w e g)
+check_unfound plan w r e h = h ∙ ap (λ (x : Answer). told x 0) (plan_no plan (checked (plan_from plan)) w e)
 
-pub check_told : (plan : List ℕ) (f : PlanFound) (a : Answer) (r : ℕ) → f ≡ plan_found plan → f.answer ≡ Good → a ≡ checked f.plan →
+pub check_told : (plan : List ℕ) (f : Plan) (a : Answer) (r : ℕ) → Ok f ≡ plan_found plan → a ≡ checked f →
     r ≡ told a 0 → r ≡ told (check_answer plan) 0
 unfolding check_answer
-check_told plan f a r e g h t =
-    t ∙ ap (λ (x : Answer). told x 0) (plan_on plan f (checked (plan_from plan)) a e g (h ∙ ap checked (plan_is plan f e g)))
+check_told plan f a r e h t =
+    t ∙ ap (λ (x : Answer). told x 0) (plan_on plan f (checked (plan_from plan)) a e (h ∙ ap checked (plan_is plan f e)))
 
 -- ---- `parchbeetle_read`: v is what reading found
 
@@ -96,11 +94,11 @@ write_count p out after w e =
     let m = good_size p out (write_answer p out) refl in
     omega arith
 
-pub write_told : (plan out after : List ℕ) (f : PlanFound) (w : Written) (r : ℕ) → f ≡ plan_found plan → f.answer ≡ Good →
-    Writes f.plan out w after → r ≡ told w.answer w.count → WritesBytes plan out r after
+pub write_told : (plan out after : List ℕ) (f : Plan) (w : Written) (r : ℕ) → Ok f ≡ plan_found plan →
+    Writes f out w after → r ≡ told w.answer w.count → WritesBytes plan out r after
 unfolding writes_answer
-write_told plan out after f w r e g t h =
-    rw (plan_room plan f e g, ← plan_is plan f e g)
+write_told plan out after f w r e t h =
+    rw (plan_room plan f e, ← plan_is plan f e)
     (record { result = h ∙ ap (λ (x : Written). told x.answer x.count) t.result; buffer = t.buffer })
 
 -- ---- `parchbeetle_slot_table`: w is what writing the table did
@@ -117,15 +115,15 @@ unfolding table_answer
 good_table p room Good e = table_most p (and_then_left (checked p) (refuse (ltb room (table_length p)) (bare 9)) e)
 good_table p room (No r) e = omega arith
 
-pub slots_count : (p : Plan) (out after : List ℕ) (w : TableWritten) → Tabled p out w after → w.count < 65536
+pub slots_count : (p : Plan) (out after : List ℕ) (w : Written) → Tabled p out w after → w.count < 65536
 slots_count p out after w e =
-    let z : w.count ≡ if_good (table_answer p (length out)) (table_length p) 0 = ap (λ (x : TableWritten). x.count) e.result in
+    let z : w.count ≡ if_good (table_answer p (length out)) (table_length p) 0 = ap (λ (x : Written). x.count) e.result in
     let m = good_table p (length out) (table_answer p (length out)) refl in
     omega arith
 
-pub slots_told : (plan out after : List ℕ) (f : PlanFound) (w : TableWritten) (r : ℕ) → f ≡ plan_found plan → f.answer ≡ Good →
-    Tabled f.plan out w after → r ≡ told w.answer w.count → WritesSlots plan out r after
+pub slots_told : (plan out after : List ℕ) (f : Plan) (w : Written) (r : ℕ) → Ok f ≡ plan_found plan →
+    Tabled f out w after → r ≡ told w.answer w.count → WritesSlots plan out r after
 unfolding slots_answer
-slots_told plan out after f w r e g t h =
-    rw (plan_room plan f e g, ← plan_is plan f e g)
-    (record { result = h ∙ ap (λ (x : TableWritten). told x.answer x.count) t.result; buffer = t.buffer })
+slots_told plan out after f w r e t h =
+    rw (plan_room plan f e, ← plan_is plan f e)
+    (record { result = h ∙ ap (λ (x : Written). told x.answer x.count) t.result; buffer = t.buffer })

@@ -18,8 +18,8 @@ pub returns-then-held-total : goal.returns-then-held-total
 unfolding standing_in
 returns-then-held-total c = search (refused_reading, counts_total)
 
-pub places-placed-requires : goal.places-placed-requires
-places-placed-requires c = (search, search projects_opened, search kinds_opened, omega arith)
+pub places-requires : goal.places-requires
+places-requires c = (search, search projects_opened, search kinds_opened, omega arith)
 
 pub returns : goal.returns
 returns c = search standing_good

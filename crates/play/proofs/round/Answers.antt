@@ -1,6 +1,6 @@
 -- `play::round` meets its contract.
 -- Assumes nothing.
-use Rattle.std.proofs.Common.{sym, arith, length-take-le, rules}
+use Rattle.std.proofs.Common.{arith, rules}
 use Rattle.play.specs.Desk.Properties.{round_tells, round_ends, round_hears, taken_fits, read_room}
 use Rattle.play.proofs.round.Goals as goal
 
@@ -10,16 +10,8 @@ returns-then-is_over c = search round_ends
 pub listen-requires : goal.listen-requires
 listen-requires c = (search rules, search read_room)
 
-pub returns-then-count-eq0 : goal.returns-then-count-eq0
-returns-then-count-eq0 c = search round_hears
-
-pub slice_bounds-write_all-end-2 : goal.slice_bounds-write_all-end-2
-slice_bounds-write_all-end-2 c =
-    sym (length-take-le _ _ (omega (
-      arith,
-      c.play-progress.ensures.room,
-      c.play-progress.auto.out,
-    )))
+pub returns-then-progress-eq0 : goal.returns-then-progress-eq0
+returns-then-progress-eq0 c = search round_hears
 
 pub told-requires : goal.told-requires
 told-requires c =

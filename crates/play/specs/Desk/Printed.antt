@@ -1,20 +1,17 @@
 -- The rounds of `play` are steps of `Reached`; so what was handed to the output is what document 01 has printed for what came from the
 -- input.
 -- Assumes nothing.
-use Rattle.std.specs.Prelude.{◌≡◌, refl, Bool, true, false, List, [], ◌++◌, ℕ, ◌+◌, ◌-◌, ◌≤◌, length, take, drop}
-use Rattle.std.proofs.Common.{sym, ap, subst, ◌∙◌, true≢false, append_assoc, append-nil, arith, length-drop, take-append-drop, drop_of_length-le, take-take, take-add, drop_at, drop-drop, length-take-le}
+use Rattle.std.specs.Prelude.{◌≡◌, refl, Bool, true, false, List, [], ◌++◌, Option, None, Some, ℕ, ◌+◌, ◌-◌, ◌≤◌, length, take, drop}
+use Rattle.std.proofs.Common.{sym, ap, subst, ◌∙◌, true≢false, append_assoc, append-nil, arith, length-drop, take-append-drop}
+use Rattle.std.proofs.Common.{drop_of_length-le, take-take, take-add, drop_at, drop-drop, length-take-le}
 use Rattle.lines.specs.Line.{line_room}
 use Rattle.player.specs.declared.session.Session.{Session}
-use Rattle.player.specs.declared.session.Stage.{Stage}
-use Rattle.player.specs.declared.session.Stage.TheVariants as stage
 use Rattle.player.specs.Played.{played}
-use Rattle.player.specs.Session.{at_stage, remaining, step_of, play_of}
+use Rattle.player.specs.Session.{is_over, remaining, step_of, play_of}
 use Rattle.player.specs.Session.Properties.{play_most, play_idle, idle_none}
 use Rattle.player.specs.Stream.{Reached, reads, plays}
 use Rattle.player.specs.Stream as stream
 use Rattle.player.specs.Stream.Properties.{reached_whole, reached_end}
-use Rattle.play.specs.declared.Arrival.{Arrival}
-use Rattle.play.specs.declared.Arrival.TheVariants.{Came, Failed}
 use Rattle.play.specs.declared.Course.TheVariants.{Over, Unread}
 use Rattle.play.specs.declared.Desk.{Desk}
 use Rattle.play.specs.Desk.{holds, Fits, lines_now, course_of, told_of, ended_of, heard_of, Round, tells, ends}
@@ -50,14 +47,14 @@ holds_told desk input x taken written f l =
 
 -- behind a read: the bytes that were held, and what came
 holds_came : (x : Session) (held after : List ℕ) (n : ℕ) → take (length held) after ≡ held
-    → holds (heard_of x (length held) (Came n)) after ≡ held ++ drop (length held) (holds (heard_of x (length held) (Came n)) after)
+    → holds (heard_of x (length held) (Some n)) after ≡ held ++ drop (length held) (holds (heard_of x (length held) (Some n)) after)
 holds_came x held after n e =
     let k = length held in
     let z : k + n - 0 ≡ k + n = omega arith in
     let t : take k (take (k + n - 0) after) ≡ held = take-take k (k + n - 0) after (omega arith) ∙ e in
     sym (take-append-drop k (take (k + n - 0) after)) ∙ ap (λ (u : List ℕ). u ++ drop k (take (k + n - 0) after)) t
 
-holds_failed : (x : Session) (held after : List ℕ) → take (length held) after ≡ held → holds (heard_of x (length held) Failed) after ≡ held
+holds_failed : (x : Session) (held after : List ℕ) → take (length held) after ≡ held → holds (heard_of x (length held) None) after ≡ held
 holds_failed x held after e = let z : length held - 0 ≡ length held = omega arith in ap (λ (k : ℕ). take k after) z ∙ e
 
 module _ (arrived printed : List ℕ) (desk : Desk) (input output : List ℕ) (f : Fits desk input)
@@ -86,16 +83,16 @@ module _ (arrived printed : List ℕ) (desk : Desk) (input output : List ℕ) (f
       let c : drop (length h) h ≡ [] = drop_of_length-le h {i = length h} (omega arith) in
       rw (t, append-nil printed, e, x, none_more coming (drop (length h) h) c) (s coming (λ z. k (sym l ∙ z)))
 
-  heard_stands : (a : Arrival) (after : List ℕ) → (lines_now desk input (length output)).text ≡ [] → desk.last ≡ false
+  heard_stands : (a : Option ℕ) (after : List ℕ) → (lines_now desk input (length output)).text ≡ [] → desk.last ≡ false
       → take (length (holds desk input)) after ≡ holds desk input
       → let r = heard_of desk.session (length (holds desk input)) a in
       Standing (arrived ++ came desk input r after) (printed ++ (lines_now desk input (length output)).text) r after
-  heard_stands Failed after t l e =
-      still (heard_of desk.session (length (holds desk input)) Failed) after refl
+  heard_stands None after t l e =
+      still (heard_of desk.session (length (holds desk input)) None) after refl
       (holds_failed desk.session (holds desk input) after e) l t
-  heard_stands (Came n) after t l e = λ coming k.
+  heard_stands (Some n) after t l e = λ coming k.
       let h = holds desk input in
-      let r = heard_of desk.session (length h) (Came n) in
+      let r = heard_of desk.session (length h) (Some n) in
       let u = came desk input r after in
       let ended : desk.last ≡ true → u ++ coming ≡ [] = λ z. absurd (true≢false (sym z ∙ l)) in
       let more : Reached ((arrived ++ u) ++ coming) printed desk.session (h ++ u) coming =
@@ -132,48 +129,43 @@ ran_reached (goes {arrived = arrived} {printed = printed} output after shown r p
 
 -- ---- why it goes on no more
 
-over_stage : (g : Stage) → at_stage g false false true ≡ true → g ≡ stage.Over
-over_stage stage.Opening e = absurd (true≢false (sym e))
-over_stage stage.Running e = absurd (true≢false (sym e))
-over_stage stage.Over e = refl
-
 written_on : (written : Bool) → course_of written ≡ Over → ⊥
-written_on true e = let z : ◌≡◌ {A = ℕ} 0 1 = cc in omega arith
-written_on false e = let z : ◌≡◌ {A = ℕ} 0 1 = cc in omega arith
+written_on true e = cc
+written_on false e = cc
 
 written_read : (written : Bool) → course_of written ≡ Unread → ⊥
-written_read true e = let z : ◌≡◌ {A = ℕ} 0 1 = cc in omega arith
-written_read false e = let z : ◌≡◌ {A = ℕ} 0 1 = cc in omega arith
+written_read true e = cc
+written_read false e = cc
 
-heard_on : (x : Session) (held : ℕ) (a : Arrival) → (heard_of x held a).course ≡ Over → ⊥
-heard_on x held (Came n) e = let z : ◌≡◌ {A = ℕ} 0 1 = cc in omega arith
-heard_on x held Failed e = let z : ◌≡◌ {A = ℕ} 0 1 = cc in omega arith
+heard_on : (x : Session) (held : ℕ) (a : Option ℕ) → (heard_of x held a).course ≡ Over → ⊥
+heard_on x held (Some n) e = cc
+heard_on x held None e = cc
 
 round_over : (desk : Desk) (input output : List ℕ) (r : Desk) (after shown : List ℕ) → Round desk input output r after shown
-    → r.course ≡ Over → r.session.stage ≡ stage.Over
+    → r.course ≡ Over → is_over r.session ≡ true
 round_over desk input output r after shown (tells written t) e = absurd (written_on written e)
-round_over desk input output r after shown (ends t o) e = over_stage desk.session.stage o
+round_over desk input output r after shown (ends t o) e = o
 round_over desk input output _ _ shown (hears r after t o k h) e =
     absurd (heard_on desk.session (length (holds desk input)) h.arrival (ap (λ (d : Desk). d.course) (sym h.result) ∙ e))
 
 -- its last line is printed
 ran_over : {n : ℕ} {arrived printed input : List ℕ} {desk : Desk} → Ran n arrived printed desk input → desk.course ≡ Over
-    → desk.session.stage ≡ stage.Over
-ran_over (starts input) e = absurd (let z : ◌≡◌ {A = ℕ} 0 1 = cc in omega arith)
+    → is_over desk.session ≡ true
+ran_over (starts input) e = absurd (cc)
 ran_over (goes {input = input} {desk = desk} output after shown r p c l s) e = round_over desk input output r after shown s e
 
 -- ---- a read that failed
 
-heard_unread : (x : Session) (held after : List ℕ) (a : Arrival) (room : ℕ) → (heard_of x (length held) a).course ≡ Unread
+heard_unread : (x : Session) (held after : List ℕ) (a : Option ℕ) (room : ℕ) → (heard_of x (length held) a).course ≡ Unread
     → take (length held) after ≡ held
     → length (step_of x false held).text ≡ 0 → (lines_now (heard_of x (length held) a) after room).text ≡ []
-heard_unread x held after (Came n) room e k t = absurd (let z : ◌≡◌ {A = ℕ} 0 1 = cc in omega arith)
-heard_unread x held after Failed room e k t = rw (holds_failed x held after k) (idle_none x false held room t)
+heard_unread x held after (Some n) room e k t = absurd (cc)
+heard_unread x held after None room e k t = rw (holds_failed x held after k) (idle_none x false held room t)
 
 round_unread : (desk : Desk) (input output : List ℕ) → line_room ≤ length output → (r : Desk) (after shown : List ℕ)
     → Round desk input output r after shown → r.course ≡ Unread → (room : ℕ) → (lines_now r after room).text ≡ []
 round_unread desk input output l r after shown (tells written t) e room = absurd (written_read written e)
-round_unread desk input output l r after shown (ends t o) e room = absurd (let z : ◌≡◌ {A = ℕ} 0 1 = cc in omega arith)
+round_unread desk input output l r after shown (ends t o) e room = absurd (cc)
 round_unread desk input output l _ _ shown (hears r after t o k h) e room =
     let x = desk.session in
     let held = holds desk input in
@@ -185,7 +177,7 @@ round_unread desk input output l _ _ shown (hears r after t o k h) e room =
 -- every line that could be printed of what came was handed to the output before
 ran_unread : {n : ℕ} {arrived printed input : List ℕ} {desk : Desk} → Ran n arrived printed desk input → desk.course ≡ Unread → (room : ℕ)
     → (lines_now desk input room).text ≡ []
-ran_unread (starts input) e room = absurd (let z : ◌≡◌ {A = ℕ} 0 1 = cc in omega arith)
+ran_unread (starts input) e room = absurd (cc)
 ran_unread (goes {input = input} {desk = desk} output after shown r p c l s) e room =
     round_unread desk input output l r after shown s e room
 

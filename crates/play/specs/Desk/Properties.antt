@@ -1,14 +1,12 @@
 -- Laws of the loop of `play`: each way out of its functions, over what the code has in hand there.
 -- Assumes nothing.
-use Rattle.std.specs.Prelude.{◌≡◌, refl, Bool, true, false, List, [], ◌∷◌, ℕ, ◌+◌, ◌-◌, ◌^◌, ◌≤◌, ◌<◌, eqb, length, take, drop, ℤ, pos, negsuc}
-use Rattle.std.proofs.Common.{sym, ◌∙◌, true≢false, add-one, length-drop, length-take-le, to_z, of_z, SFits, ltb-true}
+use Rattle.std.specs.Prelude.{◌≡◌, refl, Bool, true, false, List, [], ◌∷◌, ◌++◌, Option, None, Some, Result, Ok, Err, ℕ, ◌+◌, ◌-◌, ◌≤◌, ◌<◌}
+use Rattle.std.specs.Prelude.{length, take, drop}
+use Rattle.std.proofs.Common.{sym, ◌∙◌, true≢false, add-one, length-append, length-drop, length-take-le}
 use Rattle.std.proofs.Math.Path.{ap}
 use native.Mathlib.Omega.{arith}
-use Rattle.std.specs.Int.Signed.{lt_z}
-use Rattle.std.specs.Int.{w64}
-use Rattle.std.proofs.lemmas.Int.{to_z-of_z}
 use borrow.Rule.Slice.PartMut.{put_mid, take_put}
-use Rattle.io.specs.Counts.{clamp_len}
+use Rattle.std.specs.Io.{ReadsAtMost}
 use Rattle.commands.specs.Kept.{Keeps}
 use Rattle.commands.specs.Kept.Properties.{keeps_within, keeps_front}
 use Rattle.lines.specs.Line.{line_room}
@@ -16,12 +14,9 @@ use Rattle.player.specs.declared.session.Session.{Session}
 use Rattle.player.specs.declared.session.Progress.{Progress}
 use Rattle.player.specs.Session.{unopened, is_over, Move, Plays}
 use Rattle.player.specs.Session.Properties.{play_most, waits_more}
-use Rattle.play.specs.declared.Arrival.{Arrival}
-use Rattle.play.specs.declared.Arrival.TheVariants.{Came, Failed}
-use Rattle.play.specs.declared.Course.{Course}
-use Rattle.play.specs.declared.Course.TheVariants.{On, Unread}
+use Rattle.play.specs.declared.Course.TheVariants.{On}
 use Rattle.play.specs.declared.Desk.{Desk}
-use Rattle.play.specs.Desk.{is_closed, holds, Fits, lines_now, arrival_of, count_of, Arrives, course_of, told_of, ended_of, heard_of}
+use Rattle.play.specs.Desk.{is_closed, holds, Fits, lines_now, arrival_of, count_of, Arrives, told_of, ended_of, heard_of}
 use Rattle.play.specs.Desk.{Hears, Round, tells, ends, hears, Ran, starts, goes, Playing, most_rounds, Ends}
 
 -- ---- the bytes that are held
@@ -38,59 +33,36 @@ nothing (x ∷ xs) e = absurd (omega arith)
 
 -- ---- a read
 
-brought : (got : ℤ) → SFits w64 got → (b : Bool) → lt_z (to_z w64 (of_z w64 got)) (pos 0) ≡ b → lt_z got (pos 0) ≡ b
-brought got f b e = rw (to_z-of_z w64 got f) at e
-
-pub brought_failed : (got : ℤ) (asked : ℕ) → SFits w64 got → lt_z (to_z w64 (of_z w64 got)) (pos 0) ≡ true → Failed ≡ arrival_of got asked
-brought_failed got asked f t = go got (brought got f true t)
-  where
-    go : (z : ℤ) → lt_z z (pos 0) ≡ true → Failed ≡ arrival_of z asked
-    go (pos k) e = absurd (let l = ltb-true k 0 e in omega arith)
-    go (negsuc k) e = refl
-
-pub brought_came : (got : ℤ) (asked n : ℕ) → SFits w64 got → lt_z (to_z w64 (of_z w64 got)) (pos 0) ≡ false
-    → n ≡ clamp_len (to_z w64 (of_z w64 got)) asked → Came n ≡ arrival_of got asked
-brought_came got asked n f t c = go got (brought got f false t) (rw (to_z-of_z w64 got f) at c)
-  where
-    go : (z : ℤ) → lt_z z (pos 0) ≡ false → n ≡ clamp_len z asked → Came n ≡ arrival_of z asked
-    go (pos k) e q = ap Came q
-    go (negsuc k) e q = absurd (true≢false e)
-
-brought_most : (got : ℤ) (asked : ℕ) → count_of (arrival_of got asked) ≤ asked
-brought_most (pos k) asked = omega arith
-brought_most (negsuc k) asked = omega arith
-
 -- what stood in front of the part that was lent is kept
-pub arrives_read : (before part : List ℕ) (held : ℕ) (got : ℤ) (a : Arrival) → held < length before
-    → length (put_mid held (length before - held) before part) ≡ length before
-    → let after = put_mid held (length before - held) before part in
-    a ≡ arrival_of got (length (take (length after - held) (drop held after))) → Arrives before held a after
-arrives_read before part held got a h l e =
-    let after = put_mid held (length before - held) before part in
-    let n : length (take (length after - held) (drop held after)) ≡ length after - held =
-    length-take-le (length after - held) (drop held after) (omega (arith, length-drop held after)) in
+came_most : {E : Type 0} (got : Result ℕ E) (part : List ℕ) → ReadsAtMost got part → count_of (arrival_of got) ≤ length part
+came_most (Ok n) part m = m.0
+came_most (Err e) part m = omega arith
+
+pub arrives_read : {E : Type 0} (before part : List ℕ) (held : ℕ) (got : Result ℕ E) (a : Option ℕ) → held < length before
+    → length part ≡ length before - held → ReadsAtMost got part → a ≡ arrival_of got
+    → Arrives before held a (put_mid held (length before - held) before part)
+arrives_read before part held got a h l m e =
+    let k = length before - held in
+    let long : length (put_mid held k before part) ≡ length before =
+    omega (
+      arith,
+      length-append (take held before) (part ++ drop k (drop held before)),
+      length-append part (drop k (drop held before)),
+      length-take-le held before (omega arith),
+      length-drop k (drop held before),
+      length-drop held before,
+    ) in
     record {
-      kept = take_put held (length before - held) before part (omega arith);
-      long = l;
-      most = rw e (omega (arith, brought_most got (length (take (length after - held) (drop held after)))));
+      kept = take_put held k before part (omega arith);
+      long = long;
+      most = rw (e, long) (omega (arith, came_most got part m));
     }
-
-pub heard_came : (x : Session) (held n : ℕ) (a : Arrival) → a ≡ Came n
-    → ◌≡◌ {A = Desk} (record { session = x; from = 0; to = held + n; last = eqb n 0; course = On }) (heard_of x held a)
-heard_came x held n a e = rw e
-
-pub heard_failed : (x : Session) (held : ℕ) (a : Arrival) → a ≡ Failed
-    → ◌≡◌ {A = Desk} (record { session = x; from = 0; to = held; last = false; course = Unread }) (heard_of x held a)
-heard_failed x held a e = rw e
-
-pub heard_room : (held n : ℕ) (a : Arrival) → a ≡ Came n → held + count_of a < 2 ^ 64 → held + n < 2 ^ 64
-heard_room held n a e l = rw e at l
 
 pub held_room : (bytes after : List ℕ) (from to held : ℕ) → Keeps bytes from to held after → from ≤ to → to ≤ length bytes
     → to - from < length bytes → length after ≡ length bytes → held < length after
 held_room bytes after from to held k a b l e = omega (arith, keeps_within bytes after from to held k a b)
 
-pub hears_read : (desk : Desk) (input middle after : List ℕ) (held : ℕ) (a : Arrival) (r : Desk) → Fits desk input
+pub hears_read : (desk : Desk) (input middle after : List ℕ) (held : ℕ) (a : Option ℕ) (r : Desk) → Fits desk input
     → Keeps input desk.from desk.to held middle
     → Arrives middle held a after → r ≡ heard_of desk.session held a → length middle ≡ length input → Hears desk input r after
 hears_read desk input middle after held a r f k p e l =
@@ -105,11 +77,6 @@ hears_read desk input middle after held a r f k p e l =
     }
 
 -- ---- a round
-
-pub told_is : (desk : Desk) (x : Session) (taken : ℕ) (written : Bool) (c : Course) → c ≡ course_of written
-    → ◌≡◌ {A = Desk} (record { session = x; from = desk.from + taken; to = desk.to; last = desk.last; course = c })
-    (told_of desk x taken written)
-told_is desk x taken written c e = λ i. record { session = x; from = desk.from + taken; to = desk.to; last = desk.last; course = e i }
 
 module _ (desk : Desk) (input output shown : List ℕ) (p : Progress)
     (plays : Plays desk.session desk.last (holds desk input) output p shown) where
@@ -169,9 +136,9 @@ module _ (desk : Desk) (input output shown : List ℕ) (p : Progress)
         holds_length desk input f,
       )
 
-heard_fits : (x : Session) (held : ℕ) (a : Arrival) (after : List ℕ) → held + count_of a ≤ length after → Fits (heard_of x held a) after
-heard_fits x held (Came n) after m = record { order = omega arith; within = m }
-heard_fits x held Failed after m = record { order = omega arith; within = omega arith }
+heard_fits : (x : Session) (held : ℕ) (a : Option ℕ) (after : List ℕ) → held + count_of a ≤ length after → Fits (heard_of x held a) after
+heard_fits x held (Some n) after m = record { order = omega arith; within = m }
+heard_fits x held None after m = record { order = omega arith; within = omega arith }
 
 round_fits_by : (desk : Desk) (input output : List ℕ) → Fits desk input → (r : Desk) (after shown : List ℕ)
     → Round desk input output r after shown → Fits r after

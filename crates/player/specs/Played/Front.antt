@@ -19,16 +19,17 @@ use Rattle.answer.specs.declared.Answer.TheVariants.{Good, No}
 use Rattle.answer.specs.declared.Refusal.{Refusal}
 use Rattle.plan.specs.Record.{no_project, no_kind}
 use Rattle.answer.specs.Answer.{bare, at_project, at_kind, number, refuse, ◌and_then◌, each_to}
-use Rattle.plan.specs.Order.{sized, sizes, in_range, timed, project_of, kind_of, project_in_range, projects_in_range, kind_in_range, kind_in_range_at}
-use Rattle.plan.specs.Order.{kinds_in_range, budgets, budgets_fit, ranges}
+use Rattle.plan.specs.Order.{sized, sizes, in_range, timed, project_of, kind_of, project_in_range, projects_in_range, kind_in_range}
+use Rattle.plan.specs.Order.{kind_in_range_at, kinds_in_range, budgets, budgets_fit, ranges}
 use Rattle.plan.specs.Order.Properties.{sizes_says}
 use Rattle.codec.specs.Pack.{unpack}
 use Rattle.codec.specs.Bytes.{number_to}
 use Rattle.codec.specs.Bytes.Properties.{number_append}
-use Rattle.plan_bytes.specs.Parts.{header_widths, project_widths, kind_widths, header_fields, project_fields, kind_fields, project_from, kind_from}
-use Rattle.plan_bytes.specs.Parts.{project_at, kind_at, projects_from, kinds_from, after_header, after_projects, headed, decoded, size}
-use Rattle.plan_bytes.specs.Reading.{header_spare, project_spare, kind_spare, projects_spare, kinds_spare, places_spare, spare_zero, body_answer}
-use Rattle.plan_bytes.specs.Reading.{read_answer, read_of}
+use Rattle.plan_bytes.specs.Parts.{header_widths, project_widths, kind_widths, header_fields, project_fields, kind_fields, project_from}
+use Rattle.plan_bytes.specs.Parts.{kind_from, project_at, kind_at, projects_from, kinds_from, after_header, after_projects, headed, decoded}
+use Rattle.plan_bytes.specs.Parts.{size}
+use Rattle.plan_bytes.specs.Reading.{header_spare, project_spare, kind_spare, projects_spare, kinds_spare, places_spare, spare_zero}
+use Rattle.plan_bytes.specs.Reading.{body_answer, read_answer, read_of}
 use Rattle.plan_bytes.specs.Reading.Properties.{read_short}
 
 -- ---- folds that agree
@@ -88,7 +89,9 @@ module _ (s t : List ℕ) (three : 3 ≤ length s) where
         ap (λ (u : List ℕ). unpack project_widths (number_to 2 (drop (2 * j) u))) header_after
         ∙ ap (unpack project_widths) (part_more 2 j (after_header s) t (omega (arith, enough, length-drop 3 s)))
 
-    kind_more : (i : ℕ) → i < (headed s).kinds → kind_fields (kind_at (after_projects (s ++ t)) i) ≡ kind_fields (kind_at (after_projects s) i)
+    kind_more : (i : ℕ) →
+        i < (headed s).kinds →
+        kind_fields (kind_at (after_projects (s ++ t)) i) ≡ kind_fields (kind_at (after_projects s) i)
     unfolding kind_fields
     kind_more i l =
         ap (λ (u : List ℕ). unpack kind_widths (number_to 5 (drop (5 * i) u))) projects_after
@@ -106,7 +109,8 @@ module _ (s t : List ℕ) (three : 3 ≤ length s) where
     unfolding kinds_from kind_from
     kinds_more =
         ap (λ (p : Plan). kinds_from p.kinds (after_projects (s ++ t))) headed_more
-        ∙ written_same (headed s).kinds (λ k. kind_from (kind_at (after_projects (s ++ t)) k)) (λ k. kind_from (kind_at (after_projects s) k))
+        ∙ written_same (headed s).kinds (λ k. kind_from (kind_at (after_projects (s ++ t)) k))
+        (λ k. kind_from (kind_at (after_projects s) k))
         (replicate 16 no_kind)
         (λ k l. λ i. record {
           project = get_or (kind_more k l i) 0 0;

@@ -1,8 +1,9 @@
 -- Laws of a play line by line: each way out, over what the code has in hand there, and the steps of the loop.
 -- Assumes nothing.
-use Rattle.std.specs.Prelude.{◌≡◌, refl, Bool, true, false, cond, not, ◌&&◌, ◌||◌, ltb, eqb, take, drop, replicate}
+use Rattle.std.specs.Prelude.{◌≡◌, refl, Option, None, Some, Bool, true, false, cond, not, ◌&&◌, ◌||◌, ltb, eqb, take, drop, replicate}
 use Rattle.std.proofs.Math.Path.{sym, ap}
-use Rattle.std.proofs.Common.{ap₂, ◌∙◌, true≢false, length-append, length-drop, take-append-drop, take_at, drop_at, drop-drop, length-take-le}
+use Rattle.std.proofs.Common.{ap₂, ◌∙◌, true≢false, length-append, length-drop, take-append-drop, take_at, drop_at, drop-drop}
+use Rattle.std.proofs.Common.{length-take-le}
 use mathlib.Core.List.{List, [], ◌++◌, append_assoc, append-nil}
 use Prim.Native.Nat.{ℕ, zero, suc, ◌+◌, ◌-◌, ◌≤◌, ◌<◌}
 use Rattle.std.proofs.Math.Decide.{dec_lt}
@@ -32,10 +33,9 @@ use Rattle.rack.specs.Row.{row_byte}
 use Rattle.lines.specs.declared.line.Line.{Line}
 use Rattle.lines.specs.declared.line.Line.TheVariants as line
 use Rattle.commands.specs.declared.command.Command.{Command}
-use Rattle.commands.specs.declared.command.Command.TheVariants.{Slice, Release, Bad}
-use Rattle.player.specs.declared.session.Stage.{Stage}
-use Rattle.player.specs.declared.session.Stage.TheVariants.{Opening, Running, Over}
+use Rattle.commands.specs.declared.command.Command.TheVariants.{Slice, Release}
 use Rattle.player.specs.declared.session.Session.{Session}
+use Rattle.player.specs.declared.session.Session.TheVariants.{Opening, Running, Over}
 use Rattle.player.specs.declared.session.Progress.{Progress}
 use Rattle.lines.specs.Text.{Puts}
 use Rattle.lines.specs.Line.{plan_line, release_line, slice_line, end_line, line_text, line_room, Prints}
@@ -46,29 +46,8 @@ use Rattle.player.specs.Turn.{row_room, line_of, after}
 use Rattle.player.specs.Turn.Properties.{slice_told, release_told}
 use Rattle.player.specs.Played.{opening}
 use Rattle.player.specs.Played.Front.{one_short}
-use Rattle.player.specs.Session.{unopened, running, over, at_stage, is_over, Move, stay, first_line, refused_at, open_of, command_move}
+use Rattle.player.specs.Session.{is_over, Move, stay, first_line, refused_at, open_of, command_move}
 use Rattle.player.specs.Session.{last_line, run_of, step_of, onto, lines_of, play_of, Plays, Leaves, run_from}
-
--- ---- where a play stands
-
-pub new_is : (s : State) → s ≡ no_state → ◌≡◌ {A = Session} (record { stage = Opening; state = s }) unopened
-new_is s e = λ i. record { stage = Opening; state = e i }
-
--- one of three, where the stage is known
-pub at_opening : {A : Type 0} (g : Stage) (a b c : A) → g ≡ Opening → a ≡ at_stage g a b c
-at_opening g a b c e = rw e
-
-pub at_running : {A : Type 0} (g : Stage) (a b c : A) → g ≡ Running → b ≡ at_stage g a b c
-at_running g a b c e = rw e
-
-pub at_over : {A : Type 0} (g : Stage) (a b c : A) → g ≡ Over → c ≡ at_stage g a b c
-at_over g a b c e = rw e
-
-pub waits_on : (last : Bool) (n : ℕ) (a : Answer) → not last ≡ true → n ≡ number a → eqb n 1 ≡ (not last && eqb (number a) 1)
-waits_on last n a e f = rw (e, f)
-
-pub and_on : (a b : Bool) → a ≡ true → b ≡ (a && b)
-and_on a b e = rw e
 
 -- ---- the next line, by what the code has in hand
 
@@ -76,30 +55,30 @@ first_no : (a : Answer) (w : Refusal) (s : State) (n : ℕ) → a ≡ No w → f
 first_no a w s n e = rw e
 
 -- the first line
-module _ (x : Session) (last : Bool) (bytes : List ℕ) (r : Reading) (b : Bool) (reading-is : r ≡ read_of bytes)
+module _ (last : Bool) (bytes : List ℕ) (r : Reading) (b : Bool) (reading-is : r ≡ read_of bytes)
     (waits-is : b ≡ (not last && eqb (number r.answer) 1)) where
-  open_waits : b ≡ true → open_of x last bytes ≡ stay x
+  open_waits : b ≡ true → open_of last bytes ≡ stay Opening
   unfolding open_of
   open_waits t = rw (← reading-is, ← waits-is, t)
 
-  opens : b ≡ false → open_of x last bytes ≡ first_line (r.answer and_then (start_of r.plan).answer) (start_of r.plan).state r.taken
+  opens : b ≡ false → open_of last bytes ≡ first_line (r.answer and_then (start_of r.plan).answer) (start_of r.plan).state r.taken
   unfolding open_of opening
   opens t = rw (← reading-is, ← waits-is, t)
 
-  open_refused : (w : Refusal) → b ≡ false → r.answer ≡ No w → open_of x last bytes ≡ refused_at r.answer
+  open_refused : (w : Refusal) → b ≡ false → r.answer ≡ No w → open_of last bytes ≡ refused_at r.answer
   open_refused w t e =
       let a : (r.answer and_then (start_of r.plan).answer) ≡ r.answer = and_then_no r.answer (start_of r.plan).answer w e ∙ sym e in
       rw (opens t, a) (first_no r.answer w (start_of r.plan).state r.taken e)
 
   module _ (n : Next) (start_is : n ≡ start_of r.plan) (t : b ≡ false) (e : r.answer ≡ Good) where
-    starts : open_of x last bytes ≡ first_line n.answer n.state r.taken
+    starts : open_of last bytes ≡ first_line n.answer n.state r.taken
     starts = rw (opens t, and_then_good r.answer (start_of r.plan).answer e, ← start_is)
 
-    open_no : (w : Refusal) → n.answer ≡ No w → open_of x last bytes ≡ refused_at n.answer
+    open_no : (w : Refusal) → n.answer ≡ No w → open_of last bytes ≡ refused_at n.answer
     open_no w q = starts ∙ first_no n.answer w n.state r.taken q
 
     open_good : n.answer ≡ Good
-        → open_of x last bytes ≡ record { session = running n.state; taken = r.taken; text = plan_line n.answer }
+        → open_of last bytes ≡ record { session = Running n.state; taken = r.taken; text = plan_line n.answer }
     open_good q = starts ∙ rw q
 
 -- neither the last line nor a wait
@@ -110,30 +89,22 @@ commanded false none few a b m e f = rw f
 
 -- among the commands
 module _ (s : State) (last : Bool) (bytes : List ℕ) where
-  run_ends : (ends : Bool) → ends ≡ (last && eqb (length bytes) 0) → ends ≡ true → step_of (running s) last bytes ≡ last_line s
+  run_ends : (ends : Bool) → ends ≡ (last && eqb (length bytes) 0) → ends ≡ true → step_of (Running s) last bytes ≡ last_line s
   unfolding step_of run_of
   run_ends ends e t = rw (and_left last (eqb (length bytes) 0) (sym e ∙ t), and_right last (eqb (length bytes) 0) (sym e ∙ t))
 
-  run_waits : (short : Bool) → short ≡ (not last && ltb (length bytes) 3) → short ≡ true → step_of (running s) last bytes ≡ stay (running s)
+  run_waits : (short : Bool) → short ≡ (not last && ltb (length bytes) 3) → short ≡ true → step_of (Running s) last bytes ≡ stay (Running s)
   unfolding step_of run_of
   run_waits short e t =
       let f = not-true last (and_left (not last) (ltb (length bytes) 3) (sym e ∙ t)) in
       rw (f, and_right (not last) (ltb (length bytes) 3) (sym e ∙ t))
 
   run_obeys : (ends : Bool) → ends ≡ (last && eqb (length bytes) 0) → (short : Bool) → short ≡ (not last && ltb (length bytes) 3)
-      → ends ≡ false → short ≡ false → step_of (running s) last bytes ≡ command_move s (command_of bytes)
+      → ends ≡ false → short ≡ false → step_of (Running s) last bytes ≡ command_move s (command_of bytes)
   unfolding step_of run_of
   run_obeys ends e short f t u =
-      commanded last (eqb (length bytes) 0) (ltb (length bytes) 3) (last_line s) (stay (running s)) (command_move s (command_of bytes))
+      commanded last (eqb (length bytes) 0) (ltb (length bytes) 3) (last_line s) (stay (Running s)) (command_move s (command_of bytes))
       (sym e ∙ t) (sym f ∙ u)
-
-step_opens : (x : Session) (last : Bool) (bytes : List ℕ) → x.stage ≡ Opening → step_of x last bytes ≡ open_of x last bytes
-unfolding step_of
-step_opens x last bytes e = sym (at_opening x.stage (open_of x last bytes) (run_of x last bytes) (stay x) e)
-
-step_over : (x : Session) (last : Bool) (bytes : List ℕ) → x.stage ≡ Over → step_of x last bytes ≡ stay x
-unfolding step_of
-step_over x last bytes e = sym (at_over x.stage (open_of x last bytes) (run_of x last bytes) (stay x) e)
 
 -- ---- a line takes no more than is there
 
@@ -146,11 +117,10 @@ unfolding opening
 first_most bytes Good s e = read_whole bytes (and_then_left (read_of bytes).answer (start_of (read_of bytes).plan).answer e)
 first_most bytes (No w) s e = omega arith
 
-command_most : (s : State) (k : Command) → (command_move s k).taken ≤ 3
+command_most : (s : State) (k : Option Command) → (command_move s k).taken ≤ 3
 unfolding command_move
-command_most s Slice = omega arith
-command_most s (Release kind e) = omega arith
-command_most s Bad = omega arith
+command_most s (Some k) = omega arith
+command_most s None = omega arith
 
 obey_most : (s : State) (bytes : List ℕ) → (command_move s (command_of bytes)).taken ≤ length bytes
 unfolding command_move
@@ -160,36 +130,33 @@ obey_most s bytes =
       | no l ↦ omega (arith, command_most s (command_of bytes))
     ]
 
-open_most : (x : Session) (last : Bool) (bytes : List ℕ) → (open_of x last bytes).taken ≤ length bytes
+open_most : (last : Bool) (bytes : List ℕ) → (open_of last bytes).taken ≤ length bytes
 unfolding open_of
-open_most x last bytes = go (not last && eqb (number (read_of bytes).answer) 1)
+open_most last bytes = go (not last && eqb (number (read_of bytes).answer) 1)
   where
-    go : (b : Bool) → (cond b (stay x) (first_line (opening bytes) (start_of (read_of bytes).plan).state
+    go : (b : Bool) → (cond b (stay Opening) (first_line (opening bytes) (start_of (read_of bytes).plan).state
         (read_of bytes).taken)).taken ≤ length bytes
     go true = omega arith
     go false = first_most bytes (opening bytes) (start_of (read_of bytes).plan).state refl
 
-run_most : (x : Session) (last : Bool) (bytes : List ℕ) → (run_of x last bytes).taken ≤ length bytes
+run_most : (s : State) (last : Bool) (bytes : List ℕ) → (run_of s last bytes).taken ≤ length bytes
 unfolding run_of
-run_most x true bytes = go (eqb (length bytes) 0)
+run_most s true bytes = go (eqb (length bytes) 0)
   where
-    go : (b : Bool) → (cond b (last_line x.state) (command_move x.state (command_of bytes))).taken ≤ length bytes
+    go : (b : Bool) → (cond b (last_line s) (command_move s (command_of bytes))).taken ≤ length bytes
     go true = omega arith
-    go false = obey_most x.state bytes
-run_most x false bytes = go (ltb (length bytes) 3)
+    go false = obey_most s bytes
+run_most s false bytes = go (ltb (length bytes) 3)
   where
-    go : (b : Bool) → (cond b (stay x) (command_move x.state (command_of bytes))).taken ≤ length bytes
+    go : (b : Bool) → (cond b (stay (Running s)) (command_move s (command_of bytes))).taken ≤ length bytes
     go true = omega arith
-    go false = obey_most x.state bytes
+    go false = obey_most s bytes
 
 step_most : (x : Session) (last : Bool) (bytes : List ℕ) → (step_of x last bytes).taken ≤ length bytes
 unfolding step_of
-step_most x last bytes = go x.stage
-  where
-    go : (g : Stage) → (at_stage g (open_of x last bytes) (run_of x last bytes) (stay x)).taken ≤ length bytes
-    go Opening = open_most x last bytes
-    go Running = run_most x last bytes
-    go Over = omega arith
+step_most Opening last bytes = open_most last bytes
+step_most (Running s) last bytes = run_most s last bytes
+step_most (Over s) last bytes = omega arith
 
 -- ---- no line is empty
 
@@ -198,15 +165,15 @@ unfolding plan_line
 plan_some Good = omega arith
 plan_some (No w) = omega arith
 
-line_some : (s : State) (k : Command) → 0 < length (command_move s k).text
+line_some : (s : State) (k : Option Command) → 0 < length (command_move s k).text
 unfolding command_move line_of release_line slice_line
-line_some s Slice = go (show_answer s row_room)
+line_some s (Some Slice) = go (show_answer s row_room)
   where
     go : (a : Answer) → 0 < length (slice_line a s.slice s.plan.cards (row_byte s))
     go Good = omega arith
     go (No w) = omega arith
-line_some s (Release kind e) = omega arith
-line_some s Bad = omega arith
+line_some s (Some (Release kind e)) = omega arith
+line_some s None = omega arith
 
 end_some : (clock : ℕ) → 0 < length (end_line clock)
 unfolding end_line
@@ -261,9 +228,10 @@ lines_stay n x last bytes room e =
       | no l ↦ lines_idle n x last bytes room (omega arith) e
     ]
 
-lines_over : (n : ℕ) (s : State) (last : Bool) (bytes : List ℕ) (room : ℕ) → lines_of n (over s) last bytes room ≡ stay (over s)
+lines_over : (n : ℕ) (s : State) (last : Bool) (bytes : List ℕ) (room : ℕ) → lines_of n (Over s) last bytes room ≡ stay (Over s)
+unfolding step_of
 lines_over n s last bytes room =
-    lines_stay n (over s) last bytes room (ap (λ (m : Move). length m.text) (step_over (over s) last bytes refl))
+    lines_stay n (Over s) last bytes room refl
 
 -- ---- the loop: what has been printed stands at the front, and what is left is still to be played
 
@@ -289,7 +257,7 @@ play_starts x last bytes start =
     }
 
 pub run_starts : (s : State) (last : Bool) (bytes out : List ℕ) (taken count lines : ℕ) → taken ≤ length bytes → count ≤ length out
-    → Playing (run_from s last bytes taken out count lines) last bytes out (running s) taken count lines out
+    → Playing (run_from s last bytes taken out count lines) last bytes out (Running s) taken count lines out
 run_starts s last bytes out taken count lines l m = record { whole = refl; long = refl; count_most = m; taken_most = l; kept = refl }
 
 module _ (all : Move) (last : Bool) (bytes start : List ℕ) (session : Session) (taken count lines : ℕ) (out : List ℕ)
@@ -367,11 +335,11 @@ leaves_is m out q r held l e = record { result = e ∙ l.result; buffer = l.buff
 
 -- the commands' lines, behind those that have been printed
 runs_behind : (all : Move) (last : Bool) (bytes start : List ℕ) (s : State) (taken count lines : ℕ) (out : List ℕ)
-    → Playing all last bytes start (running s) taken count lines out → (r : Progress) (held : List ℕ)
-    → Leaves (onto taken (take count out) (lines_of lines (running s) last (drop taken bytes) (length start - count))) out r held
+    → Playing all last bytes start (Running s) taken count lines out → (r : Progress) (held : List ℕ)
+    → Leaves (onto taken (take count out) (lines_of lines (Running s) last (drop taken bytes) (length start - count))) out r held
     → Leaves all start r held
 runs_behind all last bytes start s taken count lines out p r held l =
-    let rest : List ℕ = (lines_of lines (running s) last (drop taken bytes) (length start - count)).text in
+    let rest : List ℕ = (lines_of lines (Running s) last (drop taken bytes) (length start - count)).text in
     let long = p.long in
     let most = p.count_most in
     let size : length (take count out ++ rest) ≡ count + length rest =
@@ -386,18 +354,18 @@ runs_behind all last bytes start s taken count lines out p r held l =
 
 -- the loop over the commands: each way out, and each way on
 module _ (all : Move) (last : Bool) (bytes start : List ℕ) (s : State) (taken count lines : ℕ) (out : List ℕ)
-    (p : Playing all last bytes start (running s) taken count lines out) where
-  module _ (r : Progress) (r-is : r ≡ record { session = running s; taken = taken; count = count }) where
-    stays : lines_of lines (running s) last (drop taken bytes) (length start - count) ≡ stay (running s) → Leaves all start r out
+    (p : Playing all last bytes start (Running s) taken count lines out) where
+  module _ (r : Progress) (r-is : r ≡ record { session = Running s; taken = taken; count = count }) where
+    stays : lines_of lines (Running s) last (drop taken bytes) (length start - count) ≡ stay (Running s) → Leaves all start r out
     stays e =
-        leaves_is all start (record { session = running s; taken = taken; count = count }) r out
-        (stopped all last bytes start (running s) taken count lines out p e) r-is
+        leaves_is all start (record { session = Running s; taken = taken; count = count }) r out
+        (stopped all last bytes start (Running s) taken count lines out p e) r-is
 
     pub run_done : lines ≤ 0 → Leaves all start r out
-    run_done l = stays (lines_none lines (running s) last (drop taken bytes) (length start - count) l)
+    run_done l = stays (lines_none lines (Running s) last (drop taken bytes) (length start - count) l)
 
     pub run_full : length out - count < line_room → Leaves all start r out
-    run_full l = let e = p.long in stays (lines_full lines (running s) last (drop taken bytes) (length start - count) (omega arith))
+    run_full l = let e = p.long in stays (lines_full lines (Running s) last (drop taken bytes) (length start - count) (omega arith))
 
   left_is : length (drop taken bytes) ≡ length bytes - taken
   left_is = length-drop taken bytes
@@ -405,21 +373,22 @@ module _ (all : Move) (last : Bool) (bytes start : List ℕ) (s : State) (taken 
   -- the last line
   module _ (l : Line) (row : List ℕ) (next : ℕ) (held : List ℕ) (room : line_room ≤ length out - count) (more : 0 < lines)
       (prints : Prints l row out count next held) where
-    last_line_law : step_of (running s) last (drop taken bytes) ≡ record { session = over s; taken = 0; text = line_text l row }
-        → 0 < length (line_text l row) → (r : Progress) → r ≡ record { session = over s; taken = taken; count = next }
+    last_line_law : step_of (Running s) last (drop taken bytes) ≡ record { session = Over s; taken = 0; text = line_text l row }
+        → 0 < length (line_text l row) → (r : Progress) → r ≡ record { session = Over s; taken = taken; count = next }
         → Leaves all start r held
     last_line_law e t r q =
         let z : taken + 0 ≡ taken = omega arith in
-        let on : Playing all last bytes start (over s) taken next (lines - 1) held =
-        rw z at (goes_on all last bytes start (running s) taken count lines out p (over s) 0 l row next held room prints e t more) in
-        leaves_is all start (record { session = over s; taken = taken; count = next }) r held
-        (stopped all last bytes start (over s) taken next (lines - 1) held on
+        let on : Playing all last bytes start (Over s) taken next (lines - 1) held =
+        rw z at (goes_on all last bytes start (Running s) taken count lines out p (Over s) 0 l row next held room prints e t more) in
+        leaves_is all start (record { session = Over s; taken = taken; count = next }) r held
+        (stopped all last bytes start (Over s) taken next (lines - 1) held on
         (lines_over (lines - 1) s last (drop taken bytes) (length start - next))) q
 
     -- a command's line
-    next_line : (x : State) → step_of (running s) last (drop taken bytes) ≡ record { session = running x; taken = 3; text = line_text l row }
-        → 0 < length (line_text l row) → Playing all last bytes start (running x) (taken + 3) next (lines - 1) held
-    next_line x e t = goes_on all last bytes start (running s) taken count lines out p (running x) 3 l row next held room prints e t more
+    next_line : (x : State) →
+        step_of (Running s) last (drop taken bytes) ≡ record { session = Running x; taken = 3; text = line_text l row }
+        → 0 < length (line_text l row) → Playing all last bytes start (Running x) (taken + 3) next (lines - 1) held
+    next_line x e t = goes_on all last bytes start (Running s) taken count lines out p (Running x) 3 l row next held room prints e t more
 
   none_left : (b : Bool) → b ≡ (last && eqb (length bytes - taken) 0) → b ≡ (last && eqb (length (drop taken bytes)) 0)
   none_left b e = rw left_is e
@@ -429,19 +398,19 @@ module _ (all : Move) (last : Bool) (bytes start : List ℕ) (s : State) (taken 
 
   pub run_ended : (ends : Bool) → ends ≡ (last && eqb (length bytes - taken) 0) → ends ≡ true → line_room ≤ length out - count → 0 < lines
       → (row : List ℕ) (next : ℕ) (held : List ℕ) → Prints (line.End s.slice) row out count next held
-      → (r : Progress) → r ≡ record { session = over s; taken = taken; count = next } → Leaves all start r held
+      → (r : Progress) → r ≡ record { session = Over s; taken = taken; count = next } → Leaves all start r held
   unfolding line_text
   run_ended ends e t room more row next held prints =
       last_line_law (line.End s.slice) row next held room more prints (run_ends s last (drop taken bytes) ends (none_left ends e) t)
       (end_some s.slice)
 
   pub run_waiting : (short : Bool) → short ≡ (not last && ltb (length bytes - taken) 3) → short ≡ true
-      → (r : Progress) → r ≡ record { session = running s; taken = taken; count = count } → Leaves all start r out
+      → (r : Progress) → r ≡ record { session = Running s; taken = taken; count = count } → Leaves all start r out
   run_waiting short e t r q =
-      stays r q (lines_stay lines (running s) last (drop taken bytes) (length start - count)
+      stays r q (lines_stay lines (Running s) last (drop taken bytes) (length start - count)
       (ap (λ (m : Move). length m.text) (run_waits s last (drop taken bytes) short (few_left short e) t)))
 
-  module _ (k : Command) (k-is : k ≡ command_of (take (length bytes - taken) (drop taken bytes))) where
+  module _ (k : Option Command) (k-is : k ≡ command_of (take (length bytes - taken) (drop taken bytes))) where
     command_is : command_of (drop taken bytes) ≡ k
     command_is = sym (rw (handed_on bytes taken) at k-is)
 
@@ -450,53 +419,52 @@ module _ (all : Move) (last : Bool) (bytes start : List ℕ) (s : State) (taken 
         let f : (command_move s (command_of (drop taken bytes))).taken ≡ 3 = rw command_is e in
         omega (arith, obey_most s (drop taken bytes), left_is, p.taken_most)
 
-    pub slice_fits : k ≡ Slice → taken + 3 ≤ length bytes
+    pub command_fits : (d : Command) → k ≡ Some d → taken + 3 ≤ length bytes
     unfolding command_move
-    slice_fits e = whole_command (rw e)
-
-    pub release_fits : (kind e : ℕ) → k ≡ Release kind e → taken + 3 ≤ length bytes
-    unfolding command_move
-    release_fits kind e q = whole_command (rw q)
+    command_fits d e = whole_command (rw e)
 
     module _ (ends short : Bool) (ends_is : ends ≡ (last && eqb (length bytes - taken) 0)) (no_end : ends ≡ false)
         (short-is : short ≡ (not last && ltb (length bytes - taken) 3)) (no-wait : short ≡ false) (room : line_room ≤ length out - count)
         (more : 0 < lines) (next : ℕ) (held : List ℕ) where
-      obeys : step_of (running s) last (drop taken bytes) ≡ command_move s k
+      obeys : step_of (Running s) last (drop taken bytes) ≡ command_move s k
       obeys =
           run_obeys s last (drop taken bytes) ends (none_left ends ends_is) short (few_left short short-is) no_end no-wait
           ∙ ap (command_move s) command_is
 
-      pub run_slice : k ≡ Slice → (answer : Answer) (row : List ℕ) → Shows s (replicate 8 0) answer row
-          → (n : Next) → n ≡ advance_of s
-          → Prints (line.Slice answer s.slice s.plan.cards) row out count next held
-          → Playing all last bytes start (running n.state) (taken + 3) next (lines - 1) held
+      pub run_slice : (d : Command) → k ≡ Some d → d ≡ Slice → (answer : Answer) (row : List ℕ) → Shows s (replicate 8 0) answer row
+          → (n : Next) → n ≡ advance_of s → (clock : ℕ) → clock ≡ s.slice →
+          Prints (line.Slice answer clock s.plan.cards) row out count next held
+          → (left : ℕ) → left ≡ lines - 1 → Playing all last bytes start (Running n.state) (taken + 3) next left held
       unfolding command_move after
-      run_slice e answer row shows n n-is prints =
+      run_slice d f g answer row shows n n-is clock clock_is prints left left_as =
           let t = slice_told s answer row shows in
-          next_line (line.Slice answer s.slice s.plan.cards) row next held room more prints n.state
-          (obeys ∙ ap (command_move s) e ∙ (λ i. record { session = running (sym n-is i).state; taken = 3; text = sym t i }))
-          (rw t (line_some s Slice))
+          let e : k ≡ Some Slice = f ∙ ap Some g in
+          rw left_as (next_line (line.Slice answer s.slice s.plan.cards) row next held room more (rw clock_is at prints) n.state
+          (obeys ∙ ap (command_move s) e ∙ (λ i. record { session = Running (sym n-is i).state; taken = 3; text = sym t i }))
+          (rw t (line_some s (Some Slice))))
 
-      pub run_release : (kind e : ℕ) → k ≡ Release kind e → (n : Next) → n ≡ release_of s kind e → (row : List ℕ)
-          → Prints (line.Release kind e n.answer) row out count next held
-          → Playing all last bytes start (running n.state) (taken + 3) next (lines - 1) held
+      pub run_release : (d : Command) → k ≡ Some d → (kind e : ℕ) → d ≡ Release kind e → (kind_as e_as : ℕ) → kind_as ≡ kind → e_as ≡ e
+          → (n : Next) → n ≡ release_of s kind_as e_as → (row : List ℕ) → Prints (line.Release kind e n.answer) row out count next held
+          → (left : ℕ) → left ≡ lines - 1 → Playing all last bytes start (Running n.state) (taken + 3) next left held
       unfolding command_move after
-      run_release kind e q n n-is row prints =
+      run_release d f kind e g kind_as e_as kind_is e_is n n-as row prints left left_as =
+          let n-is : n ≡ release_of s kind e = n-as ∙ rw (kind_is, e_is) in
           let t = release_told s kind e n row n-is in
-          next_line (line.Release kind e n.answer) row next held room more prints n.state
-          (obeys ∙ ap (command_move s) q ∙ (λ i. record { session = running (sym n-is i).state; taken = 3; text = sym t i }))
-          (rw t (line_some s (Release kind e)))
+          let q : k ≡ Some (Release kind e) = f ∙ ap Some g in
+          rw left_as (next_line (line.Release kind e n.answer) row next held room more prints n.state
+          (obeys ∙ ap (command_move s) q ∙ (λ i. record { session = Running (sym n-is i).state; taken = 3; text = sym t i }))
+          (rw t (line_some s (Some (Release kind e)))))
 
-      pub run_bad : k ≡ Bad → (row : List ℕ) → Prints (line.Bad s.slice) row out count next held
-          → (r : Progress) → r ≡ record { session = over s; taken = taken; count = next } → Leaves all start r held
+      pub run_bad : k ≡ None → (row : List ℕ) → Prints (line.Bad s.slice) row out count next held
+          → (r : Progress) → r ≡ record { session = Over s; taken = taken; count = next } → Leaves all start r held
       unfolding command_move line_text
       run_bad e row prints =
-          last_line_law (line.Bad s.slice) row next held room more prints (obeys ∙ ap (command_move s) e) (line_some s Bad)
+          last_line_law (line.Bad s.slice) row next held room more prints (obeys ∙ ap (command_move s) e) (line_some s None)
 
 -- the line of a refused plan, at the front of a buffer
 pub refused_leaves : (a : Answer) (out row : List ℕ) (count : ℕ) (held : List ℕ) (z : State) → line_room ≤ length out
     → Prints (line.Plan a) row out 0 count held → z ≡ no_state
-    → Leaves (refused_at a) out (record { session = over z; taken = 0; count = count }) held
+    → Leaves (refused_at a) out (record { session = Over z; taken = 0; count = count }) held
 unfolding line_text
 refused_leaves a out row count held z room prints e =
     let put = prints_all (line.Plan a) row out 0 count held (omega arith) prints in
@@ -505,7 +473,7 @@ refused_leaves a out row count held z room prints e =
     let n : count ≡ length (plan_line a) = omega arith in
     let f : 0 + length (plan_line a) ≡ length (plan_line a) = omega arith in
     record {
-      result = λ i. record { session = over (e i); taken = 0; count = n i };
+      result = λ i. record { session = Over (e i); taken = 0; count = n i };
       buffer = put.buffer ∙ sets-eq (plan_line a) out 0 (omega arith) ∙ rw f;
       room = omega arith;
     }
@@ -531,22 +499,23 @@ module _ (x : Session) (last : Bool) (bytes out : List ℕ) (r : Progress) where
     unfolding play_of
     stays_so e = plays_none (lines_stay (length out) x last bytes (length out) (ap (λ (m : Move). length m.text) e))
 
-    pub plays_over : x.stage ≡ Over → Plays x last bytes out r out
-    plays_over e = stays_so (step_over x last bytes e)
+    pub plays_over : (s : State) → x ≡ Over s → Plays x last bytes out r out
+    unfolding step_of
+    plays_over s e = stays_so (rw e)
 
-    pub plays_waits : (n : Reading) (b : Bool) → x.stage ≡ Opening → n ≡ read_of bytes → b ≡ (not last && eqb (number n.answer) 1)
+    pub plays_waits : (n : Reading) (b : Bool) → x ≡ Opening → n ≡ read_of bytes → b ≡ (not last && eqb (number n.answer) 1)
         → b ≡ true → Plays x last bytes out r out
-    plays_waits n b o e w t = stays_so (step_opens x last bytes o ∙ open_waits x last bytes n b e w t)
+    unfolding step_of
+    plays_waits n b o e w t = stays_so (rw o (open_waits last bytes n b e w t))
 
-  pub plays_runs : (held : List ℕ) → x.stage ≡ Running → Leaves (run_from x.state last bytes 0 out 0 (length out)) out r held
+  pub plays_runs : (s : State) (held : List ℕ) → x ≡ Running s → Leaves (run_from s last bytes 0 out 0 (length out)) out r held
       → Plays x last bytes out r held
   unfolding play_of
-  plays_runs held e l =
+  plays_runs s held e l =
       let z : length out - 0 ≡ length out = omega arith in
-      let y : x ≡ running x.state = λ i. record { stage = e i; state = x.state } in
-      plays_as (run_from x.state last bytes 0 out 0 (length out)) held
-      (ap (λ (v : Session). lines_of (length out) v last bytes (length out)) y
-      ∙ onto_none (lines_of (length out) (running x.state) last bytes (length out)) ∙ rw z) l
+      plays_as (run_from s last bytes 0 out 0 (length out)) held
+      (ap (λ (v : Session). lines_of (length out) v last bytes (length out)) e
+      ∙ onto_none (lines_of (length out) (Running s) last bytes (length out)) ∙ rw z) l
 
   -- the plan's line
   module _ (room : line_room ≤ length out) where
@@ -556,23 +525,27 @@ module _ (x : Session) (last : Bool) (bytes out : List ℕ) (r : Progress) where
     plays_refused a held e =
         let text : List ℕ = plan_line a in
         let on : play_of x last bytes (length out)
-        ≡ onto 0 text (lines_of (length out - 1) (over no_state) last bytes (length out - length text)) =
+        ≡ onto 0 text (lines_of (length out - 1) (Over no_state) last bytes (length out - length text)) =
         rw e at (lines_on (length out) x last bytes (length out) (omega arith) room) (plan_some a) in
         plays_as (refused_at a) held
         (on ∙ ap (onto 0 text) (lines_over (length out - 1) no_state last bytes (length out - length text))
-        ∙ (λ i. record { session = over no_state; taken = 0; text = append-nil text i }))
+        ∙ (λ i. record { session = Over no_state; taken = 0; text = append-nil text i }))
 
-    module _ (n : Reading) (b : Bool) (o : x.stage ≡ Opening) (e : n ≡ read_of bytes) (w : b ≡ (not last && eqb (number n.answer) 1))
+    module _ (n : Reading) (b : Bool) (o : x ≡ Opening) (e : n ≡ read_of bytes) (w : b ≡ (not last && eqb (number n.answer) 1))
         (t : b ≡ false) where
+      opening_is : (m : Move) → open_of last bytes ≡ m → step_of x last bytes ≡ m
+      unfolding step_of
+      opening_is m f = rw o f
+
       pub plays_unread : (held : List ℕ) (q : Refusal) → n.answer ≡ No q → Leaves (refused_at n.answer) out r held
           → Plays x last bytes out r held
-      plays_unread held q f = plays_refused n.answer held (step_opens x last bytes o ∙ open_refused x last bytes n b e w q t f)
+      plays_unread held q f = plays_refused n.answer held (opening_is (refused_at n.answer) (open_refused last bytes n b e w q t f))
 
       module _ (g : n.answer ≡ Good) (v : Next) (v-is : v ≡ start_of n.plan) where
         pub plays_unstarted : (held : List ℕ) (q : Refusal) → v.answer ≡ No q → Leaves (refused_at v.answer) out r held
             → Plays x last bytes out r held
         plays_unstarted held q f =
-            plays_refused v.answer held (step_opens x last bytes o ∙ open_no x last bytes n b e w v v-is t g q f)
+            plays_refused v.answer held (opening_is (refused_at v.answer) (open_no last bytes n b e w v v-is t g q f))
 
         pub plays_started : v.answer ≡ Good → (row : List ℕ) (count : ℕ) (first : List ℕ)
             → Prints (line.Plan v.answer) row out 0 count first
@@ -582,10 +555,10 @@ module _ (x : Session) (last : Bool) (bytes out : List ℕ) (r : Progress) where
         plays_started f row count first prints held l =
             let z : 0 + n.taken ≡ n.taken = omega arith in
             let all : Move = play_of x last bytes (length out) in
-            let on : Playing all last bytes out (running v.state) n.taken count (length out - 1) first =
+            let on : Playing all last bytes out (Running v.state) n.taken count (length out - 1) first =
             rw z at (goes_on all last bytes out x 0 0 (length out) out (play_starts x last bytes out)
-            (running v.state) n.taken (line.Plan v.answer) row count first (omega arith) prints
-            (step_opens x last bytes o ∙ open_good x last bytes n b e w v v-is t g f) (plan_some v.answer) (omega arith)) in
+            (Running v.state) n.taken (line.Plan v.answer) row count first (omega arith) prints
+            (opening_is _ (open_good last bytes n b e w v v-is t g f)) (plan_some v.answer) (omega arith)) in
             runs_behind all last bytes out v.state n.taken count (length out - 1) first on r held (rw on.long at l)
 
 -- ---- playing takes no more than is there
@@ -628,60 +601,51 @@ play_idle x last bytes room r e =
       | no t ↦ omega arith
     ]
 
-open_idle : (x : Session) (bytes : List ℕ) → length (open_of x false bytes).text ≡ 0 → length bytes < 99
+open_idle : (bytes : List ℕ) → length (open_of false bytes).text ≡ 0 → length bytes < 99
 unfolding open_of
-open_idle x bytes e = go (eqb (number (read_of bytes).answer) 1) refl e
+open_idle bytes e = go (eqb (number (read_of bytes).answer) 1) refl e
   where
     go : (b : Bool) → eqb (number (read_of bytes).answer) 1 ≡ b
-        → length (cond b (stay x) (first_line (opening bytes) (start_of (read_of bytes).plan).state (read_of bytes).taken)).text ≡ 0
+        → length (cond b (stay Opening) (first_line (opening bytes) (start_of (read_of bytes).plan).state (read_of bytes).taken)).text ≡ 0
         → length bytes < 99
     go true q z = one_short bytes (eqb-true (number (read_of bytes).answer) 1 q)
     go false q z = absurd (omega (arith, plan_some (opening bytes)))
 
-run_idle : (x : Session) (bytes : List ℕ) → length (run_of x false bytes).text ≡ 0 → length bytes < 99
+run_idle : (s : State) (bytes : List ℕ) → length (run_of s false bytes).text ≡ 0 → length bytes < 99
 unfolding run_of
-run_idle x bytes e = elim (dec_lt (length bytes) 3) [ yes l ↦ omega arith | no l ↦ absurd (none (omega arith)) ]
+run_idle s bytes e = elim (dec_lt (length bytes) 3) [ yes l ↦ omega arith | no l ↦ absurd (none (omega arith)) ]
   where
     none : 3 ≤ length bytes → ⊥
     none l =
-        let z : length (command_move x.state (command_of bytes)).text ≡ 0 = rw (le-ltb (length bytes) 3 l) at e in
-        omega (arith, line_some x.state (command_of bytes))
+        let z : length (command_move s (command_of bytes)).text ≡ 0 = rw (le-ltb (length bytes) 3 l) at e in
+        omega (arith, line_some s (command_of bytes))
 
 step_idle : (x : Session) (bytes : List ℕ) → is_over x ≡ false → length (step_of x false bytes).text ≡ 0 → length bytes < 99
 unfolding step_of
-step_idle x bytes = go x.stage
-  where
-    go : (g : Stage) → at_stage g false false true ≡ false
-        → length (at_stage g (open_of x false bytes) (run_of x false bytes) (stay x)).text ≡ 0 → length bytes < 99
-    go Opening o e = open_idle x bytes e
-    go Running o e = run_idle x bytes e
-    go Over o e = absurd (true≢false o)
+step_idle Opening bytes o e = open_idle bytes e
+step_idle (Running s) bytes o e = run_idle s bytes e
+step_idle (Over s) bytes o e = absurd (true≢false o)
 
 -- after the end of the input, the play is over
-run_some : (x : Session) (bytes : List ℕ) → 0 < length (run_of x true bytes).text
+run_some : (s : State) (bytes : List ℕ) → 0 < length (run_of s true bytes).text
 unfolding run_of
-run_some x bytes = go (eqb (length bytes) 0)
+run_some s bytes = go (eqb (length bytes) 0)
   where
-    go : (b : Bool) → 0 < length (cond b (last_line x.state) (command_move x.state (command_of bytes))).text
-    go true = end_some x.state.slice
-    go false = line_some x.state (command_of bytes)
+    go : (b : Bool) → 0 < length (cond b (last_line s) (command_move s (command_of bytes))).text
+    go true = end_some s.slice
+    go false = line_some s (command_of bytes)
 
-pub idle_over : (x : Session) (bytes : List ℕ) → length (step_of x true bytes).text ≡ 0 → x.stage ≡ Over
+pub idle_over : (x : Session) (bytes : List ℕ) → length (step_of x true bytes).text ≡ 0 → is_over x ≡ true
 unfolding step_of open_of
-idle_over x bytes = go x.stage
-  where
-    go : (g : Stage) → length (at_stage g (open_of x true bytes) (run_of x true bytes) (stay x)).text ≡ 0 → g ≡ Over
-    go Opening e = absurd (omega (arith, plan_some (opening bytes)))
-    go Running e = absurd (omega (arith, run_some x bytes))
-    go Over e = refl
+idle_over Opening bytes e = absurd (omega (arith, plan_some (opening bytes)))
+idle_over (Running s) bytes e = absurd (omega (arith, run_some s bytes))
+idle_over (Over s) bytes e = refl
 
 -- a play that prints nothing and is not over waits for more: the input has not ended, and few bytes are left
 pub waits_more : (x : Session) (last : Bool) (bytes : List ℕ) (room : ℕ) → line_room ≤ room → length (play_of x last bytes room).text ≡ 0
     → is_over x ≡ false
     → (last ≡ false) × (length bytes < 99)
-waits_more x true bytes room l e o =
-    let g : x.stage ≡ Over = idle_over x bytes (play_idle x true bytes room l e) in
-    absurd (true≢false (at_over x.stage false false true g ∙ o))
+waits_more x true bytes room l e o = absurd (true≢false (sym (idle_over x bytes (play_idle x true bytes room l e)) ∙ o))
 waits_more x false bytes room l e o = (refl, step_idle x bytes o (play_idle x false bytes room l e))
 
 pub idle_none : (x : Session) (last : Bool) (bytes : List ℕ) (room : ℕ) → length (step_of x last bytes).text ≡ 0

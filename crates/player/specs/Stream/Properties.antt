@@ -1,7 +1,9 @@
 -- What a play of an input has printed at each moment, and at its end.
 -- Assumes nothing.
-use Rattle.std.specs.Prelude.{◌≡◌, refl, Bool, true, false, cond, not, ◌&&◌, ◌||◌, List, [], ◌++◌, ℕ, zero, suc, ◌-◌, ◌≤◌, ◌<◌, ltb, eqb, length, drop}
+use Rattle.std.specs.Prelude.{◌≡◌, refl, Option, None, Some, Bool, true, false, cond, not, ◌&&◌, ◌||◌, List, [], ◌++◌, ℕ, zero, suc, ◌-◌}
+use Rattle.std.specs.Prelude.{◌≤◌, ◌<◌, ltb, eqb, length, drop}
 use Rattle.std.proofs.Common.{sym, ap, ◌∙◌, append_assoc, append-nil, arith, length-append, drop-drop, le-ltb, eqb-true, ltb-false}
+use Rattle.std.proofs.Common.{true≢false}
 use Rattle.std.proofs.Math.Decide.{dec_lt}
 use Rattle.std.proofs.lemmas.List.{drop-append-le}
 use Rattle.std.proofs.lemmas.Bool.{eqb-false}
@@ -15,10 +17,8 @@ use Rattle.plan_bytes.specs.Reading.{read_of}
 use Rattle.rack.specs.declared.State.{State}
 use Rattle.rack.specs.Start.{start_of}
 use Rattle.commands.specs.declared.command.Command.{Command}
-use Rattle.commands.specs.declared.command.Command.TheVariants.{Slice, Release, Bad}
-use Rattle.player.specs.declared.session.Stage.{Stage}
-use Rattle.player.specs.declared.session.Stage.TheVariants.{Opening, Running, Over}
 use Rattle.player.specs.declared.session.Session.{Session}
+use Rattle.player.specs.declared.session.Session.TheVariants.{Opening, Running, Over}
 use Rattle.lines.specs.Line.{plan_line, bad_line, end_line, line_room}
 use Rattle.commands.specs.Command.{command_fields, command_of}
 use Rattle.commands.specs.Command.Properties.{command_short}
@@ -26,9 +26,9 @@ use Rattle.player.specs.Turn.{line_of, after}
 use Rattle.player.specs.Played.{onward, turns, opening, played}
 use Rattle.player.specs.Played.Properties.{turns_end, turns_command}
 use Rattle.player.specs.Played.Front.{read_more}
-use Rattle.player.specs.Session.{at_stage, remaining, Move, stay, first_line, open_of, command_move, last_line, run_of, step_of, onto}
+use Rattle.player.specs.Session.{is_over, remaining, Move, stay, first_line, open_of, command_move, last_line, run_of, step_of, onto}
 use Rattle.player.specs.Session.{lines_of, play_of}
-use Rattle.player.specs.Session.Properties.{at_opening, at_running, at_over, read_whole, play_idle, idle_over}
+use Rattle.player.specs.Session.Properties.{read_whole, play_idle, idle_over}
 use Rattle.player.specs.Stream.{Reached, starts, reads, plays}
 
 -- ---- one line: what it prints, and what is still to be printed after it
@@ -58,19 +58,19 @@ first_whole bytes rest e =
     go (No w) q = refl
 
 -- the first line, or none yet
-open_whole : (x : Session) (last : Bool) (bytes rest : List ℕ) → (last ≡ true → rest ≡ []) → x.stage ≡ Opening
-    → played (bytes ++ rest) ≡ whole (open_of x last bytes) bytes rest
+open_whole : (last : Bool) (bytes rest : List ℕ) → (last ≡ true → rest ≡ []) →
+    played (bytes ++ rest) ≡ whole (open_of last bytes) bytes rest
 unfolding open_of remaining
-open_whole x last bytes rest h o = go (not last && eqb (number (read_of bytes).answer) 1) refl
+open_whole last bytes rest h = go (not last && eqb (number (read_of bytes).answer) 1) refl
   where
     same : (l : Bool) → last ≡ l → (not l && eqb (number (read_of bytes).answer) 1) ≡ false → read_of (bytes ++ rest) ≡ read_of bytes
     same true l e = ap (λ (u : List ℕ). read_of (bytes ++ u)) (h l) ∙ ap read_of (append-nil bytes)
     same false l e = read_more bytes rest (eqb-false (number (read_of bytes).answer) 1 e)
 
     go : (b : Bool) → (not last && eqb (number (read_of bytes).answer) 1) ≡ b
-        → played (bytes ++ rest) ≡ whole (cond b (stay x)
+        → played (bytes ++ rest) ≡ whole (cond b (stay Opening)
         (first_line (opening bytes) (start_of (read_of bytes).plan).state (read_of bytes).taken)) bytes rest
-    go true e = at_opening x.stage (played (bytes ++ rest)) (turns x.state (bytes ++ rest)) [] o
+    go true e = refl
     go false e = first_whole bytes rest (same last refl e)
 
 -- a command, whatever follows its three bytes
@@ -88,10 +88,10 @@ command_whole : (s : State) (bytes rest : List ℕ) → 0 < length bytes → com
 unfolding command_move remaining line_of
 command_whole s bytes rest l e =
     turns_command s (bytes ++ rest) (omega (arith, length-append bytes rest))
-    ∙ ap (λ (k : Command). line_of s k ++ onward k (turns (after s k) (drop 3 (bytes ++ rest))) (end_line s.slice)) e
+    ∙ ap (λ (k : Option Command). line_of s k ++ onward k (turns (after s k) (drop 3 (bytes ++ rest))) (end_line s.slice)) e
     ∙ go (command_of bytes) refl
   where
-    three : (k : Command) → command_of bytes ≡ k → (k ≡ Bad → ⊥) → drop 3 (bytes ++ rest) ≡ drop 3 bytes ++ rest
+    three : (k : Option Command) → command_of bytes ≡ k → (k ≡ None → ⊥) → drop 3 (bytes ++ rest) ≡ drop 3 bytes ++ rest
     three k q n =
         elim (dec_lt (length bytes) 3) [
           | yes t ↦ absurd (n (sym q ∙ sym (command_short bytes t)))
@@ -99,47 +99,37 @@ command_whole s bytes rest l e =
               (omega arith)
         ]
 
-    go : (k : Command) → command_of bytes ≡ k
+    go : (k : Option Command) → command_of bytes ≡ k
         → line_of s k ++ onward k (turns (after s k) (drop 3 (bytes ++ rest))) (end_line s.slice) ≡ whole (command_move s k) bytes rest
-    go Slice q =
-        ap (λ (u : List ℕ). line_of s Slice ++ turns (after s Slice) u) (three Slice q (λ z. let y : ◌≡◌ {A = ℕ} 0 1 = cc in omega arith))
-    go (Release kind n) q =
-        ap (λ (u : List ℕ). line_of s (Release kind n) ++ turns (after s (Release kind n)) u)
-        (three (Release kind n) q (λ z. let y : ◌≡◌ {A = ℕ} 0 1 = cc in omega arith))
-    go Bad q = sym (append-nil (bad_line ++ end_line s.slice))
+    go (Some k) q = ap (λ (u : List ℕ). line_of s (Some k) ++ turns (after s (Some k)) u) (three (Some k) q (λ z. cc))
+    go None q = sym (append-nil (bad_line ++ end_line s.slice))
 
 -- a command's line, the last line, or none yet
-run_whole : (x : Session) (last : Bool) (bytes rest : List ℕ) → (last ≡ true → rest ≡ []) → x.stage ≡ Running
-    → turns x.state (bytes ++ rest) ≡ whole (run_of x last bytes) bytes rest
+run_whole : (s : State) (last : Bool) (bytes rest : List ℕ) → (last ≡ true → rest ≡ [])
+    → turns s (bytes ++ rest) ≡ whole (run_of s last bytes) bytes rest
 unfolding run_of remaining
-run_whole x true bytes rest h o = go (eqb (length bytes) 0) refl
+run_whole s true bytes rest h = go (eqb (length bytes) 0) refl
   where
     nothing : bytes ++ rest ≡ bytes
     nothing = ap (λ (u : List ℕ). bytes ++ u) (h refl) ∙ append-nil bytes
 
     go : (b : Bool) → eqb (length bytes) 0 ≡ b
-        → turns x.state (bytes ++ rest) ≡ whole (cond b (last_line x.state) (command_move x.state (command_of bytes))) bytes rest
-    go true e =
-        ap (turns x.state) nothing ∙ turns_end x.state bytes (eqb-true (length bytes) 0 e)
-        ∙ sym (append-nil (end_line x.state.slice))
-    go false e = command_whole x.state bytes rest (let n = eqb-false (length bytes) 0 e in omega arith) (ap command_of nothing)
-run_whole x false bytes rest h o = go (ltb (length bytes) 3) refl
+        → turns s (bytes ++ rest) ≡ whole (cond b (last_line s) (command_move s (command_of bytes))) bytes rest
+    go true e = ap (turns s) nothing ∙ turns_end s bytes (eqb-true (length bytes) 0 e) ∙ sym (append-nil (end_line s.slice))
+    go false e = command_whole s bytes rest (let n = eqb-false (length bytes) 0 e in omega arith) (ap command_of nothing)
+run_whole s false bytes rest h = go (ltb (length bytes) 3) refl
   where
     go : (b : Bool) → ltb (length bytes) 3 ≡ b
-        → turns x.state (bytes ++ rest) ≡ whole (cond b (stay x) (command_move x.state (command_of bytes))) bytes rest
-    go true e = at_running x.stage (played (bytes ++ rest)) (turns x.state (bytes ++ rest)) [] o
-    go false e = let l = ltb-false (length bytes) 3 e in command_whole x.state bytes rest (omega arith) (command_more bytes rest l)
+        → turns s (bytes ++ rest) ≡ whole (cond b (stay (Running s)) (command_move s (command_of bytes))) bytes rest
+    go true e = refl
+    go false e = let l = ltb-false (length bytes) 3 e in command_whole s bytes rest (omega arith) (command_more bytes rest l)
 
 step_whole : (x : Session) (last : Bool) (bytes rest : List ℕ) → (last ≡ true → rest ≡ [])
     → remaining x (bytes ++ rest) ≡ whole (step_of x last bytes) bytes rest
 unfolding step_of remaining
-step_whole x last bytes rest h = go x.stage refl
-  where
-    go : (g : Stage) → x.stage ≡ g → at_stage g (played (bytes ++ rest)) (turns x.state (bytes ++ rest)) []
-        ≡ whole (at_stage g (open_of x last bytes) (run_of x last bytes) (stay x)) bytes rest
-    go Opening o = open_whole x last bytes rest h o
-    go Running o = run_whole x last bytes rest h o
-    go Over o = at_over x.stage (played (bytes ++ rest)) (turns x.state (bytes ++ rest)) [] o
+step_whole Opening last bytes rest h = open_whole last bytes rest h
+step_whole (Running s) last bytes rest h = run_whole s last bytes rest h
+step_whole (Over s) last bytes rest h = refl
 
 -- ---- as many lines as fit
 
@@ -185,14 +175,20 @@ reached_whole (plays {printed} {held} {coming} {x} last room e r) =
     reached_whole r ∙ ap (λ (u : List ℕ). printed ++ u) (play_whole x last held coming room e)
     ∙ sym (append_assoc printed m.text (remaining m.session (drop m.taken held ++ coming)))
 
--- at the end: what is printed is the whole
-pub reached_end : {input printed held coming : List ℕ} {x : Session} → Reached input printed x held coming → x.stage ≡ Over
-    → printed ≡ played input
+-- over, nothing is left
+over_none : (x : Session) (input : List ℕ) → is_over x ≡ true → remaining x input ≡ []
 unfolding remaining
+over_none Opening input o = absurd (true≢false (sym o))
+over_none (Running s) input o = absurd (true≢false (sym o))
+over_none (Over s) input o = refl
+
+-- at the end: what is printed is the whole
+pub reached_end : {input printed held coming : List ℕ} {x : Session} → Reached input printed x held coming → is_over x ≡ true
+    → printed ≡ played input
 reached_end {input} {printed} {held} {coming} {x} r o =
-    sym (append-nil printed) ∙ ap (λ (u : List ℕ). printed ++ u)
-    (at_over x.stage (played (held ++ coming)) (turns x.state (held ++ coming)) [] o) ∙ sym (reached_whole r)
+    sym (append-nil printed) ∙ ap (λ (u : List ℕ). printed ++ u) (sym (over_none x (held ++ coming) o)) ∙ sym (reached_whole r)
 
 -- after the end of the input, a play with room goes on until it is over
-pub reached_over : (x : Session) (held : List ℕ) (room : ℕ) → line_room ≤ room → length (play_of x true held room).text ≡ 0 → x.stage ≡ Over
+pub reached_over : (x : Session) (held : List ℕ) (room : ℕ) → line_room ≤ room → length (play_of x true held room).text ≡ 0 →
+    is_over x ≡ true
 reached_over x held room r e = idle_over x held (play_idle x true held room r e)

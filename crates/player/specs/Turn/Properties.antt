@@ -1,14 +1,13 @@
 -- Laws of a command's turn: each way out, over what the code has in hand there.
 -- Assumes nothing.
-use Rattle.std.specs.Prelude.{◌≡◌, replicate}
+use Rattle.std.specs.Prelude.{◌≡◌, Some, replicate}
 use Rattle.std.proofs.Math.Path.{refl, ap}
-use Rattle.std.proofs.Common.{sym, ap₂, ◌∙◌, arith}
-use mathlib.Core.List.{List, ◌++◌}
-use Prim.Native.Nat.{ℕ, zero, suc, ◌≤◌, ◌<◌, min}
+use Rattle.std.proofs.Common.{sym, ◌∙◌, arith}
+use mathlib.Core.List.{List}
+use Prim.Native.Nat.{ℕ, ◌≤◌, ◌<◌, min}
 use Rattle.std.proofs.Math.ListN.{get_or}
 use Rattle.answer.specs.declared.Answer.{Answer}
 use Rattle.answer.specs.declared.Answer.TheVariants.{Good, No}
-use Rattle.codec.specs.Places.{parts_to}
 use Rattle.rack.specs.declared.State.{State}
 use Rattle.rack.specs.declared.Next.{Next}
 use Rattle.rack.specs.Release.{release_of}
@@ -17,18 +16,10 @@ use Rattle.rack.proofs.Laws.Show.{show_room}
 use Rattle.rack.specs.Row.{row_byte, row_over}
 use Rattle.rack.proofs.Laws.Row.{over_at}
 use Rattle.lines.specs.declared.line.Line.TheVariants as line
-use Rattle.lines.specs.Ascii.{ascii}
-use Rattle.lines.specs.Text.{decimal}
-use Rattle.lines.specs.Line.{row_text, slice_line, line_text}
+use Rattle.lines.specs.Line.{slice_line, line_text}
+use Rattle.lines.specs.Line.Properties.{row_same}
 use Rattle.commands.specs.declared.command.Command.TheVariants.{Slice, Release}
 use Rattle.player.specs.Turn.{row_room, line_of}
-
--- two rows that agree on the cards print the same
-row_same : (cards : ℕ) (f g : ℕ → ℕ) → ((card : ℕ) → card < cards → f card ≡ g card) → row_text cards f ≡ row_text cards g
-unfolding row_text parts_to
-row_same zero f g h = refl
-row_same (suc cards) f g h =
-    ap₂ ◌++◌ (row_same cards f g (λ card l. h card (omega arith))) (ap (λ (n : ℕ). ascii " " ++ decimal n) (h cards (omega arith)))
 
 -- a showing's answer is good: the row has room, and its bytes are in it
 module _ (s : State) (answer : Answer) (row : List ℕ) (shows : Shows s (replicate 8 0) answer row) where
@@ -52,11 +43,11 @@ module _ (s : State) (answer : Answer) (row : List ℕ) (shows : Shows s (replic
       rw (fit, ← row_same s.plan.cards (λ (card : ℕ). get_or row card 0) (row_byte s) (row_is e))
   told (No w) e = refl
 
-  pub slice_told : line_text (line.Slice answer s.slice s.plan.cards) row ≡ line_of s Slice
+  pub slice_told : line_text (line.Slice answer s.slice s.plan.cards) row ≡ line_of s (Some Slice)
   unfolding line_of line_text
   slice_told = rw (← shows.result) (told answer refl)
 
 pub release_told : (s : State) (kind e : ℕ) (next : Next) (row : List ℕ) → next ≡ release_of s kind e
-    → line_text (line.Release kind e next.answer) row ≡ line_of s (Release kind e)
+    → line_text (line.Release kind e next.answer) row ≡ line_of s (Some (Release kind e))
 unfolding line_of line_text
 release_told s kind e next row q = rw (← q)

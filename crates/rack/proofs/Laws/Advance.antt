@@ -353,7 +353,9 @@ module _ (s : State) (r : Ready s) (places : Places s) where
   advance_sums j l = sum_after_law j l ∙ omega (arith, r.sums j l, advance_left j)
 
   -- a unit that is in form is so a slice later, where it is not late
-  in_form_after : (i : ℕ) → UnitInForm (kind_at s i) (unit_of s i) → (0 < (unit_after s i).left → (unit_after s i).gone < (kind_at s i).deadline) →
+  in_form_after : (i : ℕ) →
+      UnitInForm (kind_at s i) (unit_of s i) →
+      (0 < (unit_after s i).left → (unit_after s i).gone < (kind_at s i).deadline) →
       UnitInForm (kind_at s i) (unit_after s i)
   unfolding unit_after Step.left_after gone_after
   in_form_after i u h = go (unit_of s i).released refl

@@ -16,7 +16,6 @@ use Rattle.plan.specs.Order.Properties.{in_order_good}
 use Rattle.unit.specs.Form.{fits_place}
 use Rattle.seats.specs.Seats.{at, seats_by}
 use Rattle.rack.specs.declared.State.{State}
-use Rattle.rack.specs.declared.form.Found.{Found}
 use Rattle.rack.specs.State.{unit_of, kind_at, kind_places, used, project_places}
 use Rattle.rack.specs.Sums.{left_below}
 use Rattle.rack.specs.Sums.Properties.{below_none, below_again}
@@ -27,7 +26,7 @@ use Rattle.rack.specs.Rank.{until}
 use Rattle.rack.proofs.Laws.Rank.{working_left}
 use Rattle.rack.specs.Seat.{works_of, lowest_at, end_at, seats_of}
 use Rattle.rack.proofs.Laws.Seat.{works_nothing, works_something, seats_are}
-use Rattle.rack.specs.Found.{due_of, works_below, due_below, AtWork, Finds}
+use Rattle.rack.specs.Found.{due_of, works_below, due_below, AtWork}
 
 -- ---- what is put down of a kind
 
@@ -97,65 +96,54 @@ module _ (s : State) (i : ℕ) (works due left : List ℕ) (looked : Looked s i 
       left_so_far = below_again s i left looked.left_so_far c (unit_of s i).left ec refl (omega (arith, looked_project));
     }
 
--- ---- the exits: a is what is answered, and r what is handed back
-
-no_good : (w : Refusal) → No w ≡ Good → ⊥
-no_good w e = let z : ◌≡◌ {A = ℕ} 0 1 = cc in omega arith
-
-found_no : (s : State) (a b : Answer) (w : Refusal) (r : Found) → r.answer ≡ b → b ≡ No w → b ≡ a → Finds s a r
-found_no s a b w r e n is = record { result = e ∙ is; at_work = λ good. absurd (no_good w (sym n ∙ is ∙ good)) }
+-- ---- the exits
 
 -- 10 and 16 come after the record order
-ready_rest : (s : State) → InOrder s.plan → (a : Answer) → a ≡ (refuse (not (in_form s)) (bare 10) and_then sums_told s) → a ≡ ready s
+ready_rest : (s : State) → InOrder s.plan → (a : Answer) → a ≡ (refuse (not (in_form s)) (bare 10) and_then sums_told s) → ready s ≡ a
 unfolding ready
-ready_rest s o a e = rw (in_order_good s.plan o) e
+ready_rest s o a e = rw (in_order_good s.plan o) (sym e)
 
-module _ (s : State) (a : Answer) (r : Found) (told : r.answer ≡ a) where
+module _ (s : State) where
   -- the plan is not in order
-  pub found_order : (w : Refusal) → a ≡ No w → a ≡ checked s.plan → Finds s (ready s) r
+  pub found_order : (a : Answer) (why : Refusal) → a ≡ No why → a ≡ checked s.plan → ready s ≡ No why
   unfolding ready
-  found_order w n is = found_no s (ready s) a w r told n (n ∙ rw (sym is ∙ n))
-
-  rest : InOrder s.plan → (w : Refusal) → a ≡ No w → a ≡ (refuse (not (in_form s)) (bare 10) and_then sums_told s) → Finds s (ready s) r
-  rest o w n is = found_no s (ready s) a w r told n (ready_rest s o a is)
+  found_order a why n is = rw (sym is ∙ n)
 
   -- the frame has no such slice: k is what the check of the plan answered
-  pub found_past : (k : Answer) → k ≡ Good → k ≡ checked s.plan → a ≡ bare 10 → s.plan.frame ≤ s.slice → Finds s (ready s) r
-  found_past k good is e l = rest (check_order s k good is) _ e (formed_past s a e l)
+  pub found_past : (k : Answer) → k ≡ Good → k ≡ checked s.plan → s.plan.frame ≤ s.slice → ready s ≡ bare 10
+  found_past k good is l = ready_rest s (check_order s k good is) (bare 10) (formed_past s (bare 10) refl l)
 
   module _ (i : ℕ) (works due left : List ℕ) (looked : Looked s i works due left) where
     -- a place is not in form
-    pub found_place : (u b : Bool) → u ≡ used s i → b ≡ fits_place u (kind_at s i) (unit_of s i) → not b ≡ true → i < 16 → a ≡ bare 10 →
-        Finds s (ready s) r
-    found_place u b eu eb t m e = rest looked.order _ e (formed_place s a i b e m (place_found s i u b eu eb) t)
+    pub found_place : (u b : Bool) → u ≡ used s i → b ≡ fits_place u (kind_at s i) (unit_of s i) → not b ≡ true → i < 16 →
+        ready s ≡ bare 10
+    found_place u b eu eb t m = ready_rest s looked.order (bare 10) (formed_place s (bare 10) i b refl m (place_found s i u b eu eb) t)
 
     module _ (p : i ≤ 16) (q : 16 ≤ i) (b : Bool) (fits : b ≡ sums_fit s.sum (project_places s)) where
       -- a sum beyond p is not zero
-      pub found_sums : not b ≡ true → a ≡ bare 10 → Finds s (ready s) r
-      found_sums t e =
+      pub found_sums : not b ≡ true → ready s ≡ bare 10
+      found_sums t =
           let o = looked.order in
-          rest o _ e (formed_sums s i left o looked.slice_below looked.places p q looked.left_so_far a b fits t e)
+          ready_rest s o (bare 10) (formed_sums s i left o looked.slice_below looked.places p q looked.left_so_far (bare 10) b fits t refl)
 
-      -- a sum is not what was found
-      pub found_differ : not b ≡ false → (d : Bool) → d ≡ sums_agree s.sum left (project_places s) → not d ≡ true → a ≡ bare 16 →
-          Finds s (ready s) r
-      found_differ t d agree f e =
-          let o = looked.order in
-          rest o _ e (formed_differ s i left o looked.slice_below looked.places p q looked.left_so_far a b fits t d agree f e)
+      module _ (t : not b ≡ false) (d : Bool) (agree : d ≡ sums_agree s.sum left (project_places s)) where
+        -- a sum is not what was found
+        pub found_differ : not d ≡ true → ready s ≡ bare 16
+        found_differ f =
+            let o = looked.order in
+            ready_rest s o (bare 16)
+            (formed_differ s i left o looked.slice_below looked.places p q looked.left_so_far (bare 16) b fits t d agree f refl)
 
-pub found_good : (s : State) (i : ℕ) (works due left : List ℕ) → Looked s i works due left → i ≤ 16 → 16 ≤ i → (b : Bool) →
-    b ≡ sums_fit s.sum (project_places s) → not b ≡ false → (d : Bool) → d ≡ sums_agree s.sum left (project_places s) → not d ≡ false →
-    Finds s (ready s) (record { answer = Good; works = works; until = due })
-found_good s i works due left looked p q b fits t d agree f =
-    let o = looked.order in
-    let form = formed_good s i left o looked.slice_below looked.places p q looked.left_so_far Good b fits t d agree f refl in
-    record {
-      result = ready_rest s o Good form;
-      at_work = λ good. record {
-        works_for = written_stop i 16 (works_of s) (replicate 16 0) works looked.works_for p q;
-        due_in = written_stop i 16 (due_of s) (replicate 16 0) due looked.due_in p q;
-      };
-    }
+        pub found_good : not d ≡ false → (ready s ≡ Good) × AtWork s works due
+        found_good f =
+            let o = looked.order in
+            let form = formed_good s i left o looked.slice_below looked.places p q looked.left_so_far Good b fits t d agree f refl in (
+              ready_rest s o Good form,
+              record {
+                works_for = written_stop i 16 (works_of s) (replicate 16 0) works looked.works_for p q;
+                due_in = written_stop i 16 (due_of s) (replicate 16 0) due looked.due_in p q;
+              },
+            )
 
 -- ---- what was put down, place by place, and the seats that are found from it
 
@@ -165,10 +153,6 @@ module _ (s : State) (works due : List ℕ) (laid : AtWork s works due) (i : ℕ
 
   due_at : ((unit_of s i).left ≡ 0 → ⊥) → at due i ≡ until s i
   due_at h = ap (λ (m : List ℕ). at m i) laid.due_in ∙ stored_at 16 16 (due_of s) i l (omega arith) ∙ due_something s i h
-
--- a good answer came with it
-pub found_work : (s : State) (a : Answer) (r : Found) → Finds s a r → r.answer ≡ Good → AtWork s r.works r.until
-found_work s a r found good = found.at_work (sym found.result ∙ good)
 
 pub seats_by_law : (s : State) → Ready s → (works due low end seats : List ℕ) (n : ℕ) → AtWork s works due → n ≡ kind_places s →
     low ≡ written (project_places s) (lowest_at s.plan s.slice) (replicate 8 0) →

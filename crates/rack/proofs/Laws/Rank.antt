@@ -121,7 +121,8 @@ module _ (s : State) where
       working s k ≡ true → served s k ≡ false → outranks s i k ≡ true
   unfolding served view_of
   served_first i k l e p w u =
-      chosen_first (own_view s i) ranked i k l p (active_of (kind_at s i).project k (sym e) w) (ap (λ (j : ℕ). chosen (view_of s j) k) e ∙ u)
+      chosen_first (own_view s i) ranked i k l p (active_of (kind_at s i).project k (sym e) w)
+      (ap (λ (j : ℕ). chosen (view_of s j) k) e ∙ u)
 
 -- ---- of a state that is not refused
 

@@ -267,7 +267,8 @@ module _ (s : State) (r : Ready s) where
     -- a card that it holds and that is used is used by one of its kinds
     used_own : (card n : ℕ) → has_card (view_of s j) card ≡ true → row_byte s card ≡ n → 0 < n → of_project s j n ≡ true
     used_own card zero h q p = absurd (omega arith)
-    used_own card (suc i) h q p = project_of_law i (view_takes s j i card (byte_takes (view_of s j) card i (sym (row_own s j card l h) ∙ q))).0
+    used_own card (suc i) h q p =
+        project_of_law i (view_takes s j i card (byte_takes (view_of s j) card i (sym (row_own s j card l h) ∙ q))).0
 
     own_used : (card i : ℕ) → row_byte s card ≡ suc i → of i ≡ j → (low ≤ card) × (card < low + most)
     unfolding view_of

@@ -1,6 +1,8 @@
 -- Laws of seats: what the code counts is the rank, and what it stores is the row.
 -- Assumes nothing.
-use Rattle.std.specs.Prelude.{◌≡◌, cond, ltb, replicate}
+use Rattle.std.specs.Prelude.{◌≡◌, cond, ltb, ◌++◌, take, drop, replicate}
+use Rattle.std.proofs.lemmas.List.{length-take-le}
+use Rattle.std.proofs.lemmas.List.Edits.{fill_none, fill_more}
 use Rattle.std.proofs.Math.Path.{refl, sym, ap}
 use Rattle.std.proofs.Common.{◌∙◌, true≢false, mod-eq_of_lt, add-one}
 use Rattle.std.proofs.Math.Bool.{Bool, true, false}
@@ -16,7 +18,7 @@ use Rattle.laws.specs.First.Properties.{first_none, first_cong, first_skip, firs
 use Rattle.laws.specs.Ranking.{sooner}
 use Rattle.laws.specs.Ranking.Properties.{rank_cong}
 use Rattle.laws.specs.Written.{written}
-use Rattle.laws.specs.Written.Properties.{written_again, written_cong, written_length, written_set, stored_at, stored_most}
+use Rattle.laws.specs.Written.Properties.{written_cong, written_length, written_set, stored_at, stored_most}
 use Rattle.plan.specs.declared.Plan.{Plan}
 use Rattle.plan.specs.declared.Kind.{Kind}
 use Rattle.plan.specs.Order.{budget_of, InOrder}
@@ -310,10 +312,21 @@ module _ (s : State) (r : Ready s) where
             first_cong kinds (λ number. eqb (seat (pred number)) (card + 1)) (λ number. takes s (pred number) card) (same card)
             ∙ sym (row_first s r card)
 
--- ---- the steps of the loops that clear the cards and seat the kinds
+-- ---- the cards cleared
 
-pub cleared_again : (i : ℕ) (bytes m : List ℕ) → m ≡ written i idle bytes → set m i 0 ≡ written (i + 1) idle bytes
-cleared_again i bytes m e = written_again i idle bytes m 0 e refl
+front_idle : (n : ℕ) (bytes : List ℕ) → n ≤ length bytes → replicate n 0 ++ drop n bytes ≡ written n idle bytes
+unfolding written
+front_idle zero bytes l = sym (fill_none bytes 0)
+front_idle (suc n) bytes l =
+    ap (λ (k : ℕ). replicate k 0 ++ drop k bytes) (sym (add-one n)) ∙ sym (fill_more n 0 bytes l)
+    ∙ ap (λ (m : List ℕ). set m n 0) (front_idle n bytes (omega arith))
+
+pub cards_cleared : (n : ℕ) (bytes front : List ℕ) → n ≤ length bytes → front ≡ replicate (length (take n bytes)) 0 →
+    front ++ drop n bytes ≡ written n idle bytes
+cards_cleared n bytes front l e =
+    ap (λ (m : List ℕ). m ++ drop n bytes) (e ∙ ap (λ (k : ℕ). replicate k 0) (length-take-le n bytes l)) ∙ front_idle n bytes l
+
+-- ---- the steps of the loop that seats the kinds
 
 module _ (seat : List ℕ) (i : ℕ) (bytes m : List ℕ) where
   pub seated_none : bytes ≡ seated (at seat) 0 bytes

@@ -1,6 +1,6 @@
 -- Laws of the form: what a good answer says of each place, and that nothing less is asked.
 -- Assumes nothing.
-use Rattle.std.specs.Prelude.{◌≡◌, refl, Bool, false, not, ◌&&◌, ltb, replicate}
+use Rattle.std.specs.Prelude.{◌≡◌, ◌≢◌, refl, Bool, false, not, ◌&&◌, ltb, length, take, replicate, MatchBool}
 use Rattle.std.proofs.Common.{sym, ◌∙◌, arith}
 use Rattle.std.proofs.Math.Path.{ap}
 use Rattle.std.proofs.Math.Bool.{true}
@@ -9,6 +9,9 @@ use Prim.Native.Nat.{ℕ, zero, suc, ◌+◌, ◌-◌, ◌≤◌, ◌<◌}
 use Rattle.std.proofs.Math.Decide.{dec_lt}
 use Rattle.std.proofs.Math.Dec.{eqb}
 use Rattle.std.proofs.Math.ListN.{get_or}
+use Rattle.std.proofs.lemmas.List.{get_or-take, length-take-le, ext_get_or}
+use Rattle.std.specs.Cmp.Lexicographic.{told_text}
+use lib.Pointwise.{pointwise}
 use borrow.Author.Tests.{lt-ltb, le-ltb, ltb-true, eq-eqb, eqb-true, not-false}
 use Rattle.laws.specs.Tests.{and_left, and_right, and_both, told_yes, told_no, second_no}
 use Rattle.laws.specs.Sum.{sum_to}
@@ -29,7 +32,8 @@ use Rattle.rack.specs.declared.State.{State}
 use Rattle.rack.specs.State.{unit_of, kind_at, kind_places, InUse, used, ProjectInUse, project_places, project_used, sum_at}
 use Rattle.rack.specs.Sums.{left_for, project_left, sum_right, sums_right, left_below, left_row}
 use Rattle.rack.specs.Sums.Properties.{sums_say, sums_of, left_none, below_at, below_all, sum_most}
-use Rattle.rack.specs.Form.{InForm, Ready, place_in_form, sum_fits, sum_in_form, sums_in_form, in_form, sums_told, ready, sums_fit, sums_agree}
+use Rattle.rack.specs.Form.{InForm, Ready, place_in_form, sum_fits, sum_in_form, sums_in_form, in_form, sums_told, ready, sums_fit}
+use Rattle.rack.specs.Form.{sums_agree}
 
 -- ---- a place in use, asked by a test
 
@@ -193,6 +197,30 @@ module _ (s : State) (i : ℕ) (o : InOrder s.plan) (m : i < 16) where
   look_room l c e so_far all here =
       let before = sum_most s i 4095 (λ k q. place_left s o k (omega arith) (all_at i (place_in_form s) (sym all) k q)) c in
       omega (arith, below_at s i l so_far c (omega (arith, look_project)), before, place_left s o i m here)
+
+-- ---- the stored sums looked through: r is what a comparison of the first n told
+
+abbrev same_at : List ℕ → List ℕ → ℕ → Bool
+same_at a b j = eqb (get_or a j 0) (get_or b j 0)
+
+pub same_front : (n : ℕ) (a b : List ℕ) → n ≤ length a → n ≤ length b → (r : Bool) → r ≡ pointwise eqb (take n a) (take n b) →
+    r ≡ all_to n (same_at a b)
+same_front n a b p q r e = go r (told_text (take n a) (take n b) r e)
+  where
+    rest : (take n a ≢ take n b) → (t : Bool) → all_to n (same_at a b) ≡ t → false ≡ all_to n (same_at a b)
+    rest h false z = sym z
+    rest h true z =
+        let la = length-take-le n a p in
+        let lb = length-take-le n b q in
+        absurd (h (ext_get_or 0 (take n a) (take n b) (omega arith) (λ i l.
+        get_or-take n a i 0 (omega arith) ∙ eqb-true (get_or a i 0) (get_or b i 0) (all_at n (same_at a b) z i (omega arith))
+        ∙ sym (get_or-take n b i 0 (omega arith)))))
+
+    go : (r : Bool) → MatchBool r (take n a ≡ take n b) (take n a ≢ take n b) → r ≡ all_to n (same_at a b)
+    go true h =
+        sym (all_of n (same_at a b) (λ i l. eq-eqb (get_or a i 0) (get_or b i 0)
+        (sym (get_or-take n a i 0 l) ∙ ap (λ (m : List ℕ). get_or m i 0) h ∙ get_or-take n b i 0 l)))
+    go false h = rest h (all_to n (same_at a b)) refl
 
 -- ---- what it finds: a is the answer, and b what a test of the sums told
 

@@ -110,7 +110,11 @@ module _ (s : State) (i : ℕ) (l : List ℕ) (so_far : l ≡ left_below s i) wh
   below_at j p = ap (λ (m : List ℕ). get_or m j 0) so_far ∙ stored_at 8 8 (λ k. sum_to i (left_for s k)) j p (omega arith)
 
   -- kind i's slices left, added to its project's
-  pub below_again : (c v : ℕ) → c ≡ (kind_at s i).project → v ≡ (unit_of s i).left → c < 8 → set l c (get_or l c 0 + v) ≡ left_below s (i + 1)
+  pub below_again : (c v : ℕ) →
+      c ≡ (kind_at s i).project →
+      v ≡ (unit_of s i).left →
+      c < 8 →
+      set l c (get_or l c 0 + v) ≡ left_below s (i + 1)
   below_again c v e q p =
       let here : get_or l c 0 + v ≡ sum_to (i + 1) (left_for s c) =
       omega (arith, below_at c p, sum_more i (left_for s c), left_own s c i (sym e)) in

@@ -5,12 +5,12 @@ use Rattle.images.specs.Outcome.Properties.{unfound_outcome}
 use Rattle.rack_calls.specs.Exports.Properties.{fresh_refused, fresh_stored}
 use Rattle.rack_calls.proofs.parchbeetle_fresh.Goals as goal
 
-pub returns-in_default : goal.returns-in_default
+pub returns-in-Err : goal.returns-in-Err
 unfolding fresh_answer
-returns-in_default c = search unfound_outcome
+returns-in-Err c = search (unfound_outcome, c.in-Err.ensures)
 
-pub returns-in_default-answer : goal.returns-in_default-answer
-returns-in_default-answer c = search fresh_refused
+pub returns-in_default : goal.returns-in_default
+returns-in_default c = search (fresh_refused, c.in-Ok.ensures)
 
 pub returns : goal.returns
-returns c = search fresh_stored
+returns c = search (fresh_stored, c.in-Ok.ensures)

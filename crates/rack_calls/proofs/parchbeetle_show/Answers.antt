@@ -3,8 +3,8 @@
 use Rattle.rack_calls.specs.Exports.Properties.{show_unfound, show_told}
 use Rattle.rack_calls.proofs.parchbeetle_show.Goals as goal
 
-pub returns-in_default : goal.returns-in_default
-returns-in_default c = search show_unfound
+pub returns-in-Err : goal.returns-in-Err
+returns-in-Err c = search (show_unfound, c.in-Err.ensures)
 
 pub returns : goal.returns
-returns c = search show_told
+returns c = search (show_told, c.in-Ok.ensures)

@@ -1,6 +1,6 @@
--- Laws of what the exported functions answer: one for each way that a function leaves. f is what was found in the image.
+-- Laws of what the exported functions answer: one for each way that a function leaves. f is the plan or the state that the image says.
 -- Assumes nothing.
-use Rattle.std.specs.Prelude.{◌≡◌, refl, Bool, true, false, not, cond, List, ℕ, ◌≤◌, ◌<◌, min, length}
+use Rattle.std.specs.Prelude.{◌≡◌, refl, Ok, Err, Bool, true, false, not, cond, List, ℕ, ◌≤◌, ◌<◌, min, length}
 use Rattle.std.proofs.Common.{sym, ap, ap₂, ◌∙◌, arith, lt-ltb, le-ltb, ne_eqb}
 use Rattle.std.proofs.Math.Decide.{dec_lt}
 use Rattle.std.proofs.lemmas.Bool.{lt-leb}
@@ -23,8 +23,6 @@ use Rattle.rack.specs.Release.{release_answer, released, release_of}
 use Rattle.rack.specs.Row.{row_over}
 use Rattle.rack.specs.Show.{show_answer, buffer_shown, Shows}
 use Rattle.rack.specs.Advance.{advanced, advance_answer, advance_of}
-use Rattle.images.specs.declared.PlanFound.{PlanFound}
-use Rattle.images.specs.declared.StateFound.{StateFound}
 use Rattle.images.specs.Image.{state_size, plan_from, state_from, state_image, released_told}
 use Rattle.images.specs.Lent.{room, plan_found, found_answer, state_found, StoresState, StoresRunning}
 use Rattle.images.specs.Lent.Properties.{plan_is, plan_on, state_room, state_is, state_no}
@@ -37,9 +35,9 @@ use Rattle.rack_calls.specs.Exports.{releases_answer, Releases, shows_answer, Sh
 
 -- ---- `parchbeetle_fresh`: v is what the start handed back
 
-start_is : (plan : List ℕ) (f : PlanFound) (v : Next) → f ≡ plan_found plan → f.answer ≡ Good → v ≡ start_of f.plan →
+start_is : (plan : List ℕ) (f : Plan) (v : Next) → Ok f ≡ plan_found plan → v ≡ start_of f →
     v ≡ start_of (plan_from plan)
-start_is plan f v e g h = h ∙ ap start_of (plan_is plan f e g)
+start_is plan f v e h = h ∙ ap start_of (plan_is plan f e)
 
 start_answer_law : (p : Plan) (v : Next) → v ≡ start_of p → v.answer ≡ start_answer p
 unfolding start_of
@@ -49,25 +47,25 @@ start_state : (p : Plan) (v : Next) → v ≡ start_of p → v.answer ≡ Good �
 unfolding start_of
 start_state p v e g = ap (λ (x : Next). x.state) e ∙ ap (λ (x : Answer). if_good x (fresh_of p) no_state) (sym (start_answer_law p v e) ∙ g)
 
-start_stage : (plan state : List ℕ) (f : PlanFound) (x : Answer) → f ≡ plan_found plan → f.answer ≡ Good →
+start_stage : (plan state : List ℕ) (f : Plan) (x : Answer) → Ok f ≡ plan_found plan →
     x ≡ (start_answer (plan_from plan) and_then room state state_size) → x ≡ fresh_answer plan state
 unfolding fresh_answer
-start_stage plan state f x e g h = plan_on plan f (start_answer (plan_from plan) and_then room state state_size) x e g h
+start_stage plan state f x e h = plan_on plan f (start_answer (plan_from plan) and_then room state state_size) x e h
 
-pub fresh_refused : (plan state : List ℕ) (f : PlanFound) (v : Next) (w : Refusal) (r : ℕ) → f ≡ plan_found plan → f.answer ≡ Good →
-    v ≡ start_of f.plan → v.answer ≡ No w → r ≡ told v.answer 0 → Starts plan state r state
-fresh_refused plan state f v w r e g h n t =
+pub fresh_refused : (plan state : List ℕ) (f : Plan) (v : Next) (w : Refusal) (r : ℕ) → Ok f ≡ plan_found plan →
+    v ≡ start_of f → v.answer ≡ No w → r ≡ told v.answer 0 → Starts plan state r state
+fresh_refused plan state f v w r e h n t =
     refused_outcome (fresh_answer plan state) v.answer w _ _ state r n t
-    (start_stage plan state f v.answer e g (opened_no v.answer (start_answer (plan_from plan)) (room state state_size) w n
-    (start_answer_law (plan_from plan) v (start_is plan f v e g h))))
+    (start_stage plan state f v.answer e (opened_no v.answer (start_answer (plan_from plan)) (room state state_size) w n
+    (start_answer_law (plan_from plan) v (start_is plan f v e h))))
 
-pub fresh_stored : (plan state after : List ℕ) (f : PlanFound) (v : Next) (b : Answer) (r : ℕ) → f ≡ plan_found plan → f.answer ≡ Good →
-    v ≡ start_of f.plan → v.answer ≡ Good → StoresState v.state state b after → r ≡ told b 0 → Starts plan state r after
-fresh_stored plan state after f v b r e g h n t u =
-    let i = start_is plan f v e g h in
+pub fresh_stored : (plan state after : List ℕ) (f : Plan) (v : Next) (b : Answer) (r : ℕ) → Ok f ≡ plan_found plan →
+    v ≡ start_of f → v.answer ≡ Good → StoresState v.state state b after → r ≡ told b 0 → Starts plan state r after
+fresh_stored plan state after f v b r e h n t u =
+    let i = start_is plan f v e h in
     rw (← start_state (plan_from plan) v i n)
     (stored_outcome (fresh_answer plan state) b 0 state_size (state_image v.state) state after r t
-    (start_stage plan state f b e g
+    (start_stage plan state f b e
     (opened_on v.answer (start_answer (plan_from plan)) (room state state_size) b n (start_answer_law (plan_from plan) v i) t.result))
     (uncounted b r u))
 
@@ -155,10 +153,10 @@ release_once : (s : List ℕ) (kind e : ℕ) → releases_answer s kind e ≡ (f
 unfolding releases_answer release_answer ready state_from
 release_once s kind e = once s (release_answer (state_from s) kind e) (again (checked (plan_from s)) _ _)
 
-release_is : (state : List ℕ) (kind e k x : ℕ) (f : StateFound) (v : Next) → f ≡ state_found state → f.answer ≡ Good → k ≡ min kind 16 →
-    x ≡ min e 65536 → v ≡ release_of f.state k x → v ≡ release_of (state_from state) kind e
-release_is state kind e k x f v h g p q t =
-    t ∙ ap (λ (s : State). release_of s k x) (state_is state f h g) ∙ ap₂ (release_of (state_from state)) p q
+release_is : (state : List ℕ) (kind e k x : ℕ) (f : State) (v : Next) → Ok f ≡ state_found state → k ≡ min kind 16 →
+    x ≡ min e 65536 → v ≡ release_of f k x → v ≡ release_of (state_from state) kind e
+release_is state kind e k x f v h p q t =
+    t ∙ ap (λ (s : State). release_of s k x) (state_is state f h) ∙ ap₂ (release_of (state_from state)) p q
     ∙ release_limited (state_from state) kind e
 
 release_answer_law : (s : State) (kind e : ℕ) (v : Next) → v ≡ release_of s kind e → v.answer ≡ release_answer s kind e
@@ -170,39 +168,39 @@ unfolding release_of
 release_state s kind e v i n =
     ap (λ (x : Next). x.state) i ∙ ap (λ (x : Answer). if_good x (released s kind e) s) (sym (release_answer_law s kind e v i) ∙ n)
 
-release_stage : (state : List ℕ) (kind e : ℕ) (f : StateFound) (x : Answer) → f ≡ state_found state → f.answer ≡ Good →
+release_stage : (state : List ℕ) (kind e : ℕ) (f : State) (x : Answer) → Ok f ≡ state_found state →
     x ≡ release_answer (state_from state) kind e → x ≡ releases_answer state kind e
-release_stage state kind e f x h g t = state_on state f (release_answer (state_from state) kind e) x h g t ∙ sym (release_once state kind e)
+release_stage state kind e f x h t = state_on state f (release_answer (state_from state) kind e) x h t ∙ sym (release_once state kind e)
 
-pub release_unfound : (state : List ℕ) (kind e : ℕ) (f : StateFound) (w : Refusal) (r : ℕ) → f ≡ state_found state → f.answer ≡ No w →
-    r ≡ told f.answer 0 → Releases state kind e r state
-release_unfound state kind e f w r h g t =
-    refused_outcome (releases_answer state kind e) f.answer w _ _ state r g t
-    (state_no state f (release_answer (state_from state) kind e) w h g ∙ sym (release_once state kind e))
+pub release_unfound : (state : List ℕ) (kind e : ℕ) (w : Refusal) (r : ℕ) → Err w ≡ state_found state →
+    r ≡ told (No w) 0 → Releases state kind e r state
+release_unfound state kind e w r h t =
+    refused_outcome (releases_answer state kind e) (No w) w _ _ state r refl t
+    (state_no state (release_answer (state_from state) kind e) w h ∙ sym (release_once state kind e))
 
-pub release_refused : (state : List ℕ) (kind e k x : ℕ) (f : StateFound) (v : Next) (w : Refusal) (r : ℕ) → f ≡ state_found state →
-    f.answer ≡ Good → k ≡ min kind 16 → x ≡ min e 65536 → v ≡ release_of f.state k x → v.answer ≡ No w → r ≡ told v.answer 0 →
+pub release_refused : (state : List ℕ) (kind e k x : ℕ) (f : State) (v : Next) (w : Refusal) (r : ℕ) →
+    Ok f ≡ state_found state → k ≡ min kind 16 → x ≡ min e 65536 → v ≡ release_of f k x → v.answer ≡ No w → r ≡ told v.answer 0 →
     Releases state kind e r state
-release_refused state kind e k x f v w r h g p q t n u =
+release_refused state kind e k x f v w r h p q t n u =
     refused_outcome (releases_answer state kind e) v.answer w _ _ state r n u
-    (release_stage state kind e f v.answer h g (release_answer_law (state_from state) kind e v (release_is state kind e k x f v h g p q t)))
+    (release_stage state kind e f v.answer h (release_answer_law (state_from state) kind e v (release_is state kind e k x f v h p q t)))
 
 -- a release keeps the plan
 release_plan : (state : List ℕ) (kind e : ℕ) → (released (state_from state) kind e).plan ≡ plan_from state
 unfolding released state_from
 release_plan state kind e = refl
 
-pub release_stored : (state after : List ℕ) (kind e k x : ℕ) (f : StateFound) (v : Next) (b : Answer) (r : ℕ) → f ≡ state_found state →
-    f.answer ≡ Good → k ≡ min kind 16 → x ≡ min e 65536 → v ≡ release_of f.state k x → v.answer ≡ Good →
+pub release_stored : (state after : List ℕ) (kind e k x : ℕ) (f : State) (v : Next) (b : Answer) (r : ℕ) →
+    Ok f ≡ state_found state → k ≡ min kind 16 → x ≡ min e 65536 → v ≡ release_of f k x → v.answer ≡ Good →
     AreBytes state → StoresRunning v.state state b after → r ≡ told b 0 → Releases state kind e r after
-release_stored state after kind e k x f v b r h g p q t n bytes running z =
-    let i = release_is state kind e k x f v h g p q t in
+release_stored state after kind e k x f v b r h p q t n bytes running z =
+    let i = release_is state kind e k x f v h p q t in
     let same = ap (λ (s : State). s.plan) (release_state (state_from state) kind e v i n) ∙ release_plan state kind e in
     let u = running_stores v.state state b after bytes same running in
-    let a : b ≡ v.answer = u.result ∙ state_room state f h g ∙ sym n in
+    let a : b ≡ v.answer = u.result ∙ state_room state f h ∙ sym n in
     rw (← release_state (state_from state) kind e v i n)
     (stored_outcome (releases_answer state kind e) b 0 state_size (state_image v.state) state after r u
-    (release_stage state kind e f b h g (a ∙ release_answer_law (state_from state) kind e v i)) (uncounted b r z))
+    (release_stage state kind e f b h (a ∙ release_answer_law (state_from state) kind e v i)) (uncounted b r z))
 
 -- ---- `parchbeetle_show`: a is what the showing answered
 
@@ -210,24 +208,24 @@ show_once : (s row : List ℕ) → shows_answer s row ≡ (found_answer s and_th
 unfolding shows_answer show_answer ready state_from
 show_once s row = once s (show_answer (state_from s) (length row)) (again (checked (plan_from s)) _ _)
 
-pub show_unfound : (state row : List ℕ) (f : StateFound) (w : Refusal) (r : ℕ) → f ≡ state_found state → f.answer ≡ No w →
-    r ≡ told f.answer 0 → ShowsRow state row r row
-show_unfound state row f w r h g t =
-    refused_outcome (shows_answer state row) f.answer w _ _ row r g t
-    (state_no state f (show_answer (state_from state) (length row)) w h g ∙ sym (show_once state row))
+pub show_unfound : (state row : List ℕ) (w : Refusal) (r : ℕ) → Err w ≡ state_found state →
+    r ≡ told (No w) 0 → ShowsRow state row r row
+show_unfound state row w r h t =
+    refused_outcome (shows_answer state row) (No w) w _ _ row r refl t
+    (state_no state (show_answer (state_from state) (length row)) w h ∙ sym (show_once state row))
 
-pub show_told : (state row after : List ℕ) (f : StateFound) (a : Answer) (r : ℕ) → f ≡ state_found state → f.answer ≡ Good →
-    Shows f.state row a after → r ≡ told a 0 → ShowsRow state row r after
+pub show_told : (state row after : List ℕ) (f : State) (a : Answer) (r : ℕ) → Ok f ≡ state_found state →
+    Shows f row a after → r ≡ told a 0 → ShowsRow state row r after
 unfolding buffer_shown
-show_told state row after f a r h g t u =
-    let s = state_is state f h g in
+show_told state row after f a r h t u =
+    let s = state_is state f h in
     let z : a ≡ shows_answer state row =
-    state_on state f (show_answer (state_from state) (length row)) a h g (t.result ∙ ap (λ (x : State). show_answer x (length row)) s)
+    state_on state f (show_answer (state_from state) (length row)) a h (t.result ∙ ap (λ (x : State). show_answer x (length row)) s)
     ∙ sym (show_once state row) in
     record {
       result = uncounted a r u ∙ ap (λ (x : Answer). told x (if_good x 0 0)) z;
       buffer =
-          t.buffer ∙ ap (λ (x : Answer). if_good x (row_over f.state row) row) (sym t.result ∙ z)
+          t.buffer ∙ ap (λ (x : Answer). if_good x (row_over f row) row) (sym t.result ∙ z)
           ∙ ap (λ (x : State). if_good (shows_answer state row) (row_over x row) row) s;
     }
 
@@ -245,39 +243,39 @@ advance_state : (s : State) (v : Next) → v ≡ advance_of s → v.answer ≡ G
 unfolding advance_of
 advance_state s v i n = ap (λ (x : Next). x.state) i ∙ ap (λ (x : Answer). if_good x (advanced s) s) (sym (advance_answer_law s v i) ∙ n)
 
-advance_is : (state : List ℕ) (f : StateFound) (v : Next) → f ≡ state_found state → f.answer ≡ Good → v ≡ advance_of f.state →
+advance_is : (state : List ℕ) (f : State) (v : Next) → Ok f ≡ state_found state → v ≡ advance_of f →
     v ≡ advance_of (state_from state)
-advance_is state f v h g t = t ∙ ap advance_of (state_is state f h g)
+advance_is state f v h t = t ∙ ap advance_of (state_is state f h)
 
-advance_stage : (state : List ℕ) (f : StateFound) (x : Answer) → f ≡ state_found state → f.answer ≡ Good →
+advance_stage : (state : List ℕ) (f : State) (x : Answer) → Ok f ≡ state_found state →
     x ≡ advance_answer (state_from state) → x ≡ advances_answer state
-advance_stage state f x h g t = state_on state f (advance_answer (state_from state)) x h g t ∙ sym (advance_once state)
+advance_stage state f x h t = state_on state f (advance_answer (state_from state)) x h t ∙ sym (advance_once state)
 
-pub advance_unfound : (state : List ℕ) (f : StateFound) (w : Refusal) (r : ℕ) → f ≡ state_found state → f.answer ≡ No w →
-    r ≡ told f.answer 0 → Advances state r state
-advance_unfound state f w r h g t =
-    refused_outcome (advances_answer state) f.answer w _ _ state r g t
-    (state_no state f (advance_answer (state_from state)) w h g ∙ sym (advance_once state))
+pub advance_unfound : (state : List ℕ) (w : Refusal) (r : ℕ) → Err w ≡ state_found state →
+    r ≡ told (No w) 0 → Advances state r state
+advance_unfound state w r h t =
+    refused_outcome (advances_answer state) (No w) w _ _ state r refl t
+    (state_no state (advance_answer (state_from state)) w h ∙ sym (advance_once state))
 
-pub advance_refused : (state : List ℕ) (f : StateFound) (v : Next) (w : Refusal) (r : ℕ) → f ≡ state_found state → f.answer ≡ Good →
-    v ≡ advance_of f.state → v.answer ≡ No w → r ≡ told v.answer 0 → Advances state r state
-advance_refused state f v w r h g t n u =
+pub advance_refused : (state : List ℕ) (f : State) (v : Next) (w : Refusal) (r : ℕ) → Ok f ≡ state_found state →
+    v ≡ advance_of f → v.answer ≡ No w → r ≡ told v.answer 0 → Advances state r state
+advance_refused state f v w r h t n u =
     refused_outcome (advances_answer state) v.answer w _ _ state r n u
-    (advance_stage state f v.answer h g (advance_answer_law (state_from state) v (advance_is state f v h g t)))
+    (advance_stage state f v.answer h (advance_answer_law (state_from state) v (advance_is state f v h t)))
 
 -- an advance keeps the plan
 advance_plan : (state : List ℕ) → (advanced (state_from state)).plan ≡ plan_from state
 unfolding advanced state_from
 advance_plan state = refl
 
-pub advance_stored : (state after : List ℕ) (f : StateFound) (v : Next) (b : Answer) (r : ℕ) → f ≡ state_found state → f.answer ≡ Good →
-    v ≡ advance_of f.state → v.answer ≡ Good → AreBytes state → StoresRunning v.state state b after → r ≡ told b 0 →
+pub advance_stored : (state after : List ℕ) (f : State) (v : Next) (b : Answer) (r : ℕ) → Ok f ≡ state_found state →
+    v ≡ advance_of f → v.answer ≡ Good → AreBytes state → StoresRunning v.state state b after → r ≡ told b 0 →
     Advances state r after
-advance_stored state after f v b r h g t n bytes running z =
-    let i = advance_is state f v h g t in
+advance_stored state after f v b r h t n bytes running z =
+    let i = advance_is state f v h t in
     let same = ap (λ (s : State). s.plan) (advance_state (state_from state) v i n) ∙ advance_plan state in
     let u = running_stores v.state state b after bytes same running in
-    let a : b ≡ v.answer = u.result ∙ state_room state f h g ∙ sym n in
+    let a : b ≡ v.answer = u.result ∙ state_room state f h ∙ sym n in
     rw (← advance_state (state_from state) v i n)
     (stored_outcome (advances_answer state) b 0 state_size (state_image v.state) state after r u
-    (advance_stage state f b h g (a ∙ advance_answer_law (state_from state) v i)) (uncounted b r z))
+    (advance_stage state f b h (a ∙ advance_answer_law (state_from state) v i)) (uncounted b r z))

@@ -85,7 +85,8 @@ module _ (f j : ℕ) where
   about_here zero g l h = absurd (omega arith)
   about_here (suc n) g l h =
       elim (dec_lt j n) [
-        | yes q ↦ about_append (entries_to n g) (g n) ∙ ap₂ ◌++◌ (about_here n g q h) (h n (λ e. omega arith)) ∙ append-nil (about f j (g j))
+        | yes q ↦
+            about_append (entries_to n g) (g n) ∙ ap₂ ◌++◌ (about_here n g q h) (h n (λ e. omega arith)) ∙ append-nil (about f j (g j))
         | no q ↦ let e : n ≡ j = omega arith in
             about_append (entries_to n g) (g n)
             ∙ ap₂ ◌++◌ (before n g (λ k m. h k (λ x. omega arith))) (ap (λ (k : ℕ). about f j (g k)) e)

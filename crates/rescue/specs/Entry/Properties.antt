@@ -1,26 +1,13 @@
 -- Laws of the list: what is written of it, step by step.
 -- Assumes nothing.
-use Rattle.std.specs.Prelude.{◌≡◌, refl, Bool, true, false, not, cond, List, [], ◌∷◌, ◌++◌, ℕ, suc, ◌+◌, ◌-◌, ◌*◌, ◌/◌, ◌%◌, ◌≤◌, ◌<◌, length, get_or, drop, set}
-use Rattle.std.proofs.Common.{sym, ap, ap₂, ◌∙◌, append_assoc, append-nil, add-zero, add-one, arith, length-append, length-drop, ext_get_or, get_or-drop, get_or-append-add, eq-eqb, ne_eqb}
-use Rattle.std.proofs.Math.Numerals.{add-two, add-three, add-four}
-use Rattle.std.proofs.Math.Decide.{dec_lt}
-use Rattle.std.proofs.Math.ListN.{get_or-append}
-use Rattle.std.proofs.lemmas.List.Edits.{sets}
-use Rattle.std.proofs.lemmas.Bool.{not-true, not-false}
-use Rattle.laws.specs.Written.{written}
-use Rattle.laws.specs.Written.Properties.{written_at, written_kept, written_length}
+use Rattle.std.specs.Prelude.{◌≡◌, refl, List, [], ◌∷◌, ◌++◌, ℕ, suc, ◌+◌, ◌-◌, ◌*◌, ◌≤◌, length, take, drop, set}
+use Rattle.std.proofs.Common.{sym, ap, ap₂, ◌∙◌, append_assoc, append-nil, add-zero, add-one, arith, length-append, drop-drop, take_at}
+use Rattle.std.proofs.Common.{eq-eqb, ne_eqb}
+use Rattle.std.proofs.lemmas.List.Edits.{sets, sets-eq}
 use Rattle.codec.specs.Places.Properties.{front_sets}
 use Rattle.rescue.specs.Entry.{Entry, entry, entry_bytes, listed, change, entries_to, Noted}
 
 -- ---- six bytes
-
-pub put_entry : (f j a b at : ℕ) (l : List ℕ)
-    → set (set (set (set (set (set l at f) (at + 1) j) (at + 2) (a / 256)) (at + 3) (a % 256)) (at + 4) (b / 256)) (at + 5) (b % 256)
-    ≡ sets l at (entry_bytes (entry f j a b))
-unfolding entry_bytes
-put_entry f j a b at l =
-    let five : at + 5 ≡ suc (suc (suc (suc (suc at)))) = omega arith in
-    rw (add-one at, add-two at, add-three at, add-four at, five)
 
 pub listed_append : (xs ys : List Entry) → listed (xs ++ ys) ≡ listed xs ++ listed ys
 unfolding listed
@@ -37,6 +24,17 @@ unfolding listed
 listed_length [] = refl
 listed_length (e ∷ es) =
     length-append (entry_bytes e) (listed es) ∙ omega (arith, entry_length e, listed_length es)
+
+-- six bytes stored in the part from there on that was lent and is back
+pub put_lent : (at : ℕ) (l ys : List ℕ) (e : Entry) → at + 6 ≤ length l → ys ≡ entry_bytes e
+    → take at l ++ (ys ++ drop (at + 6 - at) (drop at l)) ≡ sets l at (entry_bytes e)
+put_lent at l ys e h q =
+    let vs = entry_bytes e in
+    let w = entry_length e in
+    let m : at + 6 - at ≡ length vs = omega (arith, w) in
+    let d : drop (at + 6 - at) (drop at l) ≡ drop (at + length vs) l = ap (λ (z : ℕ). drop z (drop at l)) m ∙ drop-drop (length vs) at l in
+    ap₂ (λ (a b : List ℕ). take at l ++ (a ++ b)) q d ∙ sym (append_assoc (take at l) vs (drop (at + length vs) l))
+    ∙ sym (sets-eq vs l at (omega (arith, w)))
 
 listed_one : (e : Entry) → listed (e ∷ []) ≡ entry_bytes e
 unfolding listed
@@ -74,10 +72,6 @@ noted_one at l m e q = record { behind = omega arith; stored = q ∙ ap (λ (v :
 pub noted_same : (at : ℕ) (l : List ℕ) (f j a b : ℕ) → a ≡ b → Noted at l (change f j a b) at l
 noted_same at l f j a b e = rw (change_none f j a b e) (noted_none at l)
 
-pub noted_put : (at : ℕ) (l m : List ℕ) (f j a b : ℕ) → (a ≡ b → ⊥) → m ≡ sets l at (entry_bytes (entry f j a b))
-    → Noted at l (change f j a b) (at + 6) m
-noted_put at l m f j a b z q = rw (change_some f j a b z) (noted_one at l m (entry f j a b) q)
-
 pub noted_more : (at a r : ℕ) (l m k : List ℕ) (xs ys : List Entry) → Noted at l xs a m → Noted a m ys r k → Noted at l (xs ++ ys) r k
 noted_more at a r l m k xs ys x y =
     let n = listed_length xs in
@@ -89,19 +83,6 @@ noted_more at a r l m k xs ys x y =
           y.stored ∙ ap₂ (λ (s : List ℕ) (i : ℕ). sets s i (listed ys)) x.stored e
           ∙ sets_more (listed xs) (listed ys) l at ∙ ap (λ (v : List ℕ). sets l at v) (sym (listed_append xs ys));
     }
-
--- of a kind that is dropped: nothing, or the one entry that says so; of one that is kept: what is listed of it
-
-pub noted_dropped : (at : ℕ) (l : List ℕ) (b : Bool) (xs : List Entry) → not b ≡ true → Noted at l (cond b xs []) at l
-noted_dropped at l b xs z = rw (not-true b z) (noted_none at l)
-
-pub noted_gone : (at : ℕ) (l m : List ℕ) (b : Bool) (xs : List Entry) (e : Entry) → not b ≡ true → m ≡ sets l at (entry_bytes e)
-    → Noted at l (cond b xs (e ∷ [])) (at + 6) m
-noted_gone at l m b xs e z q = rw (not-true b z) (noted_one at l m e q)
-
-pub noted_kept : (at r : ℕ) (l m : List ℕ) (b : Bool) (xs ys : List Entry) → not b ≡ false → Noted at l xs r m
-    → Noted at l (cond b xs ys) r m
-noted_kept at r l m b xs ys z x = rw (not-false b z) x
 
 -- ---- the steps of a loop over places
 
@@ -121,26 +102,8 @@ noted_stop i n at r f l k x p q = let e : i ≡ n = omega arith in rw (← e) x
 
 -- ---- a list that stands at the front of one buffer, copied to the front of another
 
-pub copied : (n : ℕ) (xs z noted list : List ℕ) → length xs ≡ n → n ≤ length z → n ≤ length list → noted ≡ sets z 0 xs
-    → written n (λ k. get_or noted k 0) list ≡ xs ++ drop n list
-copied n xs z noted list e l m q =
-    ext_get_or 0 (written n f list) (xs ++ drop n list)
-    (written_length n f list ∙ omega (arith, length-append xs (drop n list), length-drop n list)) same
-  where
-    f : ℕ → ℕ
-    f k = get_or noted k 0
-
-    front : noted ≡ xs ++ drop (0 + length xs) z
-    front = q ∙ front_sets [] xs z z 0 refl refl (omega arith)
-
-    same : (i : ℕ) → i < length (written n f list) → get_or (written n f list) i 0 ≡ get_or (xs ++ drop n list) i 0
-    same i b =
-        elim (dec_lt i n) [
-          | yes p ↦ written_at n f list 0 i p m ∙ ap (λ (t : List ℕ). get_or t i 0) front
-              ∙ get_or-append xs (drop (0 + length xs) z) 0 i (omega (arith, e))
-              ∙ sym (get_or-append xs (drop n list) 0 i (omega (arith, e)))
-          | no p ↦ written_kept n f list 0 i (omega arith)
-              ∙ ap (λ (k : ℕ). get_or list k 0) (let g : i ≡ n + (i - n) = omega arith in g) ∙ sym (get_or-drop n list (i - n) 0)
-              ∙ sym (get_or-append-add xs (drop n list) (i - n) 0)
-              ∙ ap (λ (k : ℕ). get_or (xs ++ drop n list) k 0) (let g : length xs + (i - n) ≡ i = omega (arith, e) in g)
-        ]
+pub copied : (n : ℕ) (xs z noted list : List ℕ) → length xs ≡ n → n ≤ length z → noted ≡ sets z 0 xs
+    → take n noted ++ drop n list ≡ xs ++ drop n list
+copied n xs z noted list e l q =
+    let front : noted ≡ xs ++ drop (0 + length xs) z = q ∙ front_sets [] xs z z 0 refl refl (omega arith) in
+    ap (λ (t : List ℕ). t ++ drop n list) (ap (take n) front ∙ take_at xs (drop (0 + length xs) z) n e)

@@ -1,14 +1,11 @@
 -- Laws of rescuing: the spare bits as the code reads them, and each way out.
 -- Assumes nothing.
-use Rattle.std.specs.Prelude.{◌≡◌, refl, Bool, false, List, ◌++◌, ℕ, ◌+◌, ◌*◌, ◌-◌, ◌%◌, ◌≤◌, ◌<◌, min, get_or, take, ltb, eqb}
+use Rattle.std.specs.Prelude.{◌≡◌, refl, Bool, false, List, ◌++◌, ℕ, ◌+◌, ◌*◌, ◌%◌, ◌≤◌, ◌<◌, get_or, take, ltb, eqb}
 use Rattle.std.proofs.Math.Path.{sym, ap}
 use Rattle.std.proofs.Common.{ap₂, ◌∙◌, arith, drop-drop}
 use Rattle.std.proofs.Math.ListN.{length, drop}
 use borrow.Author.Tests.{lt-ltb, le-ltb, eq-eqb, ne_eqb, ltb-false}
-use Rattle.laws.specs.Written.{written}
 use Rattle.codec.specs.Bytes.{number_to}
-use Rattle.codec.specs.Bytes.Properties.{number_whole}
-use Rattle.codec.specs.Places.Properties.{number_handed}
 use Rattle.answer.specs.declared.Answer.{Answer}
 use Rattle.answer.specs.declared.Answer.TheVariants.{Good, No}
 use Rattle.answer.specs.declared.Refusal.{Refusal}
@@ -34,30 +31,22 @@ use Rattle.rescue.specs.Rescue.{rest_answer, rescue_answer, rescue_of, list_over
 
 -- ---- the spare bits
 
-pub header_spare_law : (s : List ℕ) (x : ℕ) → x ≡ number_to (min (min 3 8) (length s)) s → 3 ≤ length s → x % 16 ≡ header_spare s
+pub header_spare_law : (s : List ℕ) → number_to 3 (drop 0 s) % 16 ≡ header_spare s
 unfolding header_spare
-header_spare_law s x e l =
-    let f = header_fields_law s x (number_whole 3 s x e (omega arith) l) in ap (λ (v : List ℕ). get_or v 4 0) f
+header_spare_law s = ap (λ (v : List ℕ). get_or v 4 0) (header_fields_law s (number_to 3 s) refl)
 
-pub project_spare_law : (s : List ℕ) (j from to x : ℕ) → from ≡ 3 + 2 * j → to ≡ from + 2
-    → x ≡ number_to (min (min 2 8) (length (take (to - from) (drop from s)))) (take (to - from) (drop from s)) → 3 + 2 * j + 2 ≤ length s
-    → x % 4 ≡ project_spare_at s j
+pub project_spare_law : (s : List ℕ) (j : ℕ) → number_to 2 (drop (3 + 2 * j) s) % 4 ≡ project_spare_at s j
 unfolding project_spare_at project_spare
-project_spare_law s j from to x a b e l =
-    let n : x ≡ number_to 2 (drop (3 + 2 * j) s) = number_handed 2 (3 + 2 * j) s x (rw (b, a) at e) l (omega arith) in
-    let f = project_fields_law (drop (2 * j) (drop 3 s)) x (n ∙ ap (number_to 2) (sym (drop-drop (2 * j) 3 s))) in
-    ap (λ (v : List ℕ). get_or v 2 0) f
+project_spare_law s j =
+    let n = ap (number_to 2) (sym (drop-drop (2 * j) 3 s)) in
+    ap (λ (v : List ℕ). get_or v 2 0) (project_fields_law (drop (2 * j) (drop 3 s)) (number_to 2 (drop (3 + 2 * j) s)) n)
 
-pub kind_spare_law : (s : List ℕ) (projects i from to x : ℕ) → from ≡ 3 + 2 * projects + 5 * i → to ≡ from + 5
-    → x ≡ number_to (min (min 5 8) (length (take (to - from) (drop from s)))) (take (to - from) (drop from s))
-    → 3 + 2 * projects + 5 * i + 5 ≤ length s → x % 2 ≡ kind_spare_at s projects i
+pub kind_spare_law : (s : List ℕ) (projects i : ℕ) → number_to 5 (drop (3 + 2 * projects + 5 * i) s) % 2 ≡ kind_spare_at s projects i
 unfolding kind_spare_at kind_spare
-kind_spare_law s projects i from to x a b e l =
-    let n : x ≡ number_to 5 (drop (3 + 2 * projects + 5 * i) s) =
-    number_handed 5 (3 + 2 * projects + 5 * i) s x (rw (b, a) at e) l (omega arith) in
-    let f = kind_fields_law (drop (5 * i) (drop (3 + 2 * projects) s)) x
-    (n ∙ ap (number_to 5) (sym (drop-drop (5 * i) (3 + 2 * projects) s))) in
-    ap (λ (v : List ℕ). get_or v 4 0) f
+kind_spare_law s projects i =
+    let n = ap (number_to 5) (sym (drop-drop (5 * i) (3 + 2 * projects) s)) in
+    ap (λ (v : List ℕ). get_or v 4 0)
+    (kind_fields_law (drop (5 * i) (drop (3 + 2 * projects) s)) (number_to 5 (drop (3 + 2 * projects + 5 * i) s)) n)
 
 -- ---- the steps of the loops that write the list
 
@@ -65,7 +54,8 @@ module _ (at a r i : ℕ) (l m k : List ℕ) where
   pub project_spare_again : (s : List ℕ) (x : ℕ) → Noted at l (entries_to i (project_spare_change s)) a m → Noted a m (change 2 i x 0) r k
       → x ≡ project_spare_at s i → Noted at l (entries_to (i + 1) (project_spare_change s)) r k
   unfolding project_spare_change
-  project_spare_again s x g h e = noted_again i at a r (project_spare_change s) l m k (change 2 i x 0) g h (ap (λ (y : ℕ). change 2 i y 0) e)
+  project_spare_again s x g h e =
+      noted_again i at a r (project_spare_change s) l m k (change 2 i x 0) g h (ap (λ (y : ℕ). change 2 i y 0) e)
 
   pub kind_spare_again : (s : List ℕ) (p : Plan) (b : Bool) (x : ℕ) → Noted at l (entries_to i (kind_spare_change s p)) a m
       → Noted a m (spare_entries b i x) r k → b ≡ kept_at p i → x ≡ kind_spare_at s p.projects i
@@ -74,8 +64,11 @@ module _ (at a r i : ℕ) (l m k : List ℕ) where
   kind_spare_again s p b x g h e f =
       noted_again i at a r (kind_spare_change s p) l m k (spare_entries b i x) g h (ap₂ (λ (c : Bool) (y : ℕ). spare_entries c i y) e f)
 
-  pub project_again : (p : Plan) (w : Project) → Noted at l (entries_to i (project_changes p)) a m
-      → Noted a m (project_entries i (project_of p i) w) r k → w ≡ project_for_at p i → Noted at l (entries_to (i + 1) (project_changes p)) r k
+  pub project_again : (p : Plan) (w : Project) →
+      Noted at l (entries_to i (project_changes p)) a m →
+      Noted a m (project_entries i (project_of p i) w) r k →
+      w ≡ project_for_at p i →
+      Noted at l (entries_to (i + 1) (project_changes p)) r k
   unfolding project_changes
   project_again p w g h e =
       noted_again i at a r (project_changes p) l m k (project_entries i (project_of p i) w) g h (ap (project_entries i (project_of p i)) e)
@@ -192,16 +185,15 @@ module _ (s list : List ℕ) where
               refused_rescue r x _ e f g b
               (rest_on x (rw (twenty_passed, lt-ltb (length list) (list_size s) (omega arith)) b))
 
-          pub list_written : (after : List ℕ) → count ≤ length list → count ≤ length zeros
-              → after ≡ written count (λ k. get_or noted k 0) list
+          pub list_written : (after : List ℕ) → count ≤ length zeros → after ≡ take count noted ++ drop count list → count ≤ length list
               → Rescues s list (record { answer = Good; plan = q; count = count }) after
           unfolding rest_answer rescue_of list_over
-          list_written after l z e =
+          list_written after z e l =
               let c = count_is in
               let n : length (list_of s) ≡ count = listed_length (changes s) ∙ sym c in
               let a : Good ≡ rescue_answer s list = rest_on Good (rw (twenty_passed, le-ltb (length list) (list_size s) (omega arith))) in
               let t : after ≡ list_of s ++ drop (list_size s) list =
-              e ∙ copied count (list_of s) zeros noted list n z l changes_all.stored ∙ ap (λ (k : ℕ). list_of s ++ drop k list) c in
+              e ∙ copied count (list_of s) zeros noted list n z changes_all.stored ∙ ap (λ (k : ℕ). list_of s ++ drop k list) c in
               record { result = rw (← a) (λ i. record { answer = Good; plan = made_is i; count = c i }); buffer = rw (← a) t }
 
     pub counts_refused : (r : Rescued) (w : Refusal) → v.answer ≡ No w → r.answer ≡ v.answer → r.plan ≡ no_plan → r.count ≡ 0

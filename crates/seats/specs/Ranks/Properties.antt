@@ -1,6 +1,7 @@
 -- Laws of ranks counted among standings: the steps of the loops, and that the difference of two counts is the rank.
 -- Assumes nothing.
-use Rattle.std.specs.Prelude.{◌≡◌, refl, ◌≢◌, Bool, false, ◌&&◌, ◌||◌, List, ℕ, ◌+◌, ◌-◌, ◌*◌, ◌/◌, ◌≤◌, ◌<◌, leb, ltb, eqb, set, replicate}
+use Rattle.std.specs.Prelude.{◌≡◌, refl, ◌≢◌, Bool, false, ◌&&◌, ◌||◌, List, ℕ, ◌+◌, ◌-◌, ◌*◌, ◌/◌, ◌≤◌, ◌<◌, zero, suc, leb, ltb, eqb}
+use Rattle.std.specs.Prelude.{get_or, set, replicate, Option, Some, None}
 use Rattle.std.proofs.Common.{sym, ◌∙◌, get_or-set_same, get_or-set_other}
 use Rattle.std.proofs.Math.Path.{ap}
 use Rattle.std.proofs.Math.Bool.{cond}
@@ -23,7 +24,6 @@ use Rattle.laws.specs.Count.Properties.{
   between_high,
 }
 use Rattle.laws.specs.Ranking.{rank_in, sooner}
-use Rattle.laws.specs.Written.{written}
 use Rattle.laws.specs.Written.Properties.{written_none, written_again, stored_at, stored_past}
 use Rattle.seats.specs.Seats.{at, rank_by}
 use Rattle.seats.specs.Ranks.{least_of, standing_of, reaches, at_or_after, rank_among, Within28Bits, Standing, Standings, Known, Firsts}
@@ -209,29 +209,33 @@ counted_all r x k count e a b = count_stop count k 16 (reaches r x) e a b
 
 -- ---- each project's count, made once
 
-pub firsts_none : (r : List ℕ) → Firsts r (replicate 8 0)
-unfolding Known written
-firsts_none r = record { size = length-replicate {A = ℕ} 8 0; known = λ j h. absurd (h (stored_past 0 8 (λ k. 0) j (omega arith))) }
+none_known : (n j : ℕ) → get_or (replicate {A = Option ℕ} n None) j None ≡ None
+none_known zero j = refl
+none_known (suc n) zero = refl
+none_known (suc n) (suc j) = none_known n j
 
-pub known_right : (r : List ℕ) (least known : ℕ) → Known r least known → (known ≡ 0 → ⊥) → known ≡ at_or_after r least
+pub firsts_none : (r : List ℕ) → Firsts r (replicate 8 None)
 unfolding Known
-known_right r least known k h = k h
+firsts_none r = record { size = length-replicate {A = Option ℕ} 8 None; known = λ j x e. let none = none_known 8 j in absurd (cc) }
 
 -- w is the number of a project plus 1
-module _ (r f : List ℕ) (s : Firsts r f) (w : ℕ) (h : w ≡ 0 → ⊥) where
+module _ (r : List ℕ) (f : List (Option ℕ)) (s : Firsts r f) (w : ℕ) (h : w ≡ 0 → ⊥) where
   number : w - 1 + 1 ≡ w
   number = omega (arith, h)
 
-  pub first_known : Known r (w * 1048576) (at f (w - 1))
+  pub first_known : Known r (w * 1048576) (get_or f (w - 1) None)
   unfolding least_of
   first_known = rw number at (s.known (w - 1))
 
-  pub firsts_again : (v : ℕ) → w ≤ 8 → v ≡ at_or_after r (w * 1048576) → Firsts r (set f (w - 1) v)
+  pub firsts_again : (v : ℕ) → w ≤ 8 → v ≡ at_or_after r (w * 1048576) → Firsts r (set f (w - 1) (Some v))
   unfolding least_of Known
   firsts_again v l e = record {
-    size = length-set f (w - 1) v ∙ s.size;
+    size = length-set f (w - 1) (Some v) ∙ s.size;
     known = λ k. elim (ℕ_discrete k (w - 1)) [
-      | yes q ↦ λ _. rw (q, number) (get_or-set_same f (w - 1) v 0 (omega (arith, s.size, h)) ∙ e)
-      | no q ↦ λ z. rw (get_or-set_other f (w - 1) k v 0 q) (s.known k (rw (get_or-set_other f (w - 1) k v 0 q) at z))
+      | yes q ↦ λ x z.
+          let same = get_or-set_same f (w - 1) (Some v) None (omega (arith, s.size, h)) in
+          let mine : v ≡ x = cc in
+          rw (q, number) (sym mine ∙ e)
+      | no q ↦ λ x z. s.known k x (rw (get_or-set_other f (w - 1) k (Some v) None q) at z)
     ];
   }

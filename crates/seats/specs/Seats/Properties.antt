@@ -70,7 +70,10 @@ module _ (works until low end : List ℕ) (n : ℕ) where
   unfolding seats_by
   seats_none l = rw (lt-ltb 16 n l)
 
-  pub seats_all : (x : List ℕ) → n ≤ 16 → x ≡ written n (seat_by works until low end n) (replicate 16 0) → x ≡ seats_by works until low end n
+  pub seats_all : (x : List ℕ) →
+      n ≤ 16 →
+      x ≡ written n (seat_by works until low end n) (replicate 16 0) →
+      x ≡ seats_by works until low end n
   unfolding seats_by
   seats_all x l e = rw (le-ltb 16 n l) e
 

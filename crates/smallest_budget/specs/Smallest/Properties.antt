@@ -141,7 +141,9 @@ module _ (p : Plan) (j : ℕ) where
       summed = opened_on a (served_at_most p j) (sum_fits p j) s e q (g ∙ ap (λ (n : ℕ). budgets_fit (with_budget p j n)) f)
 
       -- 7
-      pub seven : (w : Refusal) → s ≡ No w → record { answer = s; budget = 0 } ≡ smallest_with p j (served_at_most p j and_then sum_fits p j)
+      pub seven : (w : Refusal) →
+          s ≡ No w →
+          record { answer = s; budget = 0 } ≡ smallest_with p j (served_at_most p j and_then sum_fits p j)
       seven w h = answered_no s _ w h summed
 
       pub found : s ≡ Good → record { answer = s; budget = b } ≡ smallest_with p j (served_at_most p j and_then sum_fits p j)

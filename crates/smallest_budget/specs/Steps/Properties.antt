@@ -1,15 +1,21 @@
 -- Laws of the steps.
 -- Assumes nothing.
-use Rattle.std.specs.Prelude.{◌≡◌, refl, Bool, true, false, cond, List, ℕ, zero, suc, ◌+◌, ◌*◌, ◌/◌, ◌%◌, ◌≤◌, ◌<◌, ltb, set, get_or, replicate}
-use Rattle.std.proofs.Common.{sym, ap, ◌∙◌, mod-eq_of_lt, mod-lt, mul-le-mul, mul-le-mul_right, div-add-mod', div-lt_iff_lt-mul, zero-mul, lt-ltb, le-ltb, eq-eqb, ne_eqb}
+use Rattle.std.specs.Prelude.{◌≡◌, refl, Bool, true, false, cond, List, ℕ, zero, suc, ◌+◌, ◌*◌, ◌/◌, ◌%◌, ◌≤◌, ◌<◌, ltb, set, get_or}
+use Rattle.std.specs.Prelude.{length, take, replicate}
+use Rattle.std.proofs.Common.{sym, ap, ◌∙◌, mod-eq_of_lt, mod-lt, mul-le-mul, mul-le-mul_right, div-add-mod', div-lt_iff_lt-mul, zero-mul}
+use Rattle.std.proofs.Common.{lt-ltb, le-ltb, eq-eqb, ne_eqb}
 use Rattle.std.proofs.Math.Path.{fun_ext}
 use Rattle.std.proofs.Math.Decide.{dec_lt}
 use Rattle.std.proofs.Math.Nat.{mod-mod, zero-add}
+use mir.Val.{bool_byte}
 use native.Mathlib.Omega.{arith}
 use Rattle.std.proofs.Math.ListN.{length-replicate}
+use Rattle.std.proofs.lemmas.List.{get_or-take, length-take-le}
 use Rattle.laws.specs.Written.{written}
-use Rattle.laws.specs.Written.Properties.{written_again, written_at}
+use Rattle.laws.specs.Written.Properties.{written_again, written_at, written_length}
 use Rattle.plan.specs.declared.Plan.{Plan}
+use Rattle.plan.specs.Record.{no_kind}
+use Rattle.layout.proofs.Laws.Front.{front_most, front_at, front_end}
 use Rattle.answer.specs.declared.Answer.{Answer}
 use Rattle.answer.specs.declared.Answer.TheVariants.{Good}
 use Rattle.answer.specs.Answer.{not_admitted, each_to}
@@ -29,19 +35,24 @@ use Rattle.smallest_budget.specs.Rotation.{width_anywhere, excess_anywhere}
 use Rattle.smallest_budget.specs.Smallest.{width_with, excess_with, slice_with, most_budget, least_budget}
 use Rattle.smallest_budget.specs.Smallest.{fitted_with, served_with, served_at_most}
 use Rattle.smallest_budget.specs.Smallest.Properties.{least_most, least_some}
-use Rattle.smallest_budget.specs.Steps.{cards_with, asked_of, fit_by, fitted_by, served_by, fit_with}
+use Rattle.smallest_budget.specs.Steps.{cards_with, asked_at, nothing_asked, asked_of, fit_by, fitted_by, served_by, fit_with}
 
 -- ---- the cards of a budget from cell 0 on
 
-pub more_yes : (w : ℕ) (t : Bool) → t ≡ true → w + 1 ≡ w + cond t 1 0
-more_yes w t e = rw e
+-- a test as a number
+as_cond : (t : Bool) → bool_byte t ≡ cond t 1 0
+as_cond true = refl
+as_cond false = refl
 
-pub more_no : (w : ℕ) (t : Bool) → t ≡ false → w ≡ w + cond t 1 0
-more_no w t e = rw e (omega arith)
+pub more_most : (b F v : ℕ) (t : Bool) → 0 < F → b ≤ 8 * F → v ≡ bool_byte t → b / F + v < 256
+more_most b F v t some l e = go t e
+  where
+    most : b / F < 9
+    most = (div-lt_iff_lt-mul {k = F} {x = b} {y = 9} some).1 (omega arith)
 
-pub more_most : (w v : ℕ) (t : Bool) → w ≤ 8 → v ≡ w + cond t 1 0 → v < 256
-more_most w v true l e = omega arith
-more_most w v false l e = omega arith
+    go : (t : Bool) → v ≡ bool_byte t → b / F + v < 256
+    go true e = omega (arith, most)
+    go false e = omega (arith, most)
 
 module _ (b F s : ℕ) (l : s < F) where
   -- the rest of less than a frame: one card at each of its first slices
@@ -69,14 +80,10 @@ module _ (b F s : ℕ) (l : s < F) where
       let c = rw (e, zero-add b) at (run_closed 0 b F s some) in
       omega (arith, c, below_start F s l, ap (λ (n : ℕ). cards_below F n s) d, below_frames F s l (b % F) (b / F), rest_below (b % F) r)
 
-  pub cards_again : (whole rest v : ℕ) (before after : List ℕ) → whole ≡ b / F → rest ≡ b % F → v ≡ whole + cond (ltb s rest) 1 0 →
-      before ≡ written s (held_from 0 b F) after → set before s v ≡ written (s + 1) (held_from 0 b F) after
-  cards_again whole rest v before after e f g h =
-      written_again s (held_from 0 b F) after before v h (g ∙ rw (e, f) (sym laid))
-
--- at most eight cards for the whole frames
-pub whole_most : (b F w : ℕ) → 0 < F → b ≤ 8 * F → w ≡ b / F → w ≤ 8
-whole_most b F w some l e = let h : b / F < 9 = (div-lt_iff_lt-mul {k = F} {x = b} {y = 9} some).1 (omega arith) in omega arith
+  pub cards_again : (v : ℕ) (before after : List ℕ) → v ≡ bool_byte (ltb s (b % F)) → before ≡ written s (held_from 0 b F) after →
+      set before s (b / F + v) ≡ written (s + 1) (held_from 0 b F) after
+  cards_again v before after e h =
+      written_again s (held_from 0 b F) after before (b / F + v) h (ap (λ (n : ℕ). b / F + n) (e ∙ as_cond (ltb s (b % F))) ∙ sym laid)
 
 -- a project of a plan in order has a place
 pub project_fits : (p : Plan) (j : ℕ) (a : Answer) → a ≡ Good → a ≡ checked_open p j → j < 256
@@ -84,40 +91,51 @@ project_fits p j a e q = let o = open_opened p j a e q in omega (arith, o.its_pl
 
 -- ---- a judgement by what is asked of each kind
 
-pub asked_stop : (p : Plan) (i : ℕ) (owner length deadline works : List ℕ) →
-    owner ≡ written i (λ (k : ℕ). (kind_of p k).project) (replicate 16 0) →
-    length ≡ written i (λ (k : ℕ). (kind_of p k).length) (replicate 16 0) →
-    deadline ≡ written i (λ (k : ℕ). (kind_of p k).deadline) (replicate 16 0) → works ≡ written i (workload p) (replicate 16 0) →
-    i ≤ p.kinds → p.kinds ≤ i → record { owner = owner; length = length; deadline = deadline; workload = works } ≡ asked_of p
+pub asked_again : (p : Plan) (i : ℕ) (before after : List Asked) (w : ℕ) → i < length (take p.kinds p.kind) →
+    before ≡ written i (asked_at p) after → w ≡ workload p i →
+    set before i (record {
+      project = (get_or (take p.kinds p.kind) i no_kind).project;
+      length = (get_or (take p.kinds p.kind) i no_kind).length;
+      deadline = (get_or (take p.kinds p.kind) i no_kind).deadline;
+      workload = w;
+    }) ≡ written (i + 1) (asked_at p) after
+asked_again p i before after w l e q =
+    written_again i (asked_at p) after before _ e (rw (front_at p.kinds p.kind no_kind i l, q))
+
+pub asked_stop : (p : Plan) (j i : ℕ) (asked : List Asked) → InOrderOpen p j → length p.kind ≡ 16 →
+    asked ≡ written i (asked_at p) (replicate 16 nothing_asked) → i ≤ length (take p.kinds p.kind) → length (take p.kinds p.kind) ≤ i →
+    asked ≡ asked_of p
 unfolding asked_of
-asked_stop p i owner length deadline works e f g h l m =
-    let s : i ≡ p.kinds = omega arith in rw (e, f, g, h, s)
+asked_stop p j i asked o long e a b =
+    e ∙ ap (λ (n : ℕ). written n (asked_at p) (replicate 16 nothing_asked))
+    (front_end p.kinds p.kind i (omega (arith, o.counts.kinds_most)) a b)
 
 each_like : (n : ℕ) (f g : ℕ → Answer) → ((i : ℕ) → i < n → f i ≡ g i) → each_to n f ≡ each_to n g
 unfolding each_to
 each_like zero f g h = refl
 each_like (suc n) f g h = rw (each_like n f g (λ i l. h i (omega arith)), h n (omega arith))
 
-module _ (j : ℕ) (owner : List ℕ) (i : ℕ) where
-  pub by_skipped : (fit : ℕ → Fit) → (get_or owner i 0 ≡ j → ⊥) → Good ≡ fitted_by j owner fit i
-  by_skipped fit n = rw (ne_eqb (get_or owner i 0) j n)
+module _ (j : ℕ) (asked : List Asked) (i : ℕ) where
+  pub by_skipped : (fit : ℕ → Fit) → ((get_or asked i nothing_asked).project ≡ j → ⊥) → Good ≡ fitted_by j asked fit i
+  by_skipped fit n = rw (ne_eqb (get_or asked i nothing_asked).project j n)
 
-  module _ (frame ceiling : ℕ) (length deadline workload : List ℕ) (b : ℕ) (r : Fit) (cards : List ℕ) (c : cards ≡ cards_with b frame)
-      (C : ℕ) (g : C ≡ get_or length i 0) (f : r ≡ fit_of frame cards ceiling C (get_or workload i 0) (get_or deadline i 0)) where
-    by_is : r ≡ fit_by frame ceiling length deadline workload b i
-    by_is = f ∙ rw (c, g)
+  module _ (frame ceiling b : ℕ) (r : Fit) (cards : List ℕ) (c : cards ≡ cards_with b frame)
+      (f : r ≡ (let kind = get_or asked i nothing_asked in fit_of frame cards ceiling kind.length kind.workload kind.deadline)) where
+    by_is : r ≡ fit_by frame ceiling asked b i
+    by_is = f ∙ rw c
 
-    pub excess_room : 0 < frame → frame ≤ 64 → C < 65536 → r.excess < 4294967296
+    pub excess_room : 0 < frame → frame ≤ 64 → (get_or asked i nothing_asked).length < 65536 → r.excess < 4294967296
     excess_room some most room =
-        let e = f ∙ fit_framed frame cards ceiling C (get_or workload i 0) (get_or deadline i 0) (λ z. omega arith) most in
-        rw e (omega (arith, excess_within frame (held_at frame cards) C (get_or workload i 0) (get_or deadline i 0) ceiling))
+        let kind = get_or asked i nothing_asked in
+        let e = f ∙ fit_framed frame cards ceiling kind.length kind.workload kind.deadline (λ z. omega arith) most in
+        rw e (omega (arith, excess_within frame (held_at frame cards) kind.length kind.workload kind.deadline ceiling))
 
-    pub by_lacks : (a : Answer) → get_or owner i 0 ≡ j → r.width ≡ 0 → a ≡ not_admitted i r.excess r.slice →
-        a ≡ fitted_by j owner (fit_by frame ceiling length deadline workload b) i
-    by_lacks a e z q = q ∙ rw (eq-eqb (get_or owner i 0) j e, ← by_is, eq-eqb r.width 0 z)
+    pub by_lacks : (a : Answer) → (get_or asked i nothing_asked).project ≡ j → r.width ≡ 0 → a ≡ not_admitted i r.excess r.slice →
+        a ≡ fitted_by j asked (fit_by frame ceiling asked b) i
+    by_lacks a e z q = q ∙ rw (eq-eqb (get_or asked i nothing_asked).project j e, ← by_is, eq-eqb r.width 0 z)
 
-    pub by_fits : get_or owner i 0 ≡ j → (r.width ≡ 0 → ⊥) → Good ≡ fitted_by j owner (fit_by frame ceiling length deadline workload b) i
-    by_fits e n = rw (eq-eqb (get_or owner i 0) j e, ← by_is, ne_eqb r.width 0 n)
+    pub by_fits : (get_or asked i nothing_asked).project ≡ j → (r.width ≡ 0 → ⊥) → Good ≡ fitted_by j asked (fit_by frame ceiling asked b) i
+    by_fits e n = rw (eq-eqb (get_or asked i nothing_asked).project j e, ← by_is, ne_eqb r.width 0 n)
 
 -- ---- a plan in order but for one budget
 
@@ -209,19 +227,19 @@ module _ (p : Plan) (j : ℕ) (o : InOrderOpen p j) where
           o.counts.frame_most,
         )
 
-    asked_at : (f : ℕ → ℕ) → get_or (written p.kinds f (replicate 16 0)) i 0 ≡ f i
-    asked_at f =
-        written_at p.kinds f (replicate 16 0) 0 i l (omega (arith, length-replicate {A = ℕ} 16 0, o.counts.kinds_most))
+    kind_at : get_or (take p.kinds (asked_of p)) i nothing_asked ≡ asked_at p i
+    unfolding asked_of
+    kind_at =
+        get_or-take p.kinds (asked_of p) i nothing_asked l
+        ∙ written_at p.kinds (asked_at p) (replicate 16 nothing_asked) nothing_asked i l
+        (omega (arith, length-replicate {A = Asked} 16 nothing_asked, o.counts.kinds_most))
 
     -- what `least_fit` finds of the cards from cell 0 on is the fit on the layout as it is
-    fit_is : (b : ℕ) →
-        fit_by p.frame (project_of p j).ceiling (asked_of p).length (asked_of p).deadline (asked_of p).workload b i ≡ fit_with p j b i
-    unfolding asked_of width_with excess_with slice_with
+    fit_is : (b : ℕ) → fit_by p.frame (project_of p j).ceiling (take p.kinds (asked_of p)) b i ≡ fit_with p j b i
+    unfolding width_with excess_with slice_with
     fit_is b =
         rw (
-          asked_at (λ (k : ℕ). (kind_of p k).length),
-          asked_at (λ (k : ℕ). (kind_of p k).deadline),
-          asked_at (workload p),
+          kind_at,
           fit_framed p.frame (cards_with b p.frame) (project_of p j).ceiling (kind_of p i).length (workload p i)
               (kind_of p i).deadline (λ z. omega (arith, o.counts.some_slice)) o.counts.frame_most,
           cards_held b,
@@ -231,25 +249,34 @@ module _ (p : Plan) (j : ℕ) (o : InOrderOpen p j) where
               (project_of p j).ceiling,
         )
 
-    owner_at : get_or (asked_of p).owner i 0 ≡ (kind_of p i).project
-    unfolding asked_of
-    owner_at = asked_at (λ (k : ℕ). (kind_of p k).project)
-
     fitted_is : (b : ℕ) →
-        fitted_by j (asked_of p).owner
-        (fit_by p.frame (project_of p j).ceiling (asked_of p).length (asked_of p).deadline (asked_of p).workload b) i ≡ fitted_with p j b i
-    fitted_is b = rw (owner_at, fit_is b)
+        fitted_by j (take p.kinds (asked_of p)) (fit_by p.frame (project_of p j).ceiling (take p.kinds (asked_of p)) b) i
+        ≡ fitted_with p j b i
+    fitted_is b = rw (fit_is b, kind_at)
+
+  -- as many are lent as there are kinds
+  pub asked_many : length (take p.kinds (asked_of p)) ≡ p.kinds
+  unfolding asked_of
+  asked_many =
+      length-take-le p.kinds (asked_of p) (omega (
+        arith,
+        written_length p.kinds (asked_at p) (replicate 16 nothing_asked),
+        length-replicate {A = Asked} 16 nothing_asked,
+        o.counts.kinds_most,
+      ))
 
   -- a judgement by what is asked of each kind is the judgement of the plan
-  pub served_is : (b : ℕ) (owner length deadline workload : List ℕ) (a : Answer) → owner ≡ (asked_of p).owner → length ≡ (asked_of p).length →
-      deadline ≡ (asked_of p).deadline → workload ≡ (asked_of p).workload →
-      a ≡ served_by j p.kinds owner (fit_by p.frame (project_of p j).ceiling length deadline workload b) → a ≡ served_with p j b
+  pub served_is : (b : ℕ) (asked : List Asked) (a : Answer) → asked ≡ take p.kinds (asked_of p) →
+      a ≡ served_by j asked (fit_by p.frame (project_of p j).ceiling asked b) → a ≡ served_with p j b
   unfolding served_by served_with
-  served_is b owner length deadline workload a f g h w e =
-      e ∙ rw (f, g, h, w) (each_like p.kinds _ (fitted_with p j b) (λ i l. fitted_is i l b))
+  served_is b asked a f e = e ∙ rw (f, asked_many) (each_like p.kinds _ (fitted_with p j b) (λ i l. fitted_is i l b))
 
-  pub served_open : (b : ℕ) (k : Asked) (a : Answer) → k ≡ asked_of p →
-      a ≡ served_by j p.kinds k.owner (fit_by p.frame (project_of p j).ceiling k.length k.deadline k.workload b) →
-      a ≡ served_with p j b
-  served_open b k a e f =
-      served_is b k.owner k.length k.deadline k.workload a (rw e) (rw e) (rw e) (rw e) f
+  pub served_open : (b : ℕ) (all : List Asked) (a : Answer) → all ≡ asked_of p →
+      a ≡ served_by j (take p.kinds all) (fit_by p.frame (project_of p j).ceiling (take p.kinds all) b) → a ≡ served_with p j b
+  served_open b all a e f = served_is b (take p.kinds all) a (ap (take p.kinds) e) f
+
+  pub asked_most : (asked : List Asked) → asked ≡ take p.kinds (asked_of p) → length asked ≤ 16
+  asked_most asked e = omega (arith, ap (λ (l : List Asked). length l) e, asked_many, kinds_room)
+
+  pub open_most : (all : List Asked) → length (take p.kinds all) ≤ 16
+  open_most all = omega (arith, front_most p.kinds all, kinds_room)

@@ -1,24 +1,30 @@
 -- Laws of the least k, of the excess and of the bad slice beside them.
 -- Assumes nothing.
-use Rattle.std.specs.Prelude.{◌≡◌, Bool, true, false, not, List, eqb, get_or, set, replicate}
+use Rattle.std.specs.Prelude.{◌≡◌, Bool, true, false, not, List, eqb, get_or, replicate}
 use Rattle.std.proofs.Math.Path.{refl, sym, ap, ap₂, fun_ext}
 use Rattle.std.proofs.Common.{◌∙◌, true≢false, zero-add, le-div_iff_mul-le, add-one}
 use Prim.Native.Nat.{ℕ, zero, suc, ◌+◌, ◌-◌, ◌*◌, ◌/◌, ◌%◌, ◌≤◌, ◌<◌, min}
-use Rattle.std.proofs.Math.Nat.{mod-lt, mod-mod, add-mod_right, mul_comm}
+use Rattle.std.proofs.Math.Nat.{mod-lt, mod-mod, mod-eq_of_lt, mod-eq-sub-mod, add-mod_right, mul_comm}
 use Rattle.std.proofs.Math.Decide.{dec_le, dec_lt}
 use native.Mathlib.Omega.{arith}
-use Rattle.std.proofs.lemmas.List.{length-replicate}
+use Rattle.std.proofs.lemmas.List.{length-replicate, length-append, length-take, length-take-le, length-drop, get_or-take, get_or-drop}
+use Rattle.std.proofs.lemmas.List.{take_at, drop_at, ext_get_or}
+use Rattle.std.proofs.Math.ListN.{get_or-append}
+use Rattle.std.proofs.Math.Seq.{get_or-append_right}
+use Rattle.std.proofs.Common.{length, take, drop, ◌++◌}
+use borrow.Rule.Slice.PartMut.{put_mid}
 use borrow.Author.Tests.{eq-eqb, ne_eqb, lt-ltb, le-ltb, le-leb, lt-leb, leb-true, leb-false}
 use Rattle.laws.specs.Least.{least_to, least_place}
 use Rattle.laws.specs.Least.Properties.{least_suc, least_le, place_below, place_attained, place_first, place_here, place_kept}
 use Rattle.laws.specs.First.Properties.{first_none, first_on, first_here, first_le, first_holds, first_least, first_zero, first_some}
+use Rattle.laws.specs.Sum.Properties.{sum_none, sum_again, sum_cong}
 use Rattle.laws.specs.Written.{written}
-use Rattle.laws.specs.Written.Properties.{written_again, written_at}
+use Rattle.laws.specs.Written.Properties.{written_at, written_kept, written_length}
 use Rattle.supply.specs.Supply.{Periodic, window, supply, bad_slice}
 use Rattle.supply.proofs.Laws.Supply.{window_none, window_more, supply_whole, bad_whole, bad_below, bad_no_width}
 use Rattle.supply.specs.Greatest.Properties.{greatest_le, greatest_holds, greatest_above, greatest_only}
 use Rattle.supply.specs.Fit.{fits_at, least_width, allowed_length, least_excess, named_width, named_slice, held_at, fit_of}
-use Rattle.supply.specs.Fit.{supplied_of, least_with, least_of, supplied_to, short_by, short_at, short_to}
+use Rattle.supply.specs.Fit.{supplied_of, least_with, least_of, supplied_to, counted_to, short_by, short_at, short_to}
 use Rattle.supply.specs.declared.Fit.{Fit}
 use Rattle.supply.specs.declared.Least.{Least}
 
@@ -320,13 +326,74 @@ pub held_turn : (F : ℕ) (held : List ℕ) → Periodic F (held_at F held)
 unfolding held_at
 held_turn F held s = rw (add-mod_right s F)
 
-pub slice_below : (s frame n : ℕ) → 0 < frame → frame ≤ n → s % frame < n
-slice_below s frame n p l = omega (arith, mod-lt s p)
-
-pub held_again : (s frame : ℕ) (held before l : List ℕ) → before ≡ written s (held_at frame held) l →
-    set before s (get_or held (s % frame) 0) ≡ written (s + 1) (held_at frame held) l
+-- one frame copied to two places of a list of zeros
+pub two_frames_of : (F : ℕ) (held a b : List ℕ) → 0 < F → F ≤ 64 → length held ≡ 64 → a ≡ take F held → b ≡ take F held →
+    put_mid F (2 * F - F) (a ++ drop F (replicate 128 0)) b ≡ written (2 * F) (held_at F held) (replicate 128 0)
 unfolding held_at
-held_again s frame held before l e = written_again s (held_at frame held) l before (get_or held (s % frame) 0) e refl
+two_frames_of F held a b some most room e f =
+    rw (take_at a zeros F long_a, drop_at a zeros F long_a)
+    (ext_get_or 0 (a ++ (b ++ end)) (written (2 * F) (held_at F held) (replicate 128 0)) same_length at)
+  where
+    zeros : List ℕ
+    zeros = drop F (replicate 128 0)
+
+    end : List ℕ
+    end = drop (2 * F - F) zeros
+
+    long : length (take F held) ≡ F
+    long = length-take-le F held (omega arith)
+
+    long_a : length a ≡ F
+    long_a = ap length e ∙ long
+
+    long_b : length b ≡ F
+    long_b = ap length f ∙ long
+
+    same_length : length (a ++ (b ++ end)) ≡ length (written (2 * F) (held_at F held) (replicate 128 0))
+    same_length =
+        rw (
+          length-append a (b ++ end),
+          length-append b end,
+          long_a,
+          long_b,
+          length-drop (2 * F - F) zeros,
+          length-drop F (replicate {A = ℕ} 128 0),
+          written_length (2 * F) (held_at F held) (replicate 128 0),
+          length-replicate {A = ℕ} 128 0,
+        )
+        (omega arith)
+
+    there : (i : ℕ) → i < 2 * F → get_or (written (2 * F) (held_at F held) (replicate 128 0)) i 0 ≡ get_or held (i % F) 0
+    there i p = written_at (2 * F) (held_at F held) (replicate 128 0) 0 i p (omega (arith, length-replicate {A = ℕ} 128 0))
+
+    first : (i : ℕ) → i < F → get_or (a ++ (b ++ end)) i 0 ≡ get_or (written (2 * F) (held_at F held) (replicate 128 0)) i 0
+    first i p =
+        get_or-append a (b ++ end) 0 i (omega (arith, long_a)) ∙ ap (λ (m : List ℕ). get_or m i 0) e ∙ get_or-take F held i 0 p
+        ∙ ap (λ (n : ℕ). get_or held n 0) (sym (mod-eq_of_lt p)) ∙ sym (there i (omega arith))
+
+    second : (i : ℕ) → F ≤ i → i < 2 * F → get_or (a ++ (b ++ end)) i 0 ≡ get_or (written (2 * F) (held_at F held) (replicate 128 0)) i 0
+    second i p q =
+        let l : i - F < F = omega arith in
+        get_or-append_right a (b ++ end) i 0 (omega (arith, long_a)) ∙ ap (λ (n : ℕ). get_or (b ++ end) (i - n) 0) long_a
+        ∙ get_or-append b end 0 (i - F) (omega (arith, long_b)) ∙ ap (λ (m : List ℕ). get_or m (i - F) 0) f ∙ get_or-take F held (i - F) 0 l
+        ∙ ap (λ (n : ℕ). get_or held n 0) (sym (mod-eq-sub-mod p ∙ mod-eq_of_lt l)) ∙ sym (there i q)
+
+    past : (i : ℕ) → 2 * F ≤ i → get_or (a ++ (b ++ end)) i 0 ≡ get_or (written (2 * F) (held_at F held) (replicate 128 0)) i 0
+    past i p =
+        get_or-append_right a (b ++ end) i 0 (omega (arith, long_a))
+        ∙ get_or-append_right b end (i - length a) 0 (omega (arith, long_a, long_b))
+        ∙ get_or-drop (2 * F - F) zeros (i - length a - length b) 0
+        ∙ get_or-drop F (replicate {A = ℕ} 128 0) (2 * F - F + (i - length a - length b)) 0
+        ∙ ap (λ (n : ℕ). get_or (replicate {A = ℕ} 128 0) n 0)
+        (let z : F + (2 * F - F + (i - length a - length b)) ≡ i = omega (arith, long_a, long_b) in z)
+        ∙ sym (written_kept (2 * F) (held_at F held) (replicate 128 0) 0 i p)
+
+    at : (i : ℕ) → i < length (a ++ (b ++ end)) → get_or (a ++ (b ++ end)) i 0 ≡ get_or
+        (written (2 * F) (held_at F held) (replicate 128 0)) i 0
+    at i l = elim (dec_lt i F) [
+      | yes p ↦ first i p
+      | no p ↦ elim (dec_lt i (2 * F)) [ yes q ↦ second i (omega arith) q | no q ↦ past i (omega arith) ]
+    ]
 
 pub rest_below : (t F : ℕ) → (F ≡ 0 → ⊥) → t % F < F
 rest_below t F n = mod-lt t (omega arith)
@@ -346,10 +413,21 @@ module _ (F : ℕ) (held cards : List ℕ) (some : F ≡ 0 → ⊥) (most : F �
 
     -- ---- the steps of the search
 
-    -- one slice more of a window
-    pub window_again : (k a t x s v : ℕ) → s ≡ window k (held_at F cards) a x → a < F → x < t → t < F → v ≡ min k (get_or cards (a + x) 0) →
-        s + v ≡ window k (held_at F cards) a (x + 1)
-    window_again k a t x s v e l m n q = rw (window_more k (held_at F cards) a x, e, q, two_same (a + x) (omega arith))
+    -- a part of the two frames, gone through to its end, is a window
+    pub window_counted : (k a t x s : ℕ) → s ≡ counted_to k (take (a + t - a) (drop a cards)) x →
+        x ≤ length (take (a + t - a) (drop a cards)) → length (take (a + t - a) (drop a cards)) ≤ x → a < F → t < F →
+        s ≡ window k (held_at F cards) a t
+    unfolding window
+    window_counted k a t x s e l m n q =
+        let full : length cards ≡ 128 = ap length two ∙ written_length (2 * F) (held_at F held) (replicate 128 0)
+        ∙ length-replicate {A = ℕ} 128 0 in
+        let long : length (take (a + t - a) (drop a cards)) ≡ a + t - a =
+        length-take-le (a + t - a) (drop a cards) (omega (arith, length-drop a cards)) in
+        let z : x ≡ t = omega arith in
+        e ∙ ap (counted_to k (take (a + t - a) (drop a cards))) z
+        ∙ sum_cong t (λ i. min k (get_or (take (a + t - a) (drop a cards)) i 0)) (λ i. min k (held_at F cards (a + i)))
+        (λ i p. ap (min k)
+        (get_or-take (a + t - a) (drop a cards) i 0 (omega arith) ∙ get_or-drop a cards i 0 ∙ two_same (a + i) (omega arith)))
 
     -- one slice more of the frame
     pub frame_again : (k x s v : ℕ) → s ≡ window k (held_at F cards) 0 x → x < F → v ≡ min k (get_or cards x 0) →
@@ -369,6 +447,14 @@ module _ (F : ℕ) (held cards : List ℕ) (some : F ≡ 0 → ⊥) (most : F �
         let z : start ≡ F = omega arith in
         rw (bad_whole F (held_at F cards) (held_turn F cards) (omega arith) k D, g, z)
 
+-- one slice more of a list
+pub counted_start : (k : ℕ) (cards : List ℕ) → 0 ≡ counted_to k cards 0
+counted_start k cards = sum_none (λ x. min k (get_or cards x 0))
+
+pub counted_again : (k : ℕ) (cards : List ℕ) (x s v : ℕ) → s ≡ counted_to k cards x → v ≡ min k (get_or cards x 0) →
+    s + v ≡ counted_to k cards (x + 1)
+counted_again k cards x s v e f = sum_again s x (λ i. min k (get_or cards i 0)) v e f
+
 -- none yet
 pub window_start : (k : ℕ) (h : ℕ → ℕ) (a : ℕ) → 0 ≡ window k h a 0
 window_start k h a = sym (window_none k h a)
@@ -378,11 +464,14 @@ unfolding supply bad_slice least_to least_place
 supply_start k h t = refl
 
 -- one start more
-pub supply_again : (k t : ℕ) (h : ℕ → ℕ) (i x s : ℕ) (m r : Least) → m ≡ supplied_to i h k t → s ≡ window k h i x → x ≤ t → t ≤ x →
+pub supply_again : (k t : ℕ) (h : ℕ → ℕ) (i s : ℕ) (m r : Least) → m ≡ supplied_to i h k t → s ≡ window k h i t →
     r ≡ least_with i m s i → r ≡ supplied_to (i + 1) h k t
 unfolding supply bad_slice
-supply_again k t h i x s m r e f l n q =
-    let z : x ≡ t = omega arith in q ∙ with_again i m s i (λ a. window k h a t) (λ a. a) (λ p. e) (f ∙ ap (window k h i) z) refl
+supply_again k t h i s m r e f q = q ∙ with_again i m s i (λ a. window k h a t) (λ a. a) (λ p. e) f refl
+
+-- a part of a list is no longer than what is asked of it
+pub part_most : (a t : ℕ) (cards : List ℕ) → length (take (a + t - a) (drop a cards)) ≤ t
+part_most a t cards = omega (arith, length-take (a + t - a) (drop a cards))
 
 pub short_nothing : (k C W s b : ℕ) → s < W → record { value = C + 1; slice = 0 } ≡ short_by k C W s b
 short_nothing k C W s b l = rw (lt-ltb s W l)

@@ -1,7 +1,8 @@
 -- Laws of the supply: what a window holds, how whole frames count, and that the supply is there at every start; and of the bad slice.
 -- Assumes nothing.
 use Rattle.std.specs.Prelude.{◌≡◌, refl}
-use Rattle.std.proofs.Common.{sym, ◌∙◌, add_assoc, add_comm, add-zero, zero-add, mul_comm, suc-mul, zero-mul, div-add-mod', mod-lt, add-one, one-add}
+use Rattle.std.proofs.Common.{sym, ◌∙◌, add_assoc, add_comm, add-zero, zero-add, mul_comm, suc-mul, zero-mul, div-add-mod', mod-lt, add-one}
+use Rattle.std.proofs.Common.{one-add}
 use Rattle.std.proofs.Math.Path.{ap, fun_ext}
 use Prim.Native.Nat.{ℕ, zero, suc, ◌+◌, ◌-◌, ◌*◌, ◌/◌, ◌%◌, ◌≤◌, ◌<◌, min}
 use native.Mathlib.Omega.{arith}

@@ -2,7 +2,8 @@
 -- enough for every unit that can get in the way.
 -- Assumes nothing.
 use Rattle.std.specs.Prelude.{◌≡◌, refl, ℕ, ◌+◌, ◌-◌, ◌*◌, ◌/◌, ◌%◌, ◌≤◌, ◌<◌, min}
-use Rattle.std.proofs.Common.{div-add-mod', div-mul-le_self, le-div_iff_mul-le, div-lt_iff_lt-mul, mul-le-mul_left, mul-le-mul_right, zero-mul, mod-lt, arith}
+use Rattle.std.proofs.Common.{div-add-mod', div-mul-le_self, le-div_iff_mul-le, div-lt_iff_lt-mul, mul-le-mul_left, mul-le-mul_right}
+use Rattle.std.proofs.Common.{zero-mul, mod-lt, arith}
 use Rattle.std.proofs.Math.Nat.{suc-mul, div-zero, mod-zero}
 use Rattle.std.proofs.Math.Decide.{dec_lt}
 use Rattle.supply.specs.Workload.{whole_units, workload_part}

@@ -27,7 +27,8 @@ use Rattle.plan_bytes.specs.Reading.{header_spare, project_spare, kind_spare, pr
 use Rattle.plan_bytes.specs.Reading.{body_answer, read_answer, read_of, counts_answer}
 use Rattle.workload.specs.Workload.{besides, part_of, workload}
 use Rattle.verdict.specs.Verdict.{width_of, excess_of, bad_slice_of, fitted, admitted, judged}
-use Rattle.smallest_budget.specs.Smallest.{width_with, excess_with, slice_with, serves, least_budget, served_with, smallest_answer, smallest_of}
+use Rattle.smallest_budget.specs.Smallest.{width_with, excess_with, slice_with, serves, least_budget, served_with, smallest_answer}
+use Rattle.smallest_budget.specs.Smallest.{smallest_of}
 use Rattle.one_kind.specs.Divisor.{repeated, divisor, divisor_to}
 use Rattle.one_kind.specs.Wanted.{kinds_in, field_at}
 use Rattle.one_kind.specs.Built.{rounded_up, offered, counts, frame_fits, timed_alone, kinds_timed, answer_for, built_of}
@@ -38,17 +39,18 @@ use Rattle.rescue.specs.Rescue.{project_changes, kind_entries, kind_changes, cha
 use Rattle.table.specs.Table.{Table}
 
 pub table : Table
-unfolding sum_to least_to least_place first_to count_to all_to written each_to within sized empty_project empty_kind tidy_projects tidy_kinds
-    in_range timed budgets sizes unused projects_in_range kind_in_range kinds_in_range budgets_fit ranges checked cell_at held_from first_cell
-    owns slot_of held table_length table_over table_answer window supply bad_slice workload_part fits_at least_width greatest_to
-    allowed_length least_excess named_width named_slice besides part_of workload width_of excess_of bad_slice_of fitted admitted judged pack
-    unpack number_to bytes_of size header_bytes project_bytes kind_bytes parts_to encoded header_fields project_fields kind_fields
-    project_from kind_from projects_from kinds_from headed decoded header_spare project_spare kind_spare projects_spare kinds_spare
-    places_spare spare_zero body_answer read_answer read_of project_there in_range_open projects_in_range_open ranges_open checked_open width_with
-    excess_with slice_with serves least_budget served_with smallest_answer smallest_of repeated divisor divisor_to kinds_in field_at rounded_up
-    offered counts frame_fits timed_alone kinds_timed answer_for built_of counts_answer entry_bytes listed change entries_to raised lowered
-    project_for kind_for kept kept_to plan_for project_spare_at kind_spare_at project_spare_change spare_entries kind_spare_change project_entries
-    project_changes kind_entries kind_changes changes_in rest_answer rescue_answer rescue_of list_over
+unfolding sum_to least_to least_place first_to count_to all_to written each_to within sized empty_project empty_kind tidy_projects
+    tidy_kinds in_range timed budgets sizes unused projects_in_range kind_in_range kinds_in_range budgets_fit ranges checked cell_at
+    held_from first_cell owns slot_of held table_length table_over table_answer window supply bad_slice workload_part fits_at least_width
+    greatest_to allowed_length least_excess named_width named_slice besides part_of workload width_of excess_of bad_slice_of fitted admitted
+    judged pack unpack number_to bytes_of size header_bytes project_bytes kind_bytes parts_to encoded header_fields project_fields
+    kind_fields project_from kind_from projects_from kinds_from headed decoded header_spare project_spare kind_spare projects_spare
+    kinds_spare places_spare spare_zero body_answer read_answer read_of project_there in_range_open projects_in_range_open ranges_open
+    checked_open width_with excess_with slice_with serves least_budget served_with smallest_answer smallest_of repeated divisor divisor_to
+    kinds_in field_at rounded_up offered counts frame_fits timed_alone kinds_timed answer_for built_of counts_answer entry_bytes listed
+    change entries_to raised lowered project_for kind_for kept kept_to plan_for project_spare_at kind_spare_at project_spare_change
+    spare_entries kind_spare_change project_entries project_changes kind_entries kind_changes changes_in rest_answer rescue_answer rescue_of
+    list_over
 table = record {
   P1-read = refl;
   P1-written = refl;

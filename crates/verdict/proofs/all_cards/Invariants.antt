@@ -2,7 +2,6 @@
 -- Assumes nothing.
 use Rattle.std.proofs.Math.Path.{◌≡◌}
 use Rattle.std.specs.Prelude.{replicate}
-use Prim.Native.Nat.{◌≤◌, ◌-◌}
 use Rattle.laws.specs.Written.{written}
 use Rattle.layout.specs.Layout.{first_cell}
 use Rattle.verdict.specs.Steps.{project_cards}
@@ -10,8 +9,4 @@ use Rattle.verdict.proofs.all_cards.Given as goal
 
 abbrev pub invariant-loop-j : goal.invariant-loop-j
 invariant-loop-j l =
-    (l.j ≤ l.j-end) × (l.j-end ≡ l.plan.projects) × (l.first ≡ first_cell l.plan l.j) ×
-    (l.cards ≡ written l.j (project_cards l.plan) (replicate 8 (replicate 64 0)))
-
-abbrev pub decreases-loop-j : goal.decreases-loop-j
-decreases-loop-j l = l.j-end - l.j
+    (l.first ≡ first_cell l.fn.ordered.plan l.j) × (l.cards ≡ written l.j (project_cards l.fn.ordered.plan) (replicate 8 (replicate 64 0)))

@@ -2,7 +2,6 @@
 -- Assumes nothing.
 use Rattle.std.proofs.Math.Path.{◌≡◌}
 use Rattle.std.specs.Prelude.{replicate}
-use Prim.Native.Nat.{◌≤◌, ◌-◌}
 use Rattle.laws.specs.Written.{written}
 use Rattle.answer.specs.declared.Answer.TheVariants.{Good}
 use Rattle.answer.specs.Answer.{each_to}
@@ -11,8 +10,5 @@ use Rattle.verdict.proofs.fits.Given as goal
 
 abbrev pub invariant-loop-i : goal.invariant-loop-i
 invariant-loop-i l =
-    (l.i ≤ l.i-end) × (l.i-end ≡ l.plan.kinds) × (Good ≡ each_to l.i (fitted l.plan)) × (l.width ≡ written l.i (width_of l.plan) (replicate 16 0)) ×
-    (l.slice ≡ written l.i (bad_slice_of l.plan) (replicate 16 0))
-
-abbrev pub decreases-loop-i : goal.decreases-loop-i
-decreases-loop-i l = l.i-end - l.i
+    (Good ≡ each_to l.i (fitted l.fn.ordered.plan)) × (l.width ≡ written l.i (width_of l.fn.ordered.plan) (replicate 16 0))
+    × (l.slice ≡ written l.i (bad_slice_of l.fn.ordered.plan) (replicate 16 0))

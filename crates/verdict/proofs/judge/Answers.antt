@@ -7,8 +7,8 @@ use Rattle.verdict.proofs.judge.Goals as goal
 pub returns-in_default : goal.returns-in_default
 returns-in_default c = search judged_no
 
-pub fits-requires : goal.fits-requires
-fits-requires c = search check_opened
+pub invariant_of-fits : goal.invariant_of-fits
+invariant_of-fits c = record { in_order = search check_opened }
 
 pub returns : goal.returns
 returns c = search judged_on

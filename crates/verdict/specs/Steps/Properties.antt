@@ -1,23 +1,27 @@
 -- Laws of the steps.
 -- Assumes nothing.
-use Rattle.std.specs.Prelude.{◌≡◌, refl, List, eqb, set, get_or, replicate}
+use Rattle.std.specs.Prelude.{◌≡◌, refl, List, eqb, set, get_or, length, take, replicate}
 use Rattle.std.proofs.Math.Path.{sym, fun_ext}
 use Rattle.std.proofs.Common.{ap, ◌∙◌, mod-eq_of_lt, mod-lt, mul-le-mul, mul-le-mul_right}
 use Prim.Native.Nat.{ℕ, ◌+◌, ◌-◌, ◌*◌, ◌%◌, ◌≤◌, ◌<◌}
 use native.Mathlib.Omega.{arith}
 use Rattle.std.proofs.Math.ListN.{length-replicate}
 use Rattle.laws.specs.Written.{written}
-use Rattle.laws.specs.Written.Properties.{written_again, written_at, written_stop}
+use Rattle.laws.specs.Written.Properties.{written_again, written_at}
 use Rattle.plan.specs.declared.Plan.{Plan}
+use Rattle.plan.specs.declared.Kind.{Kind}
+use Rattle.plan.specs.Record.{no_project, no_kind}
 use Rattle.answer.specs.declared.Answer.{Answer}
 use Rattle.answer.specs.declared.Answer.TheVariants.{Good, No}
 use Rattle.answer.specs.declared.Refusal.{Refusal}
 use Rattle.answer.specs.Answer.{not_admitted, refuse, ◌and_then◌, each_to}
 use Rattle.answer.specs.Answer.Properties.{each_more, each_stop, each_opened, opened_no, opened_on}
-use Rattle.plan.specs.Order.{kind_of, budget_of, checked, InOrder}
+use Rattle.plan.specs.Order.{kind_of, checked, InOrder}
 use Rattle.layout.specs.Cards.{cards_below, held_from}
 use Rattle.layout.specs.Cards.Properties.{below_grows, run_closed, run_ceiling}
 use Rattle.layout.specs.Layout.{first_cell}
+use Rattle.layout.proofs.Laws.Front.{front_below, front_end, front_at}
+use Rattle.layout.proofs.Laws.Walk.{budget_there}
 use Rattle.layout.proofs.Laws.Layout.{first_next, first_most, held_from_law, held_mod}
 use Rattle.supply.specs.declared.Fit.{Fit}
 use Rattle.supply.specs.Fit.{held_at, fit_of}
@@ -48,28 +52,51 @@ module _ (first budget frame s low high : ℕ) (l : s < frame) (below : low ≡ 
 
 -- ---- the cards of each project
 
-module _ (p : Plan) (o : InOrder p) (j first : ℕ) (l : j < p.projects) (here : first ≡ first_cell p j) where
+module _ (p : Plan) (o : InOrder p) (j first : ℕ) (l : j < length (take p.projects p.project)) (here : first ≡ first_cell p j) where
+  low : j < p.projects
+  low = front_below p.projects p.project j l
+
+  abbrev budget : ℕ
+  budget = (get_or (take p.projects p.project) j no_project).budget
+
   pub first_room : first ≤ 512
-  first_room = omega (arith, here, first_most p o j (omega arith), mul-le-mul o.counts.cards_most o.counts.frame_most)
+  first_room = omega (arith, here, low, first_most p o j (omega (arith, low)), mul-le-mul o.counts.cards_most o.counts.frame_most)
 
-  pub budget_room : budget_of p j ≤ 8 * p.frame
+  pub budget_room : budget ≤ 8 * p.frame
   budget_room =
-      let v = o.project_at_law j l in
-      omega (arith, v.budget_most, mul-le-mul_right p.frame v.ceiling_most, mul-le-mul_right p.frame o.counts.cards_most)
+      let v = o.project_at_law j low in
+      omega (
+        arith,
+        budget_there p j l,
+        v.budget_most,
+        mul-le-mul_right p.frame v.ceiling_most,
+        mul-le-mul_right p.frame o.counts.cards_most,
+      )
 
-  pub first_fits : first + budget_of p j < 65536
+  pub first_fits : first + budget < 65536
   first_fits = omega (arith, first_room, budget_room, o.counts.frame_most)
 
-  pub first_again : first + budget_of p j ≡ first_cell p (j + 1)
-  first_again = rw here (sym (first_next p j))
+  pub first_again : first + budget ≡ first_cell p (j + 1)
+  first_again = rw (here, budget_there p j l) (sym (first_next p j))
 
-  row_is : run_cards first (budget_of p j) p.frame ≡ project_cards p j
+  row_is : run_cards first budget p.frame ≡ project_cards p j
   unfolding run_cards project_cards
-  row_is = rw here (ap (λ (h : ℕ → ℕ). written p.frame h (replicate 64 0)) (fun_ext (λ s. sym (held_from_law p o j l s))))
+  row_is =
+      rw (here, budget_there p j l)
+      (ap (λ (h : ℕ → ℕ). written p.frame h (replicate 64 0)) (fun_ext (λ s. sym (held_from_law p o j low s))))
 
   pub cards_again : (before after : List (List ℕ)) (row : List ℕ) → before ≡ written j (project_cards p) after →
-      row ≡ run_cards first (budget_of p j) p.frame → set before j row ≡ written (j + 1) (project_cards p) after
+      row ≡ run_cards first budget p.frame → set before j row ≡ written (j + 1) (project_cards p) after
   cards_again before after row e q = written_again j (project_cards p) after before row e (q ∙ row_is)
+
+-- after the last
+pub cards_stop : (p : Plan) (j : ℕ) (cards : List (List ℕ)) → InOrder p → length p.project ≡ 8 →
+    cards ≡ written j (project_cards p) (replicate 8 (replicate 64 0)) → j ≤ length (take p.projects p.project) →
+    length (take p.projects p.project) ≤ j → cards ≡ all_cards p
+unfolding all_cards
+cards_stop p j cards o long e a b =
+    e ∙ ap (λ (n : ℕ). written n (project_cards p) (replicate 8 (replicate 64 0)))
+    (front_end p.projects p.project j (omega (arith, o.counts.projects_most)) a b)
 
 -- ---- the fit of each kind
 
@@ -77,17 +104,21 @@ module _ (p : Plan) (o : InOrder p) (i : ℕ) (l : i < p.kinds) where
   pub project_place : project_on p i < 8
   project_place = omega (arith, (o.kind_at_law i l).its_project, o.counts.projects_most)
 
-  pub project_fits : project_on p i < 18446744073709551616
-  project_fits = omega (arith, project_place)
-
-  pub project_scaled : project_on p i * 64 < 18446744073709551616
-  project_scaled = omega (arith, project_place)
-
-  pub row_at : (cards : List (List ℕ)) (d : List ℕ) → cards ≡ all_cards p → get_or cards (project_on p i) d ≡ project_cards p (project_on p i)
+  pub row_at : (cards : List (List ℕ)) (d : List ℕ) → cards ≡ all_cards p →
+      get_or cards (project_on p i) d ≡ project_cards p (project_on p i)
   unfolding all_cards
   row_at cards d e =
       rw e (written_at p.projects (project_cards p) (replicate 8 (replicate 64 0)) d (project_on p i) (o.kind_at_law i l).its_project
       (omega (arith, length-replicate 8 (replicate {A = ℕ} 64 0), o.counts.projects_most)))
+
+  -- the same where the kinds are gone through in their part of the record
+  pub place_there : i < length (take p.kinds p.kind) → (get_or (take p.kinds p.kind) i no_kind).project < 8
+  place_there m = omega (arith, ap (λ (k : Kind). k.project) (front_at p.kinds p.kind no_kind i m), project_place)
+
+  pub row_there : (cards : List (List ℕ)) (d : List ℕ) → i < length (take p.kinds p.kind) → cards ≡ all_cards p →
+      get_or cards (get_or (take p.kinds p.kind) i no_kind).project d ≡ project_cards p (project_on p i)
+  row_there cards d m e =
+      ap (λ (n : ℕ). get_or cards n d) (ap (λ (k : Kind). k.project) (front_at p.kinds p.kind no_kind i m)) ∙ row_at cards d e
 
   pub cards_held : held_at p.frame (project_cards p (project_on p i)) ≡ held_on p i
   unfolding held_at project_cards
@@ -159,13 +190,15 @@ module _ (p : Plan) (i : ℕ) (so : Good ≡ each_to i (fitted p)) where
   fits_again r a g e q = each_more i (fitted p) so (sym g ∙ fit_told p i r a e q)
 
   pub fits_all : (k s : List ℕ) → k ≡ written i (width_of p) (replicate 16 0) → s ≡ written i (bad_slice_of p) (replicate 16 0) →
-      i ≤ p.kinds → p.kinds ≤ i → record { answer = Good; width = k; slice = s } ≡ verdict_of p (admitted p)
+      InOrder p → length p.kind ≡ 16 → i ≤ length (take p.kinds p.kind) → length (take p.kinds p.kind) ≤ i →
+      record { answer = Good; width = k; slice = s } ≡ verdict_of p (admitted p)
   unfolding admitted
-  fits_all k s e f l m =
+  fits_all k s e f o long a b =
+      let z = front_end p.kinds p.kind i (omega (arith, o.counts.kinds_most)) a b in
       rw (
-        ← (each_stop i p.kinds (fitted p) Good so l m),
-        written_stop i p.kinds (width_of p) (replicate 16 0) k e l m,
-        written_stop i p.kinds (bad_slice_of p) (replicate 16 0) s f l m,
+        ← (each_stop i p.kinds (fitted p) Good so (omega (arith, z)) (omega (arith, z))),
+        e ∙ ap (λ (n : ℕ). written n (width_of p) (replicate 16 0)) z,
+        f ∙ ap (λ (n : ℕ). written n (bad_slice_of p) (replicate 16 0)) z,
       )
 
 pub width_again : (p : Plan) (i : ℕ) (r : Fit) (before after : List ℕ) → before ≡ written i (width_of p) after → r ≡ fit_on p i →

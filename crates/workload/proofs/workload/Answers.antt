@@ -8,16 +8,16 @@ use Rattle.workload.specs.Workload.Properties.{own_again, foreign_again, other_a
 use Rattle.workload.proofs.workload.Goals as goal
 
 pub loop-j-init : goal.loop-j-init
-loop-j-init c = (omega arith, search, search, sum_none _, omega arith)
+loop-j-init c = (search, sum_none _, omega arith)
 
 pub loop-j-preserved-then-j-kind : goal.loop-j-preserved-then-j-kind
-loop-j-preserved-then-j-kind c = (omega arith, search, search, search own_again, omega arith)
+loop-j-preserved-then-j-kind c = (search, search own_again, omega arith)
 
 pub loop-j-preserved-then-other-judged : goal.loop-j-preserved-then-other-judged
-loop-j-preserved-then-other-judged c = (omega arith, search, search, search foreign_again, omega arith)
+loop-j-preserved-then-other-judged c = (search, search foreign_again, omega arith)
 
 pub loop-j-preserved : goal.loop-j-preserved
-loop-j-preserved c = (omega arith, search, search, search other_again, omega arith)
+loop-j-preserved c = (search, search other_again, omega arith)
 
 pub returns : goal.returns
 returns c =

@@ -1,11 +1,12 @@
 -- Laws of the workload: each kind's part in it, how much it can be, and that a place which the record does not have adds nothing.
 -- Assumes nothing.
-use Rattle.std.specs.Prelude.{◌≡◌, Bool, ℕ, ◌+◌, ◌-◌, ◌≤◌, ◌<◌, min, length}
+use Rattle.std.specs.Prelude.{◌≡◌, Bool, ℕ, ◌+◌, ◌-◌, ◌≤◌, ◌<◌, min, length, take, get_or}
 use Rattle.std.proofs.Math.Path.{refl, ap}
 use Rattle.std.proofs.Common.{sym, ◌∙◌, mul-zero, eq-eqb, ne_eqb}
 use Rattle.std.proofs.Math.Bool.{true, false, cond}
 use native.Mathlib.Omega.{arith}
 use Rattle.std.proofs.Math.ListN.{get_or-eq_default}
+use Rattle.std.proofs.lemmas.List.{length-take, get_or-take}
 use Rattle.laws.specs.Sum.{sum_to}
 use Rattle.laws.specs.Sum.Properties.{sum_again, sum_bound, sum_zero, sum_split}
 use Rattle.plan.specs.declared.Kind.{Kind}
@@ -74,11 +75,13 @@ module _ (p : Plan) (n : ℕ) (long : length p.kind ≡ n) where
       go false = refl
 
   -- so that the sum ends with the record's places
-  pub workload_places : (i s e m : ℕ) → s ≡ sum_to e (part_of p i) → m ≡ min p.kinds n → e ≤ m → m ≤ e → s ≡ workload p i
+  pub workload_places : (i s e m : ℕ) → s ≡ sum_to e (part_of p i) → m ≡ min p.kinds n → e ≤ length (take m p.kind) →
+      length (take m p.kind) ≤ e → s ≡ workload p i
   unfolding workload
   workload_places i s e m q h l r =
-      let k : p.kinds ≡ e + (p.kinds - e) = omega arith in
-      let z = sum_zero (p.kinds - e) (λ x. part_of p i (e + x)) (λ x t. part_beyond i (e + x) (omega arith)) in
+      let t = length-take m p.kind in
+      let k : p.kinds ≡ e + (p.kinds - e) = omega (arith, t) in
+      let z = sum_zero (p.kinds - e) (λ x. part_of p i (e + x)) (λ x u. part_beyond i (e + x) (omega (arith, t))) in
       omega (arith, q, ap (λ (y : ℕ). sum_to y (part_of p i)) k, sum_split e (p.kinds - e) (part_of p i), z)
 
 -- ---- the steps of the sum
@@ -90,11 +93,16 @@ module _ (p : Plan) (i j s : ℕ) (so : s ≡ sum_to j (part_of p i)) where
   pub own_again : j ≡ i → s ≡ sum_to (j + 1) (part_of p i)
   own_again e = skipped (part_own p i j e)
 
-  -- d is the judged kind
-  pub foreign_again : (d : Kind) → d ≡ kind_of p i → (j ≡ i → ⊥) → ((kind_of p j).project ≡ d.project → ⊥) → s ≡ sum_to (j + 1) (part_of p i)
-  foreign_again d k n m = skipped (part_foreign p i j n (rw k at m))
+  -- of the first m kinds; d is the judged kind
+  module _ (m : ℕ) (d : Kind) (k : d ≡ kind_of p i) (n : j ≡ i → ⊥) (l : j < length (take m p.kind)) where
+    place_is : get_or (take m p.kind) j no_kind ≡ kind_of p j
+    place_is = get_or-take m p.kind j no_kind (omega (arith, length-take m p.kind))
 
-  -- w is the part, and v the same in more bits
-  pub other_again : (d : Kind) (v w : ℕ) → d ≡ kind_of p i → (j ≡ i → ⊥) → (kind_of p j).project ≡ d.project →
-      w ≡ part_in (kind_of p j) d.deadline → v ≡ w → s + v ≡ sum_to (j + 1) (part_of p i)
-  other_again d v w k n e q r = sum_again s j (part_of p i) v so (r ∙ rw k at q ∙ sym (part_other p i j n (rw k at e)))
+    pub foreign_again : ((get_or (take m p.kind) j no_kind).project ≡ d.project → ⊥) → s ≡ sum_to (j + 1) (part_of p i)
+    foreign_again e = skipped (part_foreign p i j n (rw (k, place_is) at e))
+
+    -- w is the part, and v the same in more bits
+    pub other_again : (v w : ℕ) → (get_or (take m p.kind) j no_kind).project ≡ d.project →
+        w ≡ part_in (get_or (take m p.kind) j no_kind) d.deadline → v ≡ w → s + v ≡ sum_to (j + 1) (part_of p i)
+    other_again v w e q r =
+        sum_again s j (part_of p i) v so (r ∙ rw (k, place_is) at q ∙ sym (part_other p i j n (rw (k, place_is) at e)))

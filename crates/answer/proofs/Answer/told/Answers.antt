@@ -1,7 +1,9 @@
 -- `answer::Answer::told` meets its contract.
 -- Assumes nothing.
-use Rattle.answer.specs.Word.Properties.{told_is}
+use Rattle.std.proofs.Common.{rules}
+use Rattle.answer.specs.Word.{told}
 use Rattle.answer.proofs.Answer.told.Goals as goal
 
 pub returns : goal.returns
-returns c = search told_is
+unfolding told
+returns c = search rules

@@ -14,8 +14,11 @@ overflow_mul-needed c = Fits-under _ _ 513 (search opened_cells) tt
 pub returns-then-out-needed : goal.returns-then-out-needed
 returns-then-out-needed c = search table_ways
 
+pub invariant_of-write_slots : goal.invariant_of-write_slots
+invariant_of-write_slots c = record { in_order = search check_opened }
+
 pub write_slots-requires : goal.write_slots-requires
-write_slots-requires c = (search check_opened, search opened_room)
+write_slots-requires c = search opened_room
 
 pub returns : goal.returns
 returns c = search table_ways

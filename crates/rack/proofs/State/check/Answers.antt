@@ -7,11 +7,11 @@ use Rattle.rack.proofs.Laws.Found.{looked_none, looked_project, looked_same, loo
 use Rattle.rack.proofs.Laws.Found.{found_order, found_past, found_place, found_sums, found_differ, found_good}
 use Rattle.rack.proofs.State.check.Goals as goal
 
-pub returns-in_default : goal.returns-in_default
-returns-in_default c = search found_order
+pub returns-in-No : goal.returns-in-No
+returns-in-No c = search found_order
 
-pub returns-then-plan-self : goal.returns-then-plan-self
-returns-then-plan-self c = search found_past
+pub returns-then-self : goal.returns-then-self
+returns-then-self c = search found_past
 
 pub loop-i-init : goal.loop-i-init
 loop-i-init c = (omega arith, search looked_none)
@@ -35,11 +35,14 @@ overflow_add-works c =
     let start = here in
     omega (arith, looked_project start.args.self here.loop-i.i _ _ _ here.loop-i.invariant.1 (omega arith))
 
-pub project_place-project-requires : goal.project_place-project-requires
-project_place-project-requires c = search looked_project
+pub bounds-left-from : goal.bounds-left-from
+bounds-left-from c = rw c.from.ensures (search looked_project)
 
 pub overflow_add-left : goal.overflow_add-left
 overflow_add-left c = search (looked_room, told_yes, place_found)
+
+pub bounds-left-from-in-loop-i : goal.bounds-left-from-in-loop-i
+bounds-left-from-in-loop-i c = rw c.from.ensures (search looked_project)
 
 pub loop-i-preserved : goal.loop-i-preserved
 loop-i-preserved c =
@@ -52,13 +55,21 @@ loop-i-preserved c =
     (omega arith, looked_more _ _ _ _ _ here.loop-i.invariant.1 (omega arith) fits (search) _ _ (search) (search))
 
 pub returns-then-not-sums_fit : goal.returns-then-not-sums_fit
-returns-then-not-sums_fit c = search found_sums
+returns-then-not-sums_fit c =
+    let fits = rw c.from-projects.ensures at c.sums_fit.ensures in
+    search found_sums
 
 pub sums_agree-requires : goal.sums_agree-requires
-sums_agree-requires c = search projects_most
+sums_agree-requires c = rw c.from-projects.ensures (search projects_most)
 
 pub returns-then-not-sums_agree : goal.returns-then-not-sums_agree
-returns-then-not-sums_agree c = search found_differ
+returns-then-not-sums_agree c =
+    let fits = rw c.from-projects.ensures at c.sums_fit.ensures in
+    let agree = rw c.from-projects.ensures at c.sums_agree.ensures in
+    search found_differ
 
 pub returns : goal.returns
-returns c = search found_good
+returns c =
+    let fits = rw c.from-projects.ensures at c.sums_fit.ensures in
+    let agree = rw c.from-projects.ensures at c.sums_agree.ensures in
+    found_good _ _ _ _ _ c.loop-i.invariant.1 (omega arith) (omega arith) _ fits (search) _ agree (search)

@@ -1,13 +1,15 @@
 -- `rescue::mended::kept` meets its contract.
 -- Assumes nothing.
-use Rattle.rescue.specs.Mended.Properties.{absent_dropped, empty_dropped, judged_kept}
+use Rattle.std.proofs.Common.{arith}
+use Rattle.std.proofs.lemmas.Grind.{common_steps}
+use Rattle.laws.specs.Tests.{tests}
+use Rattle.rescue.specs.Mended.{kind_for, kept}
 use Rattle.rescue.proofs.mended.kept.Goals as goal
 
-pub returns-then-projects-mended : goal.returns-then-projects-mended
-returns-then-projects-mended c = search absent_dropped
+pub returns-then-mended-ne0 : goal.returns-then-mended-ne0
+unfolding kept kind_for
+returns-then-mended-ne0 c = grind (arith, common_steps, tests)
 
-pub returns-then-mended-eq0 : goal.returns-then-mended-eq0
-returns-then-mended-eq0 c = search empty_dropped
-
-pub returns : goal.returns
-returns c = search judged_kept
+pub returns-else-mended-ne0 : goal.returns-else-mended-ne0
+unfolding kept kind_for
+returns-else-mended-ne0 c = grind (arith, common_steps, tests)

@@ -1,16 +1,10 @@
 -- `rescue::mended::projects_for` meets its contract.
 -- Assumes nothing.
-use Rattle.std.proofs.Math.Path.{◌≡◌}
-use Rattle.std.specs.Prelude.{replicate}
-use Prim.Native.Nat.{◌≤◌, ◌-◌}
+use Rattle.std.specs.Prelude.{◌≡◌, replicate}
 use Rattle.laws.specs.Written.{written}
 use Rattle.plan.specs.Record.{no_project}
 use Rattle.rescue.specs.Mended.{project_for_at}
 use Rattle.rescue.proofs.mended.projects_for.Given as goal
 
 abbrev pub invariant-loop-j : goal.invariant-loop-j
-invariant-loop-j l =
-    (l.j ≤ l.j-end) × (l.j-end ≡ l.plan.projects) × (l.project ≡ written l.j (project_for_at l.plan) (replicate 8 no_project))
-
-abbrev pub decreases-loop-j : goal.decreases-loop-j
-decreases-loop-j l = l.j-end - l.j
+invariant-loop-j l = l.project ≡ written l.j (project_for_at l.fn.plan) (replicate 8 no_project)

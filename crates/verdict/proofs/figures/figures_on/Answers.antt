@@ -20,8 +20,8 @@ loop-below-init c = (omega arith, search ceiling_room, search row_at, written_no
 
 pub loop-below-preserved : goal.loop-below-preserved
 loop-below-preserved c =
-    let order = c.requires.0 in
-    let there = c.requires.1 in
+    let order = c.args.ordered.in_order in
+    let there = c.requires in
     let inv = c.loop-below.invariant in
     let given = c.supply-given.ensures in (
       omega arith,

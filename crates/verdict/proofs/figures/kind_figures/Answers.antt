@@ -12,7 +12,10 @@ pub returns-then-plan-kind : goal.returns-then-plan-kind
 returns-then-plan-kind c = search figures_absent
 
 pub figures_on-requires : goal.figures_on-requires
-figures_on-requires c = (search check_opened, search rules)
+figures_on-requires c = search rules
+
+pub invariant_of-figures_on : goal.invariant_of-figures_on
+invariant_of-figures_on c = record { in_order = search check_opened }
 
 pub returns : goal.returns
 returns c = search figures_on

@@ -1,0 +1,8 @@
+-- `one_kind::separation` meets its contract.
+-- Assumes nothing.
+use Rattle.one_kind.specs.Wanted.{field_at}
+use Rattle.one_kind.proofs.separation.Goals as goal
+
+pub returns : goal.returns
+unfolding field_at
+returns c = search

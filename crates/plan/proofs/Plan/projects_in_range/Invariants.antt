@@ -1,0 +1,10 @@
+-- `plan::Plan::projects_in_range` meets its contract.
+-- Assumes nothing.
+use Rattle.std.proofs.Math.Path.{◌≡◌}
+use Rattle.answer.specs.declared.Answer.TheVariants.{Good}
+use Rattle.answer.specs.Answer.{each_to}
+use Rattle.plan.specs.Open.{project_in_range_but}
+use Rattle.plan.proofs.Plan.projects_in_range.Given as goal
+
+abbrev pub invariant-loop-j : goal.invariant-loop-j
+invariant-loop-j l = Good ≡ each_to l.j (project_in_range_but l.skipped l.self)

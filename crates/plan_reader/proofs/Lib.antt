@@ -1,0 +1,3 @@
+-- Laws for this crate's code alone.
+-- Assumes nothing.
+pub mod Front

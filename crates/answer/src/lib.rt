@@ -23,7 +23,7 @@ pub enum Answer {
 }
 
 // What writing did: the answer, and the count of bytes written.
-// kept: "Writers answer with the count of bytes written, 0 on a refusal."
+// kept: no Result, since document 01 has it: "Writers answer with the count of bytes written, 0 on a refusal."
 #[derive(Clone, Copy)]
 pub struct Written {
     pub answer: Answer,
@@ -60,7 +60,7 @@ impl Answer {
         Answer::No(Refusal::ByKind(8, kind, excess, slice))
     }
 
-    // kept: four functions of one shape, each the promise of its own definition.
+    // kept: four functions of one shape, each with its own promise (number, place, excess, slice).
     pub fn number(self) -> u8
         ensures { result ≡ number self }
     {

@@ -35,7 +35,7 @@ pub fn put_number(number: u64, out: &mut [u8]) -> usize
     ensures { Fills number out.old result out.new }
 {
     let mut rest = number;
-    // kept: an index, since a proof knows no byte that `out.iter_mut().rev()` wrote.
+    // kept: an index; with `out.iter_mut().rev()` the proof of what is stored did not close.
     for i in (0..out.len()).rev() {
         out[i] = (rest % 256) as u8;
         rest = rest / 256;

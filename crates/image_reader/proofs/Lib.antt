@@ -1,3 +1,4 @@
 -- Laws that the proofs share.
 -- Assumes nothing.
 pub mod Arrays
+pub mod Front

@@ -7,7 +7,7 @@ ghost use Rattle.codec.specs.Bytes.{number_to};
 ghost use Rattle.answer.specs.declared.Answer.TheVariants.{No};
 ghost use Rattle.answer.specs.Answer.{bare, ◌and_then◌};
 ghost use Rattle.plan.specs.Order.{checked};
-ghost use Rattle.images.specs.Image.{plan_size, state_size, slice_place, unit_widths, field, project_from, kind_from, slice_from};
+ghost use Rattle.images.specs.Image.{slice_place, unit_widths, field, project_from, kind_from, slice_from};
 ghost use Rattle.images.specs.Image.{unit_from};
 ghost use Rattle.images.specs.Image.{sum_from};
 ghost use Rattle.images.specs.Image.{projects_from, kinds_from, units_from, sums_from, plan_from, state_from, released_told};
@@ -24,6 +24,7 @@ use unit::Unit;
 
 // A field of one byte. Each field of a place is read by itself: a place read as one number, which is
 // then divided, takes the compiler more instructions.
+// kept: `at` beside `s`: of a closure that hands `&s[at..]` or a chunk on, `search` proves no answer (`returns` of `sums_from`).
 fn byte(s: &[u8], at: usize) -> u8
     requires { at + 1 ≤ length s.now }
     ensures { (result ≡ number_to 1 (drop at s.now)) × (result < 256) }
@@ -61,22 +62,19 @@ fn kind_from(s: &[u8], at: usize) -> Kind
     }
 }
 
-fn projects_from(s: &[u8]) -> [Project; Plan::PROJECTS]
-    requires { plan_size ≤ length s.now }
+fn projects_from(s: &[u8; PLAN]) -> [Project; Plan::PROJECTS]
     ensures { result ≡ projects_from 8 s.now }
 {
     array::from_fn(|j| project_from(s, PROJECTS_AT + PROJECT * j))
 }
 
-fn kinds_from(s: &[u8]) -> [Kind; Plan::KINDS]
-    requires { plan_size ≤ length s.now }
+fn kinds_from(s: &[u8; PLAN]) -> [Kind; Plan::KINDS]
     ensures { result ≡ kinds_from 16 s.now }
 {
     array::from_fn(|i| kind_from(s, KINDS_AT + KIND * i))
 }
 
-fn plan_from(s: &[u8]) -> Plan
-    requires { plan_size ≤ length s.now }
+fn plan_from(s: &[u8; PLAN]) -> Plan
     ensures { result ≡ plan_from s.now }
 {
     let kind = kinds_from(s);
@@ -91,8 +89,7 @@ fn plan_from(s: &[u8]) -> Plan
     }
 }
 
-fn slice_from(s: &[u8]) -> u8
-    requires { state_size ≤ length s.now }
+fn slice_from(s: &[u8; STATE]) -> u8
     ensures { result ≡ slice_from (drop slice_place s.now) }
 {
     byte(s, SLICE_AT)
@@ -109,8 +106,7 @@ fn unit_from(s: &[u8], at: usize) -> Unit
     }
 }
 
-fn units_from(s: &[u8]) -> [Unit; Plan::KINDS]
-    requires { state_size ≤ length s.now }
+fn units_from(s: &[u8; STATE]) -> [Unit; Plan::KINDS]
     ensures { result ≡ units_from 16 s.now }
 {
     array::from_fn(|i| unit_from(s, UNITS_AT + UNIT * i))
@@ -123,16 +119,15 @@ fn sum_from(s: &[u8], at: usize) -> u16
     two_bytes(s, at)
 }
 
-fn sums_from(s: &[u8]) -> [u16; Plan::PROJECTS]
-    requires { state_size ≤ length s.now }
+fn sums_from(s: &[u8; STATE]) -> [u16; Plan::PROJECTS]
     ensures { result ≡ sums_from 8 s.now }
 {
     array::from_fn(|j| sum_from(s, SUMS_AT + SUM * j))
 }
 
 // The state whose plan was read.
-fn state_from(plan: Plan, s: &[u8]) -> State
-    requires { (state_size ≤ length s.now) × (plan ≡ plan_from s.now) }
+fn state_from(plan: Plan, s: &[u8; STATE]) -> State
+    requires { plan ≡ plan_from s.now }
     ensures { result ≡ state_from s.now }
 {
     let slice = slice_from(s);
@@ -155,8 +150,7 @@ fn released_at(s: &[u8], at: usize) -> u8
 }
 
 // Whether every released byte is 0 or 1.
-fn released_told(s: &[u8]) -> bool
-    requires { state_size ≤ length s.now }
+fn released_told(s: &[u8; STATE]) -> bool
     ensures { result ≡ released_told s.now }
 {
     (0..Plan::KINDS).all(|i| released_at(s, UNITS_AT + UNIT * i) <= 1)
@@ -176,9 +170,9 @@ fn no_state(plan: Plan) -> Refusal
 pub fn plan_of(image: &[u8]) -> Result<Plan, Refusal>
     ensures { result ≡ plan_found image.now }
 {
-    if image.len() < PLAN {
+    let Some(image) = image.first_chunk::<PLAN>() else {
         return Err(Refusal::Bare(9));
-    }
+    };
     Ok(plan_from(image))
 }
 
@@ -187,10 +181,10 @@ pub fn plan_of(image: &[u8]) -> Result<Plan, Refusal>
 pub fn state_of(image: &[u8]) -> Result<State, Refusal>
     ensures { result ≡ state_found image.now }
 {
-    if image.len() < STATE {
+    let plan = plan_of(image)?;
+    let Some(image) = image.first_chunk::<STATE>() else {
         return Err(Refusal::Bare(9));
-    }
-    let plan = plan_from(image);
+    };
     if !released_told(image) {
         return Err(no_state(plan));
     }

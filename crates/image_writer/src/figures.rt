@@ -3,7 +3,7 @@ ghost use Rattle.std.specs.Prelude.{◌≡◌, [], ◌∷◌, ◌++◌, ◌+◌,
 ghost use Rattle.std.proofs.lemmas.List.Edits.{sets};
 ghost use Rattle.codec.specs.Place.{size_of, placed};
 ghost use Rattle.codec.specs.Places.{put_to};
-ghost use Rattle.images.specs.FiguresImage.{number_widths, slice_widths, figures_size, supply_place, slice_place, supply_bytes_at};
+ghost use Rattle.images.specs.FiguresImage.{number_widths, slice_widths, supply_place, slice_place, supply_bytes_at};
 ghost use Rattle.images.specs.FiguresImage.{slice_bytes_at};
 ghost use Rattle.images.specs.FiguresImage.{figures_image, StoresFigures};
 
@@ -35,23 +35,20 @@ impl Placed for u32 {
     }
 }
 
-fn put_supplies(figures: Figures, out: &mut [u8])
-    requires { figures_size ≤ length out.old }
+fn put_supplies(figures: Figures, out: &mut [u8; FIGURES])
     ensures { out.new ≡ put_to 8 (supply_bytes_at figures) (supply_place 0) (size_of number_widths) out.old }
 {
     put_row(&figures.supply, out, SUPPLY_AT);
 }
 
-fn put_slices(figures: Figures, out: &mut [u8])
-    requires { figures_size ≤ length out.old }
+fn put_slices(figures: Figures, out: &mut [u8; FIGURES])
     ensures { out.new ≡ put_to 8 (slice_bytes_at figures) (slice_place 0) (size_of slice_widths) out.old }
 {
     put_row(&figures.slice, out, SLICES_AT);
 }
 
-fn store_figures(figures: Figures, out: &mut [u8])
-    requires { figures_size ≤ length out.old }
-    ensures { out.new ≡ figures_image figures ++ drop figures_size out.old }
+fn store_figures(figures: Figures, out: &mut [u8; FIGURES])
+    ensures { out.new ≡ figures_image figures }
 {
     figures.workload.put(out, 0);
     put_supplies(figures, out);
@@ -62,9 +59,9 @@ fn store_figures(figures: Figures, out: &mut [u8])
 pub fn put_figures(figures: Figures, out: &mut [u8]) -> Answer
     ensures { StoresFigures figures out.old result out.new }
 {
-    if out.len() < FIGURES {
+    let Some(out) = out.first_chunk_mut::<FIGURES>() else {
         return Answer::bare(9);
-    }
+    };
     store_figures(figures, out);
     Answer::Good
 }

@@ -9,12 +9,11 @@ ghost use Rattle.std.proofs.lemmas.List.Edits.{sets};
 ghost use Rattle.codec.specs.Bytes.{bytes_of};
 ghost use Rattle.codec.specs.Place.{size_of, placed};
 ghost use Rattle.codec.specs.Places.{put_to};
-ghost use Rattle.images.specs.Image.{count_widths, project_widths, kind_widths, slice_widths, unit_widths, sum_widths, plan_size};
-ghost use Rattle.images.specs.Image.{state_size};
-ghost use Rattle.images.specs.Image.{project_place, kind_place, slice_place, unit_place, sum_place, count_fields, project_fields};
+ghost use Rattle.images.specs.Image.{count_widths, project_widths, kind_widths, slice_widths, unit_widths, sum_widths};
+ghost use Rattle.images.specs.Image.{project_place, kind_place, unit_place, sum_place, count_fields, project_fields};
 ghost use Rattle.images.specs.Image.{kind_fields};
 ghost use Rattle.images.specs.Image.{unit_fields};
-ghost use Rattle.images.specs.Image.{project_bytes_at, kind_bytes_at, unit_bytes_at, sum_bytes_at, plan_image, state_image, running_over};
+ghost use Rattle.images.specs.Image.{project_bytes_at, kind_bytes_at, unit_bytes_at, sum_bytes_at, plan_image, running_over};
 ghost use Rattle.images.specs.Lent.{StoresPlan, StoresState, StoresRunning};
 
 use answer::Answer;
@@ -35,8 +34,7 @@ fn put_fields(fields: u64, count: usize, out: &mut [u8], at: usize)
     codec::put_number(fields, &mut out[at..at + count]);
 }
 
-fn put_counts(plan: Plan, out: &mut [u8])
-    requires { plan_size ≤ length out.old }
+fn put_counts(plan: Plan, out: &mut [u8; PLAN])
     ensures { out.new ≡ sets out.old 0 (placed count_widths (count_fields plan)) }
 {
     let fields = u64::from(plan.cards) * BITS_24
@@ -139,55 +137,39 @@ fn put_row<T: Placed, const N: usize>(row: &[T; N], out: &mut [u8], start: usize
     }
 }
 
-fn put_projects(plan: Plan, out: &mut [u8])
-    requires { plan_size ≤ length out.old }
+fn put_projects(plan: Plan, out: &mut [u8; PLAN])
     ensures { out.new ≡ put_to 8 (project_bytes_at plan) (project_place 0) (size_of project_widths) out.old }
 {
     put_row(&plan.project, out, PROJECTS_AT);
 }
 
-fn put_kinds(plan: Plan, out: &mut [u8])
-    requires { plan_size ≤ length out.old }
+fn put_kinds(plan: Plan, out: &mut [u8; PLAN])
     ensures { out.new ≡ put_to 16 (kind_bytes_at plan) (kind_place 0) (size_of kind_widths) out.old }
 {
     put_row(&plan.kind, out, KINDS_AT);
 }
 
-fn put_units(state: State, out: &mut [u8])
-    requires { state_size ≤ length out.old }
+fn put_units(state: State, out: &mut [u8; STATE])
     ensures { out.new ≡ put_to 16 (unit_bytes_at state) (unit_place 0) (size_of unit_widths) out.old }
 {
     put_row(&state.unit, out, UNITS_AT);
 }
 
-fn put_sums(state: State, out: &mut [u8])
-    requires { state_size ≤ length out.old }
+fn put_sums(state: State, out: &mut [u8; STATE])
     ensures { out.new ≡ put_to 8 (sum_bytes_at state) (sum_place 0) (size_of sum_widths) out.old }
 {
     put_row(&state.sum, out, SUMS_AT);
 }
 
-fn store_plan(plan: Plan, out: &mut [u8])
-    requires { plan_size ≤ length out.old }
-    ensures { out.new ≡ plan_image plan ++ drop plan_size out.old }
+fn store_plan(plan: Plan, out: &mut [u8; PLAN])
+    ensures { out.new ≡ plan_image plan }
 {
     put_counts(plan, out);
     put_projects(plan, out);
     put_kinds(plan, out);
 }
 
-fn store_state(state: State, out: &mut [u8])
-    requires { state_size ≤ length out.old }
-    ensures { out.new ≡ state_image state ++ drop state_size out.old }
-{
-    store_plan(state.plan, out);
-    state.slice.put(out, SLICE_AT);
-    put_units(state, out);
-    put_sums(state, out);
-}
-
-fn store_running(state: State, out: &mut [u8])
-    requires { state_size ≤ length out.old }
+fn store_running(state: State, out: &mut [u8; STATE])
     ensures { out.new ≡ running_over state out.old }
 {
     state.slice.put(out, SLICE_AT);
@@ -201,9 +183,9 @@ fn store_running(state: State, out: &mut [u8])
 pub fn put_plan(plan: Plan, image: &mut [u8]) -> Answer
     ensures { StoresPlan plan image.old result image.new }
 {
-    if image.len() < PLAN {
+    let Some(image) = image.first_chunk_mut::<PLAN>() else {
         return Answer::bare(9);
-    }
+    };
     store_plan(plan, image);
     Answer::Good
 }
@@ -212,11 +194,11 @@ pub fn put_plan(plan: Plan, image: &mut [u8]) -> Answer
 pub fn put_state(state: State, image: &mut [u8]) -> Answer
     ensures { StoresState state image.old result image.new }
 {
-    if image.len() < STATE {
+    let Some(image) = image.first_chunk_mut::<STATE>() else {
         return Answer::bare(9);
-    }
-    store_state(state, image);
-    Answer::Good
+    };
+    store_running(state, image);
+    put_plan(state.plan, image)
 }
 
 // Stores what follows the plan in a state's image, at its place in a buffer: 9. Where an image of
@@ -224,9 +206,9 @@ pub fn put_state(state: State, image: &mut [u8]) -> Answer
 pub fn put_running(state: State, out: &mut [u8]) -> Answer
     ensures { StoresRunning state out.old result out.new }
 {
-    if out.len() < STATE {
+    let Some(out) = out.first_chunk_mut::<STATE>() else {
         return Answer::bare(9);
-    }
+    };
     store_running(state, out);
     Answer::Good
 }

@@ -2,6 +2,7 @@
 -- Assumes nothing.
 use Rattle.std.specs.Prelude.{ℕ, zero, suc, ◌+◌, ◌-◌, ◌*◌, ◌/◌, ◌%◌, ◌≤◌, ◌<◌, ◌≡◌, cond, List, [], ◌∷◌, ◌++◌, ltb, length}
 use Rattle.std.proofs.lemmas.List.Edits.{sets}
+use Rattle.lines.specs.declared.text.Text.{Text}
 pub mod Properties
 
 -- ---- numbers
@@ -38,3 +39,13 @@ says digits = says_behind 0 digits
 pub record Puts (out : List ℕ) (at : ℕ) (text : List ℕ) (next : ℕ) (after : List ℕ) : Type 0 where
   pub end : next ≡ at + length text
   pub buffer : after ≡ sets out at text
+
+-- room for so many bytes behind a text
+abbrev pub HasRoom : Text → ℕ → Type 0
+HasRoom t bytes = t.at + bytes ≤ length t.out.now
+
+-- a text, and one with more behind it, in the same buffer
+pub record Adds (old : Text) (more : List ℕ) (new : Text) : Type 0 where
+  pub lent : new.out.ghost_name ≡ old.out.ghost_name
+  pub size : length new.out.now ≡ length old.out.now
+  pub puts : Puts old.out.now old.at more new.at new.out.now

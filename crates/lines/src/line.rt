@@ -1,12 +1,11 @@
 // The lines, each written into a lent buffer from an index on. What a line is, byte for byte, is
 // said in specs/Line.antt.
-ghost use Rattle.std.specs.Prelude.{◌≡◌, ℕ, ◌+◌, ◌*◌, ◌≤◌, min, ◌++◌, length, get_or};
-ghost use Rattle.lines.specs.Text.{decimal, Puts};
-ghost use Rattle.lines.specs.Line.{plan_line, outcome, release_line, row_text, card_byte, slice_line, bad_line, end_line, line_room};
-ghost use Rattle.lines.specs.Line.{end_room};
-ghost use Rattle.lines.specs.Line.{Prints};
+ghost use Rattle.std.specs.Prelude.{◌≡◌, ◌+◌, ◌*◌, ◌≤◌, min, ◌++◌, length};
+ghost use Rattle.lines.specs.Text.{HasRoom, Adds};
+ghost use Rattle.lines.specs.Line.{plan_line, outcome, release_line, row_text, card_byte, slice_line, bad_line, end_line, line_text};
+ghost use Rattle.lines.specs.Line.{line_room, end_room, Prints};
 
-use crate::text::{put, put_number};
+use crate::text::Text;
 use answer::Answer;
 
 // What a line says besides the row's bytes. A row stands beside its line, in an array of its own.
@@ -23,117 +22,106 @@ pub enum Line {
     // The last line, at this clock.
     End(u32),
     // No line.
-    // kept: `Line::put` says what it leaves for none, and an Option round each other line is no plainer.
+    // kept: no Option<Line>, since the promise of `Line::put` (`Prints`) has this case.
     Nothing,
 }
 
-// A word, and then a number.
-#[inline(always)]
-fn put_both(out: &mut [u8], at: usize, word: &[u8], n: u32) -> usize
-    requires { at + length word.now + 10 ≤ length out.old }
-    ensures { (Puts out.old at (word.now ++ decimal n) result out.new)
-        × (result ≤ at + length word.now + 10) }
-{
-    let at = put(out, at, word);
-    put_number(out, at, n)
-}
-
-// `plan ok` or `plan refused N at P`.
-fn put_plan(out: &mut [u8], at: usize, answer: Answer) -> usize
-    requires { at + line_room ≤ length out.old }
-    ensures { (Puts out.old at (plan_line answer) result out.new) × (result ≤ at + line_room) }
-{
-    let Answer::No(_) = answer else {
-        return put(out, at, b"plan ok\n");
-    };
-    let at = put_both(out, at, b"plan refused ", u32::from(answer.number()));
-    let at = put_both(out, at, b" at ", u32::from(answer.place()));
-    put(out, at, b"\n")
-}
-
-// ` ok` or ` refused N`, with the line's end.
-fn put_outcome(out: &mut [u8], at: usize, answer: Answer) -> usize
-    requires { at + end_room ≤ length out.old }
-    ensures { (Puts out.old at (outcome answer) result out.new) × (result ≤ at + end_room) }
-{
-    let Answer::No(_) = answer else {
-        return put(out, at, b" ok\n");
-    };
-    let at = put_both(out, at, b" refused ", u32::from(answer.number()));
-    put(out, at, b"\n")
-}
-
-// `r KIND E ok` or `r KIND E refused N`.
-fn put_release(out: &mut [u8], at: usize, kind: u8, e: u16, answer: Answer) -> usize
-    requires { at + line_room ≤ length out.old }
-    ensures { (Puts out.old at (release_line kind e answer) result out.new) × (result ≤ at + line_room) }
-{
-    let at = put_both(out, at, b"r ", u32::from(kind));
-    let at = put_both(out, at, b" ", u32::from(e));
-    put_outcome(out, at, answer)
-}
-
-// The bytes of a row, a space before each.
-fn put_row(out: &mut [u8], at: usize, row: &[u8]) -> usize
-    requires { (length row.now ≤ 8) × (at + 11 * length row.now ≤ length out.old) }
-    ensures { (Puts out.old at (row_text (length row.now) (card_byte row.now)) result out.new)
-        × (result ≤ at + 11 * length row.now) }
-{
-    let mut next = at;
-    for byte in row {
-        next = put_both(out, next, b" ", u32::from(*byte));
+impl Text<'_> {
+    // `plan ok` or `plan refused N at P`.
+    fn plan(&mut self, answer: Answer)
+        requires { HasRoom self.old line_room }
+        ensures { Adds self.old (plan_line answer) self.new × (self.new.at ≤ self.old.at + line_room) }
+    {
+        let Answer::No(_) = answer else {
+            return self.word(b"plan ok\n");
+        };
+        self.both(b"plan refused ", u32::from(answer.number()));
+        self.both(b" at ", u32::from(answer.place()));
+        self.word(b"\n");
     }
-    next
-}
 
-// `t CLOCK:` and the row's bytes.
-fn put_served(out: &mut [u8], at: usize, clock: u32, row: &[u8]) -> usize
-    requires { (length row.now ≤ 8) × (at + line_room ≤ length out.old) }
-    ensures { (Puts out.old at (slice_line Answer.Good clock (length row.now) (card_byte row.now)) result out.new)
-        × (result ≤ at + line_room) }
-{
-    let at = put_both(out, at, b"t ", clock);
-    let at = put(out, at, b":");
-    let at = put_row(out, at, row);
-    put(out, at, b"\n")
-}
+    // ` ok` or ` refused N`, with the line's end.
+    fn outcome(&mut self, answer: Answer)
+        requires { HasRoom self.old end_room }
+        ensures { Adds self.old (outcome answer) self.new × (self.new.at ≤ self.old.at + end_room) }
+    {
+        let Answer::No(_) = answer else {
+            return self.word(b" ok\n");
+        };
+        self.both(b" refused ", u32::from(answer.number()));
+        self.word(b"\n");
+    }
 
-// `t CLOCK:` and the row's bytes, or `t refused N`.
-fn put_slice(
-    out: &mut [u8],
-    at: usize,
-    answer: Answer,
-    clock: u32,
-    row: &[u8; 8],
-    cards: u8,
-) -> usize
-    requires { at + line_room ≤ length out.old }
-    ensures { (Puts out.old at (slice_line answer clock (min cards 8) (card_byte row.now)) result out.new)
-        × (result ≤ at + line_room) }
-{
-    let Answer::No(_) = answer else {
-        return put_served(out, at, clock, &row[..usize::from(cards).min(row.len())]);
-    };
-    let at = put(out, at, b"t");
-    put_outcome(out, at, answer)
-}
+    // `r KIND E ok` or `r KIND E refused N`.
+    fn release(&mut self, kind: u8, e: u16, answer: Answer)
+        requires { HasRoom self.old line_room }
+        ensures { Adds self.old (release_line kind e answer) self.new × (self.new.at ≤ self.old.at + line_room) }
+    {
+        self.both(b"r ", u32::from(kind));
+        self.both(b" ", u32::from(e));
+        self.outcome(answer);
+    }
 
-// `end CLOCK`.
-fn put_end(out: &mut [u8], at: usize, clock: u32) -> usize
-    requires { at + end_room ≤ length out.old }
-    ensures { (Puts out.old at (end_line clock) result out.new) × (result ≤ at + end_room) }
-{
-    let at = put_both(out, at, b"end ", clock);
-    put(out, at, b"\n")
-}
+    // The bytes of a row, a space before each.
+    fn row(&mut self, row: &[u8])
+        requires { (length row.now ≤ 8) × HasRoom self.old (11 * length row.now) }
+        ensures { Adds self.old (row_text (length row.now) (card_byte row.now)) self.new
+            × (self.new.at ≤ self.old.at + 11 * length row.now) }
+    {
+        for byte in row {
+            self.both(b" ", u32::from(*byte));
+        }
+    }
 
-// `bad command`, and then the last line.
-fn put_bad(out: &mut [u8], at: usize, clock: u32) -> usize
-    requires { at + line_room ≤ length out.old }
-    ensures { (Puts out.old at (bad_line ++ end_line clock) result out.new) × (result ≤ at + line_room) }
-{
-    let at = put(out, at, b"bad command\n");
-    put_end(out, at, clock)
+    // `t CLOCK:` and the row's bytes, or `t refused N`.
+    fn slice(&mut self, answer: Answer, clock: u32, row: &[u8; 8], cards: u8)
+        requires { HasRoom self.old line_room }
+        ensures { Adds self.old (slice_line answer clock (min cards 8) (card_byte row.now)) self.new
+            × (self.new.at ≤ self.old.at + line_room) }
+    {
+        let Answer::No(_) = answer else {
+            self.both(b"t ", clock);
+            self.word(b":");
+            self.row(&row[..usize::from(cards).min(row.len())]);
+            return self.word(b"\n");
+        };
+        self.word(b"t");
+        self.outcome(answer);
+    }
+
+    // `end CLOCK`.
+    fn end(&mut self, clock: u32)
+        requires { HasRoom self.old end_room }
+        ensures { Adds self.old (end_line clock) self.new × (self.new.at ≤ self.old.at + end_room) }
+    {
+        self.both(b"end ", clock);
+        self.word(b"\n");
+    }
+
+    // `bad command`, and then the last line.
+    fn bad(&mut self, clock: u32)
+        requires { HasRoom self.old line_room }
+        ensures { Adds self.old (bad_line ++ end_line clock) self.new × (self.new.at ≤ self.old.at + line_room) }
+    {
+        self.word(b"bad command\n");
+        self.end(clock);
+    }
+
+    // Whichever line it is.
+    #[inline(always)]
+    fn line(&mut self, line: Line, row: &[u8; 8])
+        requires { HasRoom self.old line_room }
+        ensures { Adds self.old (line_text line row.now) self.new × (self.new.at ≤ self.old.at + line_room) }
+    {
+        match line {
+            Line::Plan(answer) => self.plan(answer),
+            Line::Release(kind, e, answer) => self.release(kind, e, answer),
+            Line::Slice(answer, clock, cards) => self.slice(answer, clock, row, cards),
+            Line::Bad(clock) => self.bad(clock),
+            Line::End(clock) => self.end(clock),
+            Line::Nothing => {}
+        }
+    }
 }
 
 impl Line {
@@ -151,13 +139,8 @@ impl Line {
         if out.len() - Line::ROOM < at {
             return at;
         }
-        match self {
-            Line::Plan(answer) => put_plan(out, at, answer),
-            Line::Release(kind, e, answer) => put_release(out, at, kind, e, answer),
-            Line::Slice(answer, clock, cards) => put_slice(out, at, answer, clock, row, cards),
-            Line::Bad(clock) => put_bad(out, at, clock),
-            Line::End(clock) => put_end(out, at, clock),
-            Line::Nothing => at,
-        }
+        let mut text = Text { out, at };
+        text.line(self, row);
+        text.at
     }
 }

@@ -22,16 +22,13 @@ pub fn parchbeetle_build(cards: u64, list: &[u8], plan: &mut [u8]) -> u64
     image_writer::put_plan(built.plan, plan).told(0)
 }
 
-// The bytes of the longest list of changes.
-const LONGEST: usize = 342;
-
 // Rescues a plan from damaged bytes, as an image, and lists the changes, six bytes each. Where the
 // image is too short the list is made aside, so that neither buffer is written.
 pub fn parchbeetle_rescue(bytes: &[u8], plan: &mut [u8], list: &mut [u8]) -> u64
     ensures { RescuesPlan bytes.now plan.old list.old result plan.new list.new }
 {
     if plan.len() < images::PLAN {
-        let mut aside = [0u8; LONGEST];
+        let mut aside = [0u8; rescue::LONGEST];
         let tried = rescue::rescue(bytes, &mut aside);
         let answer = tried.answer;
         let Answer::Good = answer else {

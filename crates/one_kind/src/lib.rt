@@ -15,7 +15,7 @@ use answer::Answer;
 use plan::{Kind, Plan, Project};
 
 // The answer, and beside it the plan; all zero on a refusal.
-// kept: "any plan .. that its answer carries is zero when refused".
+// kept: no Result, since document 01 has it: "any plan .. that its answer carries is zero when refused".
 #[derive(Clone, Copy)]
 pub struct Built {
     pub answer: Answer,
@@ -61,16 +61,11 @@ fn kinds_in(list: &[u8]) -> usize
     list.len() / BYTES
 }
 
+#[tactic(auto, unfolding(crate::specs::Built::offered, plan::specs::Order::within))]
 fn offered(cards: u64, kinds: usize) -> bool
     ensures { result ≡ offered cards kinds }
 {
-    if cards == 0 {
-        return false;
-    }
-    if (Plan::CARDS as u64) < cards {
-        return false;
-    }
-    kinds != 0
+    cards != 0 && cards <= Plan::CARDS as u64 && kinds != 0
 }
 
 // 17, 18.
@@ -87,16 +82,11 @@ fn counts(cards: u64, kinds: usize) -> Answer
 }
 
 // Whether a kind with this separation, which is its deadline too, is in range.
+#[tactic(auto, unfolding(crate::specs::Built::timed_alone))]
 fn timed_alone(separation: u16, length: u16) -> bool
     ensures { result ≡ timed_alone separation length }
 {
-    if length == 0 {
-        return false;
-    }
-    if separation < length {
-        return false;
-    }
-    separation <= Kind::LONGEST
+    length != 0 && length <= separation && separation <= Kind::LONGEST
 }
 
 // 6, by kind.

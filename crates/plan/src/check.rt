@@ -82,6 +82,8 @@ impl Plan {
     }
 
     // "places beyond p or n hold zeros"
+    // kept: each stage asks for counts in range; a type of such plans would be made and opened in
+    // `check` and `check_open` alone.
     fn tidy(&self) -> bool
         requires { (self.now.projects ≤ 8) × (self.now.kinds ≤ 16) }
         ensures { result ≡ (tidy_projects self.now && tidy_kinds self.now) }

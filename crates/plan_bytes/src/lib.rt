@@ -55,7 +55,7 @@ pub const BEHIND_PROJECT: u64 = BITS_12 * BEHIND_SEPARATION;
 
 // What reading found: the answer, the plan (all zero where it is refused) and how many bytes it
 // took.
-// kept: "A refused read gives an all-zero plan and 0 bytes taken".
+// kept: no Result, since document 01 has it: "A refused read gives an all-zero plan and 0 bytes taken".
 #[derive(Clone, Copy)]
 pub struct Reading {
     pub answer: Answer,

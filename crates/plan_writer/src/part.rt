@@ -24,6 +24,7 @@ pub(crate) fn put_header(plan: Plan, out: &mut [u8])
 }
 
 // What is written at places of a plan's bytes: a project or a unit kind.
+// kept: beside the reader's trait of that name, since reading and writing share the width alone.
 pub(crate) trait Place: Copy {
     ghost WIDTH: { ℕ };
 

@@ -24,6 +24,8 @@ fn is_short(last: bool, left: usize) -> bool
 
 // Plays commands from a state on, with so many bytes taken and so many printed: at most so many
 // lines.
+// kept: three of the seven are the loop's own and end in a Progress. A Progress in their place holds
+// a Session, of which each turn would first have to take the state out.
 pub(crate) fn run(
     mut state: State,
     bytes: &[u8],

@@ -38,7 +38,7 @@ impl State {
         let kinds = plan.kind;
         let mut unit = self.unit;
         let mut sum = self.sum;
-        // kept: four arrays go side by side, and an iterator over one would index the others still.
+        // kept: an index; an iterator over one of the four arrays would index the others still.
         for i in 0..usize::from(plan.kinds) {
             let kind = kinds[i];
             let number = seat[i];

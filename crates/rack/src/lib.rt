@@ -32,7 +32,7 @@ pub struct State {
 }
 
 // What a call answers, and the state that it hands back.
-// kept: "a refused slice or release gives back the state handed in".
+// kept: no Result, since document 01 has it: "a refused slice or release gives back the state handed in".
 #[derive(Clone, Copy)]
 pub struct Next {
     pub answer: Answer,

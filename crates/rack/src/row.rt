@@ -36,7 +36,7 @@ fn project_cards(plan: Plan, slice: u8) -> Cards
     let mut cell: u16 = 0;
     let mut card: u8 = 0;
     let projects = plan.project;
-    // kept: three arrays go side by side, and what begins a project's cards is what ended the last's
+    // kept: an index, since the seats take the lowest and the last cards as two arrays.
     for j in 0..usize::from(plan.projects) {
         low[j] = card;
         cell += projects[j].budget;

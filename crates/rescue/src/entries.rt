@@ -7,15 +7,12 @@ ghost use Rattle.rescue.specs.Entry.{entry, change, entries_to, Noted};
 ghost use Rattle.rescue.specs.Rescue.{project_spare_change, kind_spare_change};
 ghost use Rattle.rescue.specs.Rescue.{spare_entries, project_entries, kind_entries, project_changes, kind_changes, changes_in};
 
-use crate::mended;
+use crate::{LONGEST, mended};
 use plan::{Kind, Plan, Project};
 use plan_bytes::{BITS_1, BITS_2, BITS_4, HEADER, KIND, PROJECT};
 
 // The bytes of an entry.
 const ENTRY: usize = 6;
-
-// The bytes of the longest list: 57 entries.
-const LONGEST: usize = 342;
 
 // The list so far, in the first bytes.
 #[derive(Clone, Copy)]
@@ -96,7 +93,7 @@ impl Notes {
         ensures { (Noted self.old.count self.old.bytes (entries_to projects (project_spare_change bytes.now)) self.new.count self.new.bytes)
             × (self.new.count ≤ self.old.count + 6 * projects) }
     {
-        // kept: by number, since no places are gone over, but bytes of the file.
+        // kept: by number; the parts are cut from the bytes one by one (`spare`), as those of the kinds are.
         for j in 0..projects {
             let from = HEADER + PROJECT * usize::from(j);
             self.note(2, j, spare(bytes, from, PROJECT, BITS_2), 0);
@@ -146,6 +143,7 @@ impl Notes {
 }
 
 // All of them: spare bits, then project by project, then kind by kind.
+// kept: what room and what counts are asked for, since each function asks for another number of them.
 pub(crate) fn changes(bytes: &[u8], plan: Plan) -> Notes
     requires { (plan.projects ≤ 8) × (plan.kinds ≤ 16) × (size plan ≤ length bytes.now) }
     ensures { (Noted 0 (replicate 342 0) (changes_in bytes.now plan) result.count result.bytes) × (result.count ≤ 342) }

@@ -14,13 +14,16 @@ use answer::Answer;
 use plan::Plan;
 
 // The answer, the plan (all zero on a refusal) and how many bytes of the list were written.
-// kept: "any plan .. that its answer carries is zero when refused".
+// kept: no Result, since document 01 has it: "any plan .. that its answer carries is zero when refused".
 #[derive(Clone, Copy)]
 pub struct Rescued {
     pub answer: Answer,
     pub plan: Plan,
     pub count: usize,
 }
+
+// The bytes of the longest list: 57 entries.
+pub const LONGEST: usize = 342;
 
 fn refused(answer: Answer) -> Rescued
     ensures { (result.answer ≡ answer) × (result.plan ≡ no_plan) × (result.count ≡ 0) }

@@ -45,7 +45,7 @@ impl AllStandings {
         ensures { Standings works.now until.now kinds result.each }
     {
         let mut each = [0u32; KINDS];
-        // kept: three arrays go side by side, and the number is a part of what is stored
+        // kept: an index; a zip of the arrays, numbered, is no plainer.
         for i in 0..kinds {
             each[i] = standing(works[i], until[i], i);
         }
@@ -95,7 +95,7 @@ impl AllStandings {
 // Where every kind sits: the card that it takes, plus 1, or 0. A kind works for its project plus 1,
 // or for 0 where it has nothing left; low and end are each project's lowest card and the card
 // after its last.
-// kept: arrays side by side, of which `seats_by` speaks, and no branch in the count over them.
+// kept: an array for each fact, as the contract (`seats_by`) has them.
 pub fn seats(
     works: &[u8; KINDS],
     until: &[u16; KINDS],
@@ -111,7 +111,7 @@ pub fn seats(
     }
     let standings = AllStandings::of(works, until, kinds);
     let mut firsts = [None; PROJECTS];
-    // kept: three arrays go side by side, and for most kinds only one is looked at
+    // kept: an index; a zip of the arrays, numbered, is no plainer.
     for i in 0..kinds {
         let number = works[i];
         if number == 0 {

@@ -19,7 +19,7 @@ use answer::Answer;
 use plan::Plan;
 
 // The answer, and beside it the least budget; 0 on a refusal.
-// kept: "any .. figure .. that its answer carries is zero when refused".
+// kept: no Result, since document 01 has it: "any .. figure .. that its answer carries is zero when refused".
 #[derive(Clone, Copy)]
 pub struct Smallest {
     pub answer: Answer,

@@ -79,6 +79,7 @@ fn asked(width: u8, length: u16, workload: u32) -> usize
 // How much longer a unit is than this width allows, with the width's bad slice: C minus the greatest
 // C' with kC' + W <= S(k,D). A width that allows not even 0 counts as one slice more than the
 // whole, with no slice.
+// kept: five numbers that meet nowhere else.
 fn short_by(width: u8, length: u16, workload: u32, supply: usize, slice: u8) -> Least
     requires { 0 < width }
     ensures { (result ≡ short_by width length workload supply slice) × (result.value ≤ 65536) }
@@ -115,6 +116,7 @@ fn two_frames(held: [u8; 64], frame: usize) -> [u8; 128]
 // The least width, of 1 to the ceiling, at which the unit fits. One frame's sum counts for each
 // whole frame of the deadline, so that only the slices left over are gone through, from each start.
 // A sum of less than a frame stays in 16 bits, which keeps the inner loop quick.
+// kept: six numbers, as `fit_of` has them.
 pub fn least_fit(
     held: [u8; 64],
     frame: u8,
@@ -155,7 +157,7 @@ pub fn least_fit(
         let width = below + 1;
         let mut one_frame: u16 = 0;
         let mut least = Least { value: 0, slice: 0 };
-        // kept: as windows of the cards there would be none for a rest of 0.
+        // kept: an index, since there are no windows of a rest of 0 slices.
         for start in 0..slices {
             let mut sum: u16 = 0;
             for here in &cards[start..start + rest] {
@@ -211,7 +213,7 @@ pub fn supply(held: [u8; 64], frame: u8, width: u8, t: u16) -> Supplied
     let cards = two_frames(held, slices);
     let mut one_frame: u16 = 0;
     let mut least = Least { value: 0, slice: 0 };
-    // kept: as windows of the cards there would be none for a rest of 0.
+    // kept: an index, since there are no windows of a rest of 0 slices.
     for start in 0..slices {
         let mut sum: u16 = 0;
         for here in &cards[start..start + rest] {

@@ -119,7 +119,7 @@ fn bad_slice(out: &mut Output, held: [u8; 64], length: u16) -> fmt::Result {
 // 0's slots before card 1's.
 fn held(slots: [u8; 8], number: u8) -> [u8; 64] {
     let mut cards = [0u8; 64];
-    // kept: each slice is that of two slots.
+    // kept: by slice, since each reads two slots, one of each card.
     for slice in 0..4 {
         cards[slice] = u8::from(slots[slice] == number) + u8::from(slots[4 + slice] == number);
     }

@@ -11,7 +11,7 @@ use plan::{Ordered, Plan};
 
 // The answer, and beside it how many k there are, the workload, and S(k,D) and its bad slice with
 // those of k at place k - 1. Places beyond the ceiling hold 0, and on a refusal everything does.
-// kept: "any .. figure .. that its answer carries is zero when refused".
+// kept: no Result, since document 01 has it: "any .. figure .. that its answer carries is zero when refused".
 #[derive(Clone, Copy)]
 pub struct Figures {
     pub answer: Answer,

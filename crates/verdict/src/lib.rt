@@ -4,7 +4,7 @@
 
 mod figures;
 
-ghost use Rattle.std.specs.Prelude.{◌≡◌, ◌+◌, ◌*◌, ◌≤◌, ◌<◌, eqb};
+ghost use Rattle.std.specs.Prelude.{◌≡◌, replicate, ◌+◌, ◌*◌, ◌≤◌, ◌<◌, eqb};
 ghost use Rattle.answer.specs.Answer.{not_admitted, refuse};
 ghost use Rattle.plan.specs.Order.{kind_of};
 ghost use Rattle.verdict.specs.Verdict.{admitted, verdict_of, judged};
@@ -18,13 +18,23 @@ use supply::Fit;
 // The answer, and beside it document 01's k for each kind: the most cards that count at one
 // slice, hence a width; and the bad slice to arrive in for that k. Places beyond the kinds hold 0,
 // and on a refusal every place does.
-// kept: "A refused verdict gives k 0 for every kind".
+// kept: no Result, since document 01 has it: "A refused verdict gives k 0 for every kind".
 #[derive(Clone, Copy)]
 pub struct Verdict {
     pub answer: Answer,
     // kept: two arrays, as `judged` and the C interface have them.
     pub width: [u8; Plan::KINDS],
     pub slice: [u8; Plan::KINDS],
+}
+
+fn refused(answer: Answer) -> Verdict
+    ensures { result ≡ record { answer = answer; width = replicate 16 0; slice = replicate 16 0 } }
+{
+    Verdict {
+        answer,
+        width: [0u8; Plan::KINDS],
+        slice: [0u8; Plan::KINDS],
+    }
 }
 
 // The cards that a run of cells holds at each slice of the frame.
@@ -98,11 +108,7 @@ fn fits(ordered: Ordered) -> Verdict
         let fit = fit_on(ordered, cards[kind.project as usize], place);
         let answer = told(fit, place);
         let Answer::Good = answer else {
-            return Verdict {
-                answer,
-                width: [0u8; Plan::KINDS],
-                slice: [0u8; Plan::KINDS],
-            };
+            return refused(answer);
         };
         width[i] = fit.width;
         slice[i] = fit.slice;
@@ -120,11 +126,7 @@ pub fn judge(plan: Plan) -> Verdict
 {
     let order = plan.check();
     let Answer::Good = order else {
-        return Verdict {
-            answer: order,
-            width: [0u8; Plan::KINDS],
-            slice: [0u8; Plan::KINDS],
-        };
+        return refused(order);
     };
     fits(Ordered { plan })
 }

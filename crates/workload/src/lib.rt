@@ -12,12 +12,7 @@ use plan::{Kind, Plan};
 fn kind_at(plan: Plan, kind: usize) -> Kind
     ensures { result ≡ kind_of plan kind }
 {
-    plan.kind.get(kind).copied().unwrap_or(Kind {
-        project: 0,
-        separation: 0,
-        deadline: 0,
-        length: 0,
-    })
+    plan.kind.get(kind).copied().unwrap_or_default()
 }
 
 // What every other kind of the same project adds up to, against this kind's deadline.

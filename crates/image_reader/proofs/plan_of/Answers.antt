@@ -1,10 +1,15 @@
 -- `image_reader::plan_of` meets its contract.
 -- Assumes nothing.
+use Rattle.std.proofs.Common.{◌∙◌, arith}
+use Rattle.images.specs.Image.{plan_size}
 use Rattle.images.specs.Lent.Properties.{plan_short, plan_good}
+use Rattle.image_reader.proofs.Front.{plan_front}
 use Rattle.image_reader.proofs.plan_of.Goals as goal
 
-pub returns-then-image-lt-PLAN : goal.returns-then-image-lt-PLAN
-returns-then-image-lt-PLAN c = search plan_short
+pub returns-in_default : goal.returns-in_default
+returns-in_default c = plan_short _ c.in_default.ensures.cases
 
 pub returns : goal.returns
-returns c = search plan_good
+returns c =
+    let f = c.in-Some.ensures.cases in
+    plan_good _ _ f.enough (c.plan_from.ensures ∙ plan_front plan_size _ _ f (omega arith))

@@ -1,12 +1,12 @@
 -- `image_writer::put_plan` meets its contract.
 -- Assumes nothing.
-use Rattle.std.proofs.Common.{arith}
+use Rattle.std.proofs.Common.{ap, List, ℕ, ◌++◌, drop}
 use Rattle.images.specs.Image.{plan_size, plan_image}
-use Rattle.images.specs.Lent.Properties.{stores_short, stores_good}
+use Rattle.images.specs.Lent.Properties.{stores_good}
 use Rattle.image_writer.proofs.put_plan.Goals as goal
 
-pub returns-then-image-lt-PLAN : goal.returns-then-image-lt-PLAN
-returns-then-image-lt-PLAN c = stores_short (plan_image c.args.plan) plan_size _ _ (search) (omega arith)
-
 pub returns : goal.returns
-returns c = search stores_good
+returns c =
+    let s = c.args.image.now in
+    stores_good (plan_image c.args.plan) plan_size s _ c.in-Some.ensures.cases.enough
+    (ap (λ (x : List ℕ). x ++ drop plan_size s) c.store_plan.ensures)

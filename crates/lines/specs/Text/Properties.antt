@@ -2,15 +2,17 @@
 -- Assumes nothing.
 use Rattle.std.specs.Prelude.{◌≡◌, refl, List, [], ◌∷◌, ◌++◌, ℕ, zero, suc, ◌+◌, ◌-◌, ◌*◌, ◌/◌, ◌%◌, ◌^◌, ◌≤◌, ◌<◌, length, take, drop}
 use Rattle.std.specs.Prelude.{get_or, set}
-use Rattle.std.proofs.Common.{sym, append_assoc, drop-drop, ap, ap₂, ◌∙◌, add-zero, arith, length-append, lt-ltb, le-ltb}
+use Rattle.std.proofs.Common.{sym, append_assoc, drop-drop, ap, ap₂, ◌∙◌, add-zero, pow-suc, div-lt_iff_lt-mul, arith, length-append}
+use Rattle.std.proofs.Common.{lt-ltb, le-ltb}
 use Rattle.std.proofs.Math.Decide.{dec_lt}
 use Rattle.std.proofs.Math.ListN.{get_or-append}
 use Rattle.std.proofs.lemmas.List.Edits.{sets, sets-eq}
 use borrow.Rule.Slice.PartMut.{put_mid}
-use Rattle.std.proofs.Math.Seq.{get_or-append_seam}
+use Rattle.std.proofs.Math.Seq.{get_or-append_seam, length-sets}
 use Rattle.std.specs.Fmt as library
 use Rattle.std.proofs.lemmas.Fmt.{decimal_by_steps}
-use Rattle.lines.specs.Text.{digit, decimal_in, decimal, IsDigit, says_behind, says, Puts}
+use Rattle.lines.specs.Text.{digit, decimal_in, decimal, IsDigit, says_behind, says, Puts, Adds}
+use Rattle.lines.specs.declared.text.Text.{Text}
 
 -- ---- stores one behind the other
 
@@ -37,15 +39,19 @@ puts_then l m o at n k xs ys p q =
       buffer = q.buffer ∙ ap₂ (λ (x : List ℕ) (j : ℕ). sets x j ys) p.buffer e ∙ sym (sets_append l at xs ys);
     }
 
--- three, and four, one behind the other
-pub puts_three : (l m o p : List ℕ) (at n k j : ℕ) (xs ys zs : List ℕ) → Puts l at xs n m → Puts m n ys k o → Puts o k zs j p
-    → Puts l at (xs ++ ys ++ zs) j p
-puts_three l m o p at n k j xs ys zs a b c = puts_then l o p at k j (xs ++ ys) zs (puts_then l m o at n k xs ys a b) c
+pub puts_length : (l m : List ℕ) (at n : ℕ) (xs : List ℕ) → Puts l at xs n m → length m ≡ length l
+puts_length l m at n xs p = ap length p.buffer ∙ length-sets l at xs
 
-pub puts_four : (l m o p q : List ℕ) (at n k j i : ℕ) (xs ys zs ws : List ℕ) → Puts l at xs n m → Puts m n ys k o → Puts o k zs j p
-    → Puts p j ws i q → Puts l at (xs ++ ys ++ zs ++ ws) i q
-puts_four l m o p q at n k j i xs ys zs ws a b c d =
-    puts_then l p q at j i (xs ++ ys ++ zs) ws (puts_three l m o p at n k j xs ys zs a b c) d
+pub adds_none : (s : Text) → Adds s [] s
+adds_none s = record { lent = refl; size = refl; puts = puts_none s.out.now s.at }
+
+pub adds_then : (s t u : Text) (xs ys : List ℕ) → Adds s xs t → Adds t ys u → Adds s (xs ++ ys) u
+adds_then s t u xs ys p q =
+    record {
+      lent = q.lent ∙ p.lent;
+      size = q.size ∙ p.size;
+      puts = puts_then s.out.now t.out.now u.out.now s.at t.at u.at xs ys p.puts q.puts;
+    }
 
 -- ---- a word, stored in the part of the buffer that was lent for it and is back
 
@@ -80,20 +86,41 @@ decimal_large : (n : ℕ) → 10 ≤ n → decimal n ≡ decimal (n / 10) ++ (di
 unfolding decimal decimal_in
 decimal_large n l = rw (le-ltb n 10 l, decimal_steps n (suc (n / 10)) (n / 10) (omega arith) (omega arith))
 
+-- the room that it takes
+decimal_more : (n : ℕ) → 10 ≤ n → length (decimal n) ≡ length (decimal (n / 10)) + 1
+decimal_more n h = rw (decimal_large n h) (length-append (decimal (n / 10)) (digit (n % 10) ∷ []))
+
+pub decimal_one : (n : ℕ) → n < 10 → length (decimal n) ≡ 1
+decimal_one n h = rw (decimal_small n h)
+
+decimal_most : (k n : ℕ) → n < 10 ^ suc k → length (decimal n) ≤ suc k
+decimal_most zero n h = omega (arith, decimal_one n h)
+decimal_most (suc k) n h =
+    elim (dec_lt n 10) [
+      | yes p ↦ omega (arith, decimal_one n p)
+      | no p ↦
+          let q : n / 10 < 10 ^ suc k = (div-lt_iff_lt-mul {k = 10} {x = n} {y = 10 ^ suc k} (omega arith)).1 (rw pow-suc at h) in
+          omega (arith, decimal_more n (omega arith), decimal_most k (n / 10) q)
+    ]
+
+-- a number of 32 bits has at most ten digits
+pub decimal_ten : (n : ℕ) → n < 2 ^ 32 → length (decimal n) ≤ 10
+decimal_ten n h = decimal_most 9 n (omega arith)
+
 -- the library's digits are these
 pub decimal_is : (n : ℕ) → n < 2 ^ 64 → library.decimal n ≡ decimal n
 decimal_is n h =
     decimal_by_steps (λ k ds. ds ≡ decimal k) (λ k l. sym (decimal_small k l))
     (λ k ds l e. ap (λ (x : List ℕ). x ++ (digit (k % 10) ∷ [])) e ∙ sym (decimal_large k l)) n h
 
-pub digits_first : (l : List ℕ) (at n : ℕ) → n < 10 → Puts l at (decimal n) (at + 1) (set l at (48 + n))
-digits_first l at n h = rw (decimal_small n h) (record { end = refl; buffer = refl })
+pub adds_digit : (s t : Text) (n : ℕ) → n < 10 → Adds s ((48 + n) ∷ []) t → Adds s (decimal n) t
+adds_digit s t n h a = rw (decimal_small n h) a
 
-pub puts_number : (l m text bytes : List ℕ) (at next n : ℕ) → n < 2 ^ 32 → text ≡ library.decimal n → bytes ≡ text → Puts l at bytes next m
-    → Puts l at (decimal n) next m
-puts_number l m text bytes at next n h e f p =
+pub adds_number : (s t : Text) (text bytes : List ℕ) (n : ℕ) → n < 2 ^ 32 → text ≡ library.decimal n → bytes ≡ text → Adds s bytes t
+    → Adds s (decimal n) t
+adds_number s t text bytes n h e f a =
     let d = decimal_is n (omega arith) in
-    rw (f, e, d) at p
+    rw (f, e, d) at a
 
 -- ---- what the digits say
 

@@ -1,5 +1,6 @@
 -- `verdict::fits` meets its contract.
 -- Assumes nothing.
+use Rattle.std.proofs.Math.Path.{◌∙◌}
 use Rattle.std.proofs.Common.{rules}
 use Rattle.laws.specs.Written.Properties.{written_none}
 use Rattle.answer.specs.Answer.Properties.{each_none}
@@ -18,7 +19,7 @@ pub told-answer-requires : goal.told-answer-requires
 told-answer-requires c = search (excess_room, front_below)
 
 pub returns-in_default : goal.returns-in_default
-returns-in_default c = search (fits_no, front_below)
+returns-in_default c = c.refused.ensures ∙ search (fits_no, front_below)
 
 pub loop-i-preserved : goal.loop-i-preserved
 loop-i-preserved c = (search fits_again, search width_again, search slice_again)

@@ -1,0 +1,3 @@
+-- Laws that the proofs share.
+-- Assumes nothing.
+pub mod Chunk

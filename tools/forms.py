@@ -23,7 +23,6 @@ LINES = [
     ("1 a flag beside a value", r"^    (pub )?(clean|released|last|spare): (bool|u8),$"),
     ("1 a refusal's number", r"Answer::(bare|at_project|at_kind)\([0-9]"),
     ("3 loops over a counted index", r"\bfor [a-z_]+ in [^\[&]*\.\.|^ *while "),
-    ("4 casts to a wider or equal number", r" as (u16|u32|u64|usize|isize)\b"),
     ("4 printing by hand", r"\bio::(write_all|print_decimal|print_hex)\("),
     ("6 a buffer and an index in it", r"\bat: usize"),
     ("6 arrays side by side", r"^    (pub(\(crate\))? )?(works|until|low|end|owner|length|deadline|workload|width|slice|supply): \[|^    (owner|length|deadline|workload): &\["),

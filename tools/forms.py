@@ -21,7 +21,7 @@ LINES = [
     ("1 own enums", r"^ *(pub )?enum "),
     ("1 an answer beside a value", r"^ *pub(\(crate\))? answer: Answer,$"),
     ("1 a flag beside a value", r"^    (pub )?(clean|released|last|spare): (bool|u8),$"),
-    ("1 a refusal's number", r"Answer::(bare|at_project|at_kind)\([0-9]"),
+    ("1 a refusal's number", r"Answer::(bare|at_project|at_kind)\([0-9]|Refusal::\w+\([0-9]"),
     ("3 loops over a counted index", r"\bfor [a-z_]+ in [^\[&]*\.\.|^ *while "),
     ("4 printing by hand", r"\bio::(write_all|print_decimal|print_hex)\("),
     ("6 a buffer and an index in it", r"\bat: usize"),

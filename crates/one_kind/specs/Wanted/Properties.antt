@@ -42,18 +42,21 @@ module _ (list rest : List ℕ) (n : ℕ) (e : rest ≡ drop (4 * n) list) (m : 
         sym (drop_at kind next 4 k) ∙ ap (drop 4) (sym s ∙ e) ∙ drop-drop 4 (4 * n) list
         ∙ ap (λ (x : ℕ). drop x list) (omega (arith, f))
 
-    pub next_room : (a : ℕ) → a ≡ n + 1 → 4 * a ≤ length list
-    next_room a f =
+    -- its four bytes and what is left after it are the rest of the list
+    after_it : 4 * n + (4 + length next) ≡ length list
+    after_it =
         omega (
           arith,
-          f,
+          m,
           k,
           ap (λ (l : List ℕ). length l) s,
           ap (λ (l : List ℕ). length l) e,
           length-append kind next,
-          length-drop
-              (4 * n) list,
+          length-drop (4 * n) list,
         )
+
+    pub next_room : (a : ℕ) → a ≡ n + 1 → 4 * a ≤ length list
+    next_room a f = omega (arith, f, after_it)
 
     there : (i j : ℕ) → i < 4 → 4 * n + i ≡ j → get_or kind i 0 ≡ get_or list j 0
     there i j l f =
@@ -67,17 +70,7 @@ module _ (list rest : List ℕ) (n : ℕ) (e : rest ≡ drop (4 * n) list) (m : 
 
     -- it is one of those listed
     pub kind_listed : (kinds : ℕ) → 4 * kinds ≡ length list → n < kinds
-    kind_listed kinds f =
-        omega (
-          arith,
-          f,
-          k,
-          ap (λ (l : List ℕ). length l) s,
-          ap (λ (l : List ℕ). length l) e,
-          length-append kind next,
-          length-drop
-              (4 * n) list,
-        )
+    kind_listed kinds f = omega (arith, f, after_it)
 
     pub separation_there : separation_in kind 0 ≡ separation_in list n
     unfolding field_at

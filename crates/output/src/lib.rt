@@ -12,11 +12,10 @@ const STDOUT_FILENO: i32 = 1;
 pub struct Output;
 
 impl fmt::Write for Output {
+    // Good whatever the write says: what cannot be written is left out, and the program goes on with
+    // the rest, as far as that can be.
     fn write_str(&mut self, text: &str) -> fmt::Result {
-        if io::write_all(STDOUT_FILENO, text.as_bytes()) {
-            Ok(())
-        } else {
-            Err(fmt::Error)
-        }
+        io::write_all(STDOUT_FILENO, text.as_bytes());
+        Ok(())
     }
 }

@@ -19,12 +19,19 @@ fn read(out: &mut Output, case: &str, bytes: &[u8]) -> Result<Plan, fmt::Error> 
     Ok(reading.plan)
 }
 
+// Both digits in one write, where `{byte:02x}` would write a leading zero by itself.
+fn print_byte(out: &mut Output, byte: u8) -> fmt::Result {
+    write!(out, " ")?;
+    io::print_hex(1, u64::from(byte), 2);
+    Ok(())
+}
+
 // Writes into the bytes lent, and prints them as they are then.
 fn write(out: &mut Output, case: &str, plan: Plan, lent: &mut [u8]) -> fmt::Result {
     let written = plan_writer::write(plan, lent);
     answered(out, case, written.answer, written.count)?;
     for byte in lent {
-        write!(out, " {byte:02x}")?;
+        print_byte(out, *byte)?;
     }
     writeln!(out)
 }

@@ -15,6 +15,18 @@ fn print_decimals(out: &mut Output, bytes: &[u8]) -> fmt::Result {
     writeln!(out)
 }
 
+// Both digits in one write, where `{byte:02x}` would write a leading zero by itself.
+fn print_byte(out: &mut Output, byte: u8) -> fmt::Result {
+    write!(out, " ")?;
+    io::print_hex(1, u64::from(byte), 2);
+    Ok(())
+}
+
+// A number behind its name, with a space that is a write of its own.
+fn print_named(out: &mut Output, name: &str, number: u64) -> fmt::Result {
+    write!(out, "{name} {number}")
+}
+
 fn print_answer(out: &mut Output, answer: Answer) -> fmt::Result {
     let (number, place, excess) = (answer.number(), answer.place(), answer.excess());
     write!(out, " {number} {place} {excess}")
@@ -70,7 +82,9 @@ fn verdict(out: &mut Output, case: &str, plan: Plan) -> fmt::Result {
     write!(out, " k")?;
     print_decimals(out, &verdict.width)?;
     let slice = verdict.answer.slice();
-    write!(out, "{case} slice {slice} k")?;
+    write!(out, "{case}")?;
+    print_named(out, " slice", u64::from(slice))?;
+    write!(out, " k")?;
     print_decimals(out, &verdict.slice)
 }
 
@@ -79,8 +93,8 @@ fn smallest(out: &mut Output, case: &str, plan: Plan, project: usize) -> fmt::Re
     let smallest = smallest_budget::smallest_budget(plan, project);
     write!(out, "{case}")?;
     print_answer(out, smallest.answer)?;
-    let budget = smallest.budget;
-    writeln!(out, " B {budget}")
+    print_named(out, " B", u64::from(smallest.budget))?;
+    writeln!(out)
 }
 
 fn print_budgets(out: &mut Output, plan: Plan) -> fmt::Result {
@@ -96,8 +110,8 @@ fn alone(out: &mut Output, case: &str, cards: u64, list: &[u8]) -> fmt::Result {
     let built = one_kind::build(cards, list);
     write!(out, "{case}")?;
     print_answer(out, built.answer)?;
-    let frame = built.plan.frame;
-    write!(out, " F {frame} B")?;
+    print_named(out, " F", u64::from(built.plan.frame))?;
+    write!(out, " B")?;
     print_budgets(out, built.plan)
 }
 
@@ -132,13 +146,13 @@ fn bytes_of_a(out: &mut Output) -> fmt::Result {
     );
     write!(out, "P1 read")?;
     print_answer(out, reading.answer)?;
-    let taken = reading.taken;
-    writeln!(out, " taken {taken}")?;
+    print_named(out, " taken", reading.taken as u64)?;
+    writeln!(out)?;
     let mut bytes = [0u8; 22];
     plan_writer::write(reading.plan, &mut bytes);
     write!(out, "P1 written")?;
     for byte in &bytes {
-        write!(out, " {byte:02x}")?;
+        print_byte(out, *byte)?;
     }
     writeln!(out)
 }
@@ -169,8 +183,8 @@ fn layout_of_a(out: &mut Output) -> fmt::Result {
     let written = layout::slot_table(like_a(3, 5, kind(0, 8, 8, 6)), &mut slots);
     write!(out, "P2 answer")?;
     print_answer(out, written.answer)?;
-    let count = written.count;
-    writeln!(out, " count {count}")?;
+    print_named(out, " count", written.count as u64)?;
+    writeln!(out)?;
     write!(out, "P2 table")?;
     print_decimals(out, &slots)?;
     supplies_of_a(out, slots)
@@ -235,8 +249,9 @@ fn rescued(out: &mut Output, case: &str, bytes: &[u8], list: &mut [u8]) -> fmt::
     let rescued = rescue::rescue(bytes, list);
     write!(out, "{case}")?;
     print_answer(out, rescued.answer)?;
-    let (count, kinds) = (rescued.count, rescued.plan.kinds);
-    write!(out, " count {count} n {kinds} B")?;
+    print_named(out, " count", rescued.count as u64)?;
+    print_named(out, " n", u64::from(rescued.plan.kinds))?;
+    write!(out, " B")?;
     print_budgets(out, rescued.plan)?;
     write!(out, "{case} list")?;
     print_decimals(out, list)

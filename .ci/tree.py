@@ -46,7 +46,8 @@ class Function:
         self.parameters = []
         for part in filter(None, map(flat, given.split(","))):
             word, _, kind = part.removeprefix("mut ").partition(": ")
-            self.parameters.append((word, kind or "Self"))
+            lent, own = re.fullmatch(r"(&?(?:mut )?)(self)", word).groups() if not kind else ("", word)
+            self.parameters.append((own, kind or f"{lent}Self"))
         self.result = flat(re.match(r"(?: *-> ([^\n]*))?", rest).group(1) or "()")
         self.requires = re.search(r"\brequires\b", rest) is not None
         ensures = re.search(r"\bensures \{(.*)\}\s*$", rest, re.S)
@@ -71,8 +72,34 @@ def handed_on(root):
             yield module.removeprefix("crate::"), item
 
 
+OF_TRAIT = re.compile(r"^impl ([\w:]+)[^\n{]* for (\w+)[^\n{]*\{\n.*?^\}", re.M | re.S)
+METHOD = re.compile(r"^( +)fn (\w+)(\(.*?)^\1\{\n(.*?)^\1\}", re.M | re.S)
+
+
+def methods_of_traits(crate, sources, types):
+    """Each method that a type which can be reached has by a trait that can be reached: by one of std, or by a public one of the crate."""
+    hidden = {name for source in sources.values() for name in re.findall(r"^(?:pub\(crate\) )?trait (\w+)", source, re.M)}
+    bare = {name for source in sources.values() for name in re.findall(r"^pub struct (\w+);", source, re.M)}
+    for path, source in sources.items():
+        for found in OF_TRAIT.finditer(source):
+            trait, of = found.groups()
+            if of not in types or trait.split("::")[-1] in hidden:
+                continue
+            heads = list(METHOD.finditer(source, *found.span()))
+            if len(re.findall(r"\bfn ", found.group())) != len(heads):
+                raise SystemExit(f"{path}: not every method of {trait} for {of} can be read")
+            for head in heads:
+                given = head.group(3)
+                if of in bare:
+                    # (a value without fields is left as it was)
+                    given = re.sub(r"^\(&mut self\b", "(self", given)
+                lines = tuple(1 + source.count("\n", 0, at) for at in head.span())
+                yield Function(crate, path, f"{of}::{head.group(2)}", False, given, head.group(4), head.span(4), lines)
+
+
 def functions(crate):
-    """Each public function of a crate that another crate or another language can reach. A method counts where its type can be reached."""
+    """Each public function of a crate that another crate or another language can reach. A method counts where its type can be reached, one
+    of a trait where the trait can be reached too."""
     root = without_comments(text(crate / "src" / "lib.rt"))
     handed = set(handed_on(root))
     types = set(re.findall(r"^pub (?:struct|enum) (\w+)", root, re.M)) | {item for _, item in handed}
@@ -93,6 +120,7 @@ def functions(crate):
             if exported or (of in types if of else path.stem in opened or (path.stem, name) in handed):
                 lines = tuple(1 + source.count("\n", 0, at) for at in head.span())
                 yield Function(crate, path, f"{of}::{name}" if of else name, exported, head.group(4), head.group(5), head.span(5), lines)
+    yield from methods_of_traits(crate, sources, types)
 
 
 def static_libraries(root):
@@ -110,6 +138,8 @@ def type_of(kind, own):
         return "Bool"
     if kind in NUMBERS:
         return "ℕ"
+    if kind == "str":
+        return "List ℕ"
     listed = re.fullmatch(r"\[(.*?)(?:; \w+)?\]", kind)
     if listed:
         of = type_of(listed.group(1), own)

@@ -1,8 +1,8 @@
 -- The loop of `play`: where a play of standard input stands between two rounds, and what a round leaves, for whatever a read may bring and
 -- a write may answer.
 -- Assumes nothing.
-use Rattle.std.specs.Prelude.{ℕ, suc, ◌+◌, ◌-◌, ◌^◌, ◌≤◌, ◌<◌, ◌≡◌, Bool, true, false, cond, List, [], ◌++◌, Option, None, Some, Result, Ok}
-use Rattle.std.specs.Prelude.{Err, eqb, length, take, drop}
+use Rattle.std.specs.Prelude.{ℕ, suc, ◌+◌, ◌-◌, ◌^◌, ◌≤◌, ◌<◌, min, ◌≡◌, Bool, true, false, cond, List, [], ◌++◌, Option, None, Some}
+use Rattle.std.specs.Prelude.{Result, Ok, Err, eqb, length, take, drop}
 use Rattle.lines.specs.Line.{line_room}
 use Rattle.player.specs.declared.session.Session.{Session}
 use Rattle.player.specs.Session.{unopened, is_over, Move, play_of}
@@ -40,10 +40,10 @@ lines_now desk input room = play_of desk.session desk.last (holds desk input) ro
 
 -- ---- what comes from outside
 
--- what a read's answer says: a count, or else that it failed
-abbrev pub arrival_of : {E : Type 0} → Result ℕ E → Option ℕ
-arrival_of (Ok n) = Some n
-arrival_of (Err e) = None
+-- what a read's answer says, of so many bytes asked for: a count of no more than these, or else that it failed
+abbrev pub arrival_of : {E : Type 0} → Result ℕ E → ℕ → Option ℕ
+arrival_of (Ok n) asked = Some (min n asked)
+arrival_of (Err e) asked = None
 
 -- how many bytes came
 abbrev pub count_of : Option ℕ → ℕ

@@ -50,11 +50,15 @@ struct Desk {
     course: Course,
 }
 
-// What a read's answer says: so many bytes, none at the end of the input, or its failure.
-fn brought(read: std::io::Result<usize>) -> Option<usize>
-    ensures { result ≡ arrival_of read }
+// What a read's answer says, of so many bytes asked for: it brings no more than these, none at the
+// end of the input, or fails.
+fn brought(read: std::io::Result<usize>, asked: usize) -> Option<usize>
+    ensures { result ≡ arrival_of read asked }
 {
-    read.ok()
+    match read {
+        Ok(count) => Some(count.min(asked)),
+        Err(_) => None,
+    }
 }
 
 // Reads behind the bytes that are held. There is room, so that 0 means the end of the input.
@@ -62,7 +66,8 @@ fn read_more(stdin: &mut Stdin, input: &mut [u8], held: usize) -> Option<usize>
     requires { held < length input.old }
     ensures { Arrives input.old held result input.new }
 {
-    brought(stdin.read(&mut input[held..]))
+    let asked = input.len() - held;
+    brought(stdin.read(&mut input[held..]), asked)
 }
 
 // The play after a read, whose bytes stand behind those that are held.

@@ -6,7 +6,6 @@ use Rattle.std.proofs.Common.{sym, ◌∙◌, true≢false, add-one, length-appe
 use Rattle.std.proofs.Math.Path.{ap}
 use native.Mathlib.Omega.{arith}
 use borrow.Rule.Slice.PartMut.{put_mid, take_put}
-use Rattle.std.specs.Io.{ReadsAtMost}
 use Rattle.commands.specs.Kept.{Keeps}
 use Rattle.commands.specs.Kept.Properties.{keeps_within, keeps_front}
 use Rattle.lines.specs.Line.{line_room}
@@ -33,15 +32,15 @@ nothing (x ∷ xs) e = absurd (omega arith)
 
 -- ---- a read
 
--- what stood in front of the part that was lent is kept
-came_most : {E : Type 0} (got : Result ℕ E) (part : List ℕ) → ReadsAtMost got part → count_of (arrival_of got) ≤ length part
-came_most (Ok n) part m = m.0
-came_most (Err e) part m = omega arith
+brought_most : {E : Type 0} (got : Result ℕ E) (asked : ℕ) → count_of (arrival_of got asked) ≤ asked
+brought_most (Ok n) asked = omega arith
+brought_most (Err e) asked = omega arith
 
+-- what stood in front of the part that was lent is kept
 pub arrives_read : {E : Type 0} (before part : List ℕ) (held : ℕ) (got : Result ℕ E) (a : Option ℕ) → held < length before
-    → length part ≡ length before - held → ReadsAtMost got part → a ≡ arrival_of got
+    → length part ≡ length before - held → a ≡ arrival_of got (length before - held)
     → Arrives before held a (put_mid held (length before - held) before part)
-arrives_read before part held got a h l m e =
+arrives_read before part held got a h l e =
     let k = length before - held in
     let long : length (put_mid held k before part) ≡ length before =
     omega (
@@ -55,7 +54,7 @@ arrives_read before part held got a h l m e =
     record {
       kept = take_put held k before part (omega arith);
       long = long;
-      most = rw (e, long) (omega (arith, came_most got part m));
+      most = rw (e, long) (omega (arith, brought_most got (length before - held)));
     }
 
 pub held_room : (bytes after : List ℕ) (from to held : ℕ) → Keeps bytes from to held after → from ≤ to → to ≤ length bytes

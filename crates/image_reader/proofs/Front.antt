@@ -2,7 +2,7 @@
 -- Assumes nothing.
 use Rattle.std.specs.Prelude.{◌≡◌, refl, Err, Bool, List, length, ◌<◌, ℕ, zero, suc, ◌+◌, ◌≤◌, leb, take, drop, get_or, replicate}
 use Rattle.std.specs.Array.{IsFirstChunk}
-use Rattle.std.proofs.Common.{sym, ap, ◌∙◌, arith}
+use Rattle.std.proofs.Common.{sym, ap, ◌∙◌, arith, le-ltb, length-take-le}
 use Rattle.std.proofs.Math.Seq.{take-take}
 use Rattle.std.proofs.lemmas.List.{drop-take}
 use Rattle.laws.specs.All.{all_to}
@@ -61,6 +61,12 @@ plan_take n s l =
 
 pub plan_front : (n : ℕ) (s y : List ℕ) → IsFirstChunk s y n → plan_size ≤ n → plan_from y ≡ plan_from s
 plan_front n s y f l = ap plan_from f.same ∙ plan_take n s l
+
+pub found_front : (n : ℕ) (s y : List ℕ) → IsFirstChunk s y n → plan_size ≤ n → plan_found y ≡ plan_found s
+unfolding plan_found
+found_front n s y f l =
+    let long : length y ≡ n = ap length f.same ∙ length-take-le n s f.enough in
+    rw (le-ltb (length y) plan_size (omega (arith, long)), le-ltb (length s) plan_size (omega (arith, f.enough)), plan_front n s y f l)
 
 slice_front : (at n : ℕ) (s : List ℕ) → at + 1 ≤ n → slice_from (drop at (take n s)) ≡ slice_from (drop at s)
 unfolding slice_from

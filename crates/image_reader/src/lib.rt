@@ -181,10 +181,10 @@ pub fn plan_of(image: &[u8]) -> Result<Plan, Refusal>
 pub fn state_of(image: &[u8]) -> Result<State, Refusal>
     ensures { result ≡ state_found image.now }
 {
-    let plan = plan_of(image)?;
     let Some(image) = image.first_chunk::<STATE>() else {
         return Err(Refusal::Bare(9));
     };
+    let plan = plan_of(image)?;
     if !released_told(image) {
         return Err(no_state(plan));
     }

@@ -1,11 +1,18 @@
 -- Each public operation's contract admits one outcome.
 -- Assumes nothing.
-use Rattle.std.specs.Prelude.{◌≡◌, ℕ}
+use Rattle.std.specs.Prelude.{◌≡◌, refl, ℕ}
 use Rattle.answer.specs.declared.Answer.{Answer}
+use Rattle.answer.specs.declared.Answer.TheVariants.{No}
+use Rattle.answer.specs.declared.Refusal.TheVariants.{Bare}
 use Rattle.answer.specs.Answer.{bare, at_project, at_kind, not_admitted, number, place, excess, slice}
 use Rattle.answer.specs.Word.{told}
 use Rattle.answer.specs.Outcome.{One}
 use Rattle.answer.specs.Outcome.Properties.{is_one}
+use Rattle.answer.specs.Answer.Properties.{no_is}
+
+-- `Refusal::bare`
+pub refusal_bare_one_outcome : (number : ℕ) → One (λ r. No r ≡ bare number)
+refusal_bare_one_outcome number = record { outcome = Bare number; meets = refl; only = λ w e. no_is w (Bare number) e }
 
 -- `Answer::bare`
 pub bare_one_outcome : (number : ℕ) → One (λ r. r ≡ bare number)

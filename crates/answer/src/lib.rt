@@ -3,6 +3,7 @@
 #![tactic(auto)]
 
 ghost use Rattle.std.specs.Prelude.{◌≡◌};
+ghost use Rattle.answer.specs.declared.Answer.TheVariants.{No};
 ghost use Rattle.answer.specs.Answer.{bare, at_project, at_kind, not_admitted, number, place, excess, slice};
 ghost use Rattle.answer.specs.Word.{told};
 
@@ -28,6 +29,15 @@ pub enum Answer {
 pub struct Written {
     pub answer: Answer,
     pub count: usize,
+}
+
+impl Refusal {
+    // The refusal that `Answer::bare` answers: of an operation whose result is a `Result`.
+    pub fn bare(number: u8) -> Self
+        ensures { No result ≡ bare number }
+    {
+        Self::Bare(number)
+    }
 }
 
 impl Answer {

@@ -161,7 +161,7 @@ fn no_state(plan: Plan) -> Refusal
     ensures { No result ≡ (checked plan and_then bare 10) }
 {
     match plan.check() {
-        Answer::Good => Refusal::Bare(10),
+        Answer::Good => Refusal::bare(10),
         Answer::No(why) => why,
     }
 }
@@ -171,7 +171,7 @@ pub fn plan_of(image: &[u8]) -> Result<Plan, Refusal>
     ensures { result ≡ plan_found image.now }
 {
     let Some(image) = image.first_chunk::<PLAN>() else {
-        return Err(Refusal::Bare(9));
+        return Err(Refusal::bare(9));
     };
     Ok(plan_from(image))
 }
@@ -182,7 +182,7 @@ pub fn state_of(image: &[u8]) -> Result<State, Refusal>
     ensures { result ≡ state_found image.now }
 {
     let Some(image) = image.first_chunk::<STATE>() else {
-        return Err(Refusal::Bare(9));
+        return Err(Refusal::bare(9));
     };
     let plan = plan_of(image)?;
     if !released_told(image) {

@@ -56,7 +56,7 @@ impl State {
             return Err(why);
         }
         if self.plan.frame <= self.slice {
-            return Err(Refusal::Bare(10));
+            return Err(Refusal::bare(10));
         }
         let kinds = self.plan.kind;
         let mut works = [0u8; Plan::KINDS];
@@ -65,7 +65,7 @@ impl State {
         for (i, unit) in self.unit.iter().enumerate() {
             let kind = kinds[i];
             if !unit.fits_place(self.in_use(i), kind) {
-                return Err(Refusal::Bare(10));
+                return Err(Refusal::bare(10));
             }
             if unit.left == 0 {
                 continue;
@@ -76,10 +76,10 @@ impl State {
         }
         let projects = usize::from(self.plan.projects);
         if !sums_fit(&self.sum, projects) {
-            return Err(Refusal::Bare(10));
+            return Err(Refusal::bare(10));
         }
         if !sums_agree(&self.sum, &left, projects) {
-            return Err(Refusal::Bare(16));
+            return Err(Refusal::bare(16));
         }
         Ok(Found { works, until })
     }

@@ -27,6 +27,9 @@ pub and_then_right : (a b : Answer) → (a and_then b) ≡ Good → b ≡ Good
 and_then_right Good b e = e
 and_then_right (No r) b e = cc
 
+pub no_is : (v w : Refusal) → No v ≡ No w → v ≡ w
+no_is v w e = cc
+
 pub refuse_good : (t : Bool) (w : Refusal) → refuse t (No w) ≡ Good → t ≡ false
 refuse_good true w e = cc
 refuse_good false w e = refl

@@ -1,6 +1,8 @@
 -- `image_reader::state_of` meets its contract.
 -- Assumes nothing.
-use Rattle.std.proofs.Common.{sym, ◌∙◌, arith, rules}
+use Rattle.std.specs.Prelude.{Err}
+use Rattle.std.proofs.Common.{sym, ap, ◌∙◌, arith, rules}
+use Rattle.answer.specs.Answer.Properties.{no_is}
 use Rattle.images.specs.Image.{state_size}
 use Rattle.images.specs.Lent.Properties.{state_short, state_untold, state_good, plan_is}
 use Rattle.image_reader.proofs.Front.{found_front, state_front, told_front, plan_unfound}
@@ -12,7 +14,7 @@ returns-in_err-plan c =
     search (rules, plan_unfound)
 
 pub returns-in_default : goal.returns-in_default
-returns-in_default c = state_short _ c.in_default.ensures.cases
+returns-in_default c = ap Err (no_is _ _ c.bare.ensures) ∙ state_short _ c.in_default.ensures.cases
 
 pub returns-then-not-released_told : goal.returns-then-not-released_told
 returns-then-not-released_told c =

@@ -110,29 +110,29 @@ module _ (s : State) where
   found_order a why n is = rw (sym is ∙ n)
 
   -- the frame has no such slice: k is what the check of the plan answered
-  pub found_past : (k : Answer) → k ≡ Good → k ≡ checked s.plan → s.plan.frame ≤ s.slice → ready s ≡ bare 10
-  found_past k good is l = ready_rest s (check_order s k good is) (bare 10) (formed_past s (bare 10) refl l)
+  pub found_past : (k : Answer) → k ≡ Good → k ≡ checked s.plan → (w : Refusal) → No w ≡ bare 10 → s.plan.frame ≤ s.slice → ready s ≡ No w
+  found_past k good is w b l = ready_rest s (check_order s k good is) (No w) (formed_past s (No w) b l)
 
   module _ (i : ℕ) (works due left : List ℕ) (looked : Looked s i works due left) where
     -- a place is not in form
     pub found_place : (u b : Bool) → u ≡ used s i → b ≡ fits_place u (kind_at s i) (unit_of s i) → not b ≡ true → i < 16 →
-        ready s ≡ bare 10
-    found_place u b eu eb t m = ready_rest s looked.order (bare 10) (formed_place s (bare 10) i b refl m (place_found s i u b eu eb) t)
+        (w : Refusal) → No w ≡ bare 10 → ready s ≡ No w
+    found_place u b eu eb t m w e = ready_rest s looked.order (No w) (formed_place s (No w) i b e m (place_found s i u b eu eb) t)
 
     module _ (p : i ≤ 16) (q : 16 ≤ i) (b : Bool) (fits : b ≡ sums_fit s.sum (project_places s)) where
       -- a sum beyond p is not zero
-      pub found_sums : not b ≡ true → ready s ≡ bare 10
-      found_sums t =
+      pub found_sums : not b ≡ true → (w : Refusal) → No w ≡ bare 10 → ready s ≡ No w
+      found_sums t w e =
           let o = looked.order in
-          ready_rest s o (bare 10) (formed_sums s i left o looked.slice_below looked.places p q looked.left_so_far (bare 10) b fits t refl)
+          ready_rest s o (No w) (formed_sums s i left o looked.slice_below looked.places p q looked.left_so_far (No w) b fits t e)
 
       module _ (t : not b ≡ false) (d : Bool) (agree : d ≡ sums_agree s.sum left (project_places s)) where
         -- a sum is not what was found
-        pub found_differ : not d ≡ true → ready s ≡ bare 16
-        found_differ f =
+        pub found_differ : not d ≡ true → (w : Refusal) → No w ≡ bare 16 → ready s ≡ No w
+        found_differ f w e =
             let o = looked.order in
-            ready_rest s o (bare 16)
-            (formed_differ s i left o looked.slice_below looked.places p q looked.left_so_far (bare 16) b fits t d agree f refl)
+            ready_rest s o (No w)
+            (formed_differ s i left o looked.slice_below looked.places p q looked.left_so_far (No w) b fits t d agree f e)
 
         pub found_good : not d ≡ false → (ready s ≡ Good) × AtWork s works due
         found_good f =

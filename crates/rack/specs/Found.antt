@@ -2,6 +2,7 @@
 -- Assumes nothing.
 use Rattle.std.specs.Prelude.{ℕ, ◌≡◌, cond, List, eqb, replicate, Result, Ok, Err}
 use Rattle.laws.specs.Written.{written}
+use Rattle.answer.specs.declared.Answer.{Answer}
 use Rattle.answer.specs.declared.Answer.TheVariants.{Good, No}
 use Rattle.answer.specs.declared.Refusal.{Refusal}
 use Rattle.rack.specs.declared.State.{State}
@@ -32,3 +33,8 @@ pub record AtWork (s : State) (works due : List ℕ) : Type 0 where
 abbrev pub Finds : State → Result Found Refusal → Type 0
 Finds s (Ok r) = (ready s ≡ Good) × AtWork s r.works r.until
 Finds s (Err why) = ready s ≡ No why
+
+-- and what it answers
+abbrev pub answered : Result Found Refusal → Answer
+answered (Ok r) = Good
+answered (Err why) = No why

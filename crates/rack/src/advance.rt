@@ -6,6 +6,7 @@
 ghost use Rattle.std.specs.Prelude.{◌≡◌, ◌+◌, ◌%◌, ◌<◌};
 ghost use Rattle.rack.specs.Advance.{advance_of};
 
+use crate::form::answer_of;
 use crate::{Next, State};
 use answer::Answer;
 
@@ -24,14 +25,12 @@ impl State {
     pub fn advance(mut self) -> Next
         ensures { result ≡ advance_of self }
     {
-        let found = match self.check() {
-            Ok(found) => found,
-            Err(why) => {
-                return Next {
-                    answer: Answer::No(why),
-                    state: self,
-                };
-            }
+        let checked = self.check();
+        let Ok(found) = &checked else {
+            return Next {
+                answer: answer_of(&checked),
+                state: self,
+            };
         };
         let seat = self.seats(&found.works, &found.until);
         let plan = self.plan;

@@ -2,7 +2,7 @@
 // shares: the record order, 10, 16.
 ghost use Rattle.std.specs.Prelude.{◌≡◌, ◌≤◌};
 ghost use Rattle.rack.specs.Form.{sum_fits, sums_fit, sums_agree, ready};
-ghost use Rattle.rack.specs.Found.{Finds};
+ghost use Rattle.rack.specs.Found.{Finds, answered};
 
 use crate::State;
 use answer::{Answer, Refusal};
@@ -13,6 +13,16 @@ use plan::Plan;
 pub(crate) struct Found {
     pub(crate) works: [u8; Plan::KINDS],
     pub(crate) until: [u16; Plan::KINDS],
+}
+
+// What a check answers: good, or the refusal.
+pub(crate) fn answer_of(checked: &Result<Found, Refusal>) -> Answer
+    ensures { result ≡ answered checked.now }
+{
+    match checked {
+        Ok(_) => Answer::Good,
+        Err(why) => Answer::No(*why),
+    }
 }
 
 // Whether a stored sum may stand at its place: any where the plan has that project, 0 where not.

@@ -2,6 +2,7 @@
 ghost use Rattle.std.specs.Prelude.{◌≡◌};
 ghost use Rattle.rack.specs.Release.{release_answer, release_of};
 
+use crate::form::answer_of;
 use crate::{Next, State};
 use answer::Answer;
 use unit::Unit;
@@ -12,12 +13,13 @@ impl State {
     pub fn release(mut self, kind: usize, length: u32) -> Next
         ensures { result ≡ release_of self kind length }
     {
-        if let Err(why) = self.check() {
+        let checked = self.check();
+        let Ok(_) = checked else {
             return Next {
-                answer: Answer::No(why),
+                answer: answer_of(&checked),
                 state: self,
             };
-        }
+        };
         if !self.in_use(kind) {
             return Next {
                 answer: Answer::bare(12),

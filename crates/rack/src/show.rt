@@ -7,6 +7,7 @@ ghost use Rattle.std.specs.Prelude.{◌≡◌};
 ghost use Rattle.rack.specs.Show.{Shows};
 
 use crate::State;
+use crate::form::answer_of;
 use answer::Answer;
 
 impl State {
@@ -14,9 +15,9 @@ impl State {
     pub fn show(self, row: &mut [u8]) -> Answer
         ensures { Shows self row.old result row.new }
     {
-        let found = match self.check() {
-            Ok(found) => found,
-            Err(why) => return Answer::No(why),
+        let checked = self.check();
+        let Ok(found) = &checked else {
+            return answer_of(&checked);
         };
         if row.len() < usize::from(self.plan.cards) {
             return Answer::bare(9);

@@ -1,7 +1,7 @@
 -- Laws of what a check finds: the steps of the pass over the kinds that finds it, its exits, and the seats that are found from it.
 -- Assumes nothing.
-use Rattle.std.specs.Prelude.{◌≡◌, refl, Bool, true, false, not, List, ℕ, ◌+◌, ◌≤◌, ◌<◌, get_or, set, replicate}
-use Rattle.std.proofs.Common.{sym, ap, ◌∙◌, arith, eq-eqb, ne_eqb}
+use Rattle.std.specs.Prelude.{◌≡◌, refl, Result, Ok, Err, Bool, true, false, not, List, ℕ, ◌+◌, ◌≤◌, ◌<◌, get_or, set, replicate}
+use Rattle.std.proofs.Common.{sym, ap, subst, ◌∙◌, arith, eq-eqb, ne_eqb}
 use Rattle.std.proofs.lemmas.List.{get_or-replicate}
 use Rattle.laws.specs.All.{all_to}
 use Rattle.laws.specs.All.Properties.{all_none, all_more}
@@ -16,6 +16,7 @@ use Rattle.plan.specs.Order.Properties.{in_order_good}
 use Rattle.unit.specs.Form.{fits_place}
 use Rattle.seats.specs.Seats.{at, seats_by}
 use Rattle.rack.specs.declared.State.{State}
+use Rattle.rack.specs.declared.form.Found.{Found}
 use Rattle.rack.specs.State.{unit_of, kind_at, kind_places, used, project_places}
 use Rattle.rack.specs.Sums.{left_below}
 use Rattle.rack.specs.Sums.Properties.{below_none, below_again}
@@ -26,7 +27,7 @@ use Rattle.rack.specs.Rank.{until}
 use Rattle.rack.proofs.Laws.Rank.{working_left}
 use Rattle.rack.specs.Seat.{works_of, lowest_at, end_at, seats_of}
 use Rattle.rack.proofs.Laws.Seat.{works_nothing, works_something, seats_are}
-use Rattle.rack.specs.Found.{due_of, works_below, due_below, AtWork}
+use Rattle.rack.specs.Found.{due_of, works_below, due_below, AtWork, Finds, answered}
 
 -- ---- what is put down of a kind
 
@@ -144,6 +145,22 @@ module _ (s : State) where
                 due_in = written_stop i 16 (due_of s) (replicate 16 0) due looked.due_in p q;
               },
             )
+
+-- ---- what a check found, opened; a is its answer
+
+pub found_no : (s : State) (found : Result Found Refusal) (w : Refusal) → Finds s found → found ≡ Err w → ready s ≡ No w
+found_no s found w f e = subst (Finds s) e f
+
+pub found_ok : (s : State) (found : Result Found Refusal) (r : Found) → Finds s found → found ≡ Ok r
+    → (ready s ≡ Good) × AtWork s r.works r.until
+found_ok s found r f e = subst (Finds s) e f
+
+pub answered_no : (found : Result Found Refusal) (a : Answer) (w : Refusal) → found ≡ Err w → a ≡ answered found → a ≡ No w
+answered_no found a w e is = is ∙ ap answered e
+
+pub answered_ready : (s : State) (found : Result Found Refusal) (a : Answer) (w : Refusal) → found ≡ Err w → a ≡ answered found
+    → ready s ≡ No w → a ≡ ready s
+answered_ready s found a w e is r = answered_no found a w e is ∙ sym r
 
 -- ---- what was put down, place by place, and the seats that are found from it
 

@@ -2,22 +2,27 @@
 -- Assumes nothing.
 use Rattle.std.specs.Prelude.{refl}
 use Rattle.std.proofs.Common.{arith, sym}
-use Rattle.rack.specs.State.Properties.{next_moved}
+use Rattle.rack.specs.State.Properties.{next_kept, next_moved}
 use Rattle.rack.specs.Form.Properties.{places_most, ready_says}
 use Rattle.rack.specs.Advance.{advance_of}
+use Rattle.rack.proofs.Laws.Found.{found_no, found_ok, answered_ready, answered_no}
 use Rattle.rack.proofs.Laws.Advance.{ran_none, ran_project, ran_same, ran_sum, ran_one, laid_slice, ran_all}
 use Rattle.rack.proofs.State.advance.Goals as goal
 
-pub returns-in-Err : goal.returns-in-Err
+pub returns-in_default : goal.returns-in_default
 unfolding advance_of
-returns-in-Err c = rw c.in-Err.ensures
+returns-in_default c =
+    next_kept _ _ _ _ _ (answered_no _ _ _ c.in_default.is (search))
+    (answered_ready _ _ _ _ c.in_default.is (search) (found_no _ _ _ c.check-checked.ensures c.in_default.is))
 
 pub seats-seat-requires : goal.seats-seat-requires
-seats-seat-requires c = (ready_says _ c.in-Ok.ensures.0, c.in-Ok.ensures.1)
+seats-seat-requires c =
+    let found = found_ok _ _ _ c.check-checked.ensures c.in-Ok.is in
+    (ready_says _ found.0, found.1)
 
 pub loop-i-init : goal.loop-i-init
 loop-i-init c =
-    let ready = ready_says _ c.in-Ok.ensures.0 in (
+    let ready = ready_says _ (found_ok _ _ _ c.check-checked.ensures c.in-Ok.is).0 in (
       omega arith,
       places_most _ _ ready c.from-i-end.ensures,
       record {
@@ -52,4 +57,4 @@ slice_after-requires c = search laid_slice
 
 pub returns : goal.returns
 unfolding advance_of
-returns c = next_moved _ _ _ _ _ refl (sym c.in-Ok.ensures.0) (search ran_all)
+returns c = next_moved _ _ _ _ _ refl (sym (found_ok _ _ _ c.check-checked.ensures c.in-Ok.is).0) (search ran_all)

@@ -57,8 +57,9 @@ fn sums_agree(sum: &[u16; Plan::PROJECTS], left: &[u16; Plan::PROJECTS], project
 impl State {
     // Whether the plan is in order, the state in form and its sums right: the record order, 10, 16.
     // One pass over the kinds: each place in form, what the seats go by put down, and its slices
-    // left added to its project's. A record of which a place is read by a number that varies is
-    // copied whole; so the kinds are taken out of the plan, and this is one function.
+    // left added to its project's. A record of which a place is read by a number that varies, or of
+    // which a part is lent, is copied whole; so the arrays are taken out of the records, and this is
+    // one function.
     pub(crate) fn check(self) -> Result<Found, Refusal>
         ensures { Finds self result }
     {
@@ -69,10 +70,12 @@ impl State {
             return Err(Refusal::bare(10));
         }
         let kinds = self.plan.kind;
+        let units = self.unit;
+        let sum = self.sum;
         let mut works = [0u8; Plan::KINDS];
         let mut until = [0u16; Plan::KINDS];
         let mut left = [0u16; Plan::PROJECTS];
-        for (i, unit) in self.unit.iter().enumerate() {
+        for (i, unit) in units.iter().enumerate() {
             let kind = kinds[i];
             if !unit.fits_place(self.in_use(i), kind) {
                 return Err(Refusal::bare(10));
@@ -85,10 +88,10 @@ impl State {
             left[usize::from(kind.project)] += unit.left;
         }
         let projects = usize::from(self.plan.projects);
-        if !sums_fit(&self.sum, projects) {
+        if !sums_fit(&sum, projects) {
             return Err(Refusal::bare(10));
         }
-        if !sums_agree(&self.sum, &left, projects) {
+        if !sums_agree(&sum, &left, projects) {
             return Err(Refusal::bare(16));
         }
         Ok(Found { works, until })

@@ -4,7 +4,8 @@ mod open;
 
 ghost use Rattle.std.specs.Prelude.{◌≡◌, ◌≤◌, ◌&&◌, ◌||◌, ◌*◌, Option, ℕ, Bool};
 ghost use Rattle.plan.specs.Order.{within, empty_project, empty_kind, timed, sized, sizes, kind_in_range, checked};
-ghost use Rattle.plan.specs.Order.{tidy_projects, tidy_kinds, unused, kinds_in_range, budgets, ranges};
+ghost use Rattle.plan.specs.Order.{tidy_projects, tidy_kinds, unused, kinds_in_range, budgets};
+ghost use Rattle.answer.specs.declared.Answer.TheVariants.{Good};
 ghost use Rattle.plan.specs.Open.{projects_in_range_but};
 
 use crate::{Kind, Plan, Project};
@@ -81,23 +82,38 @@ impl Plan {
         Answer::Good
     }
 
-    // "places beyond p or n hold zeros"
-    // kept: each stage asks for counts in range; a type of such plans would be made and opened in
-    // `check` and `check_open` alone.
+    // "places beyond p .. hold zeros". This goes over all the places, as does the loop over the
+    // kinds: where few are used, a loop whose length is known is quicker than one over the unused.
+    fn projects_tidy(&self) -> bool
+        ensures { result ≡ tidy_projects self.now }
+    {
+        for (j, project) in self.project.iter().enumerate() {
+            if usize::from(self.projects) <= j && !project.is_empty() {
+                return false;
+            }
+        }
+        true
+    }
+
+    // "places beyond .. n hold zeros"
+    fn kinds_tidy(&self) -> bool
+        ensures { result ≡ tidy_kinds self.now }
+    {
+        for (i, kind) in self.kind.iter().enumerate() {
+            if usize::from(self.kinds) <= i && !kind.is_empty() {
+                return false;
+            }
+        }
+        true
+    }
+
     fn tidy(&self) -> bool
-        requires { (self.now.projects ≤ 8) × (self.now.kinds ≤ 16) }
         ensures { result ≡ (tidy_projects self.now && tidy_kinds self.now) }
     {
-        self.project[usize::from(self.projects)..]
-            .iter()
-            .all(|project| project.is_empty())
-            && self.kind[usize::from(self.kinds)..]
-                .iter()
-                .all(|kind| kind.is_empty())
+        self.projects_tidy() && self.kinds_tidy()
     }
 
     fn unused(&self) -> Answer
-        requires { (self.now.projects ≤ 8) × (self.now.kinds ≤ 16) }
         ensures { result ≡ unused self.now }
     {
         if !self.tidy() {
@@ -106,20 +122,25 @@ impl Plan {
         Answer::Good
     }
 
-    // 4, at the first such project, with one budget skipped or none.
-    fn projects_in_range(&self, skipped: Option<usize>) -> Answer
+    // 4, at the first such project, with one budget skipped or none; and where there is no such
+    // project, the sum of the budgets, which are added up while the projects are at hand.
+    // kept: each stage that goes by the counts asks for counts in range; a type of such plans would
+    // be made and opened in `check` and `check_open` alone.
+    fn projects_in_range(&self, skipped: Option<usize>) -> (Answer, u32)
         requires { self.now.projects ≤ 8 }
-        ensures { result ≡ projects_in_range_but skipped self.now }
+        ensures { (result.0 ≡ projects_in_range_but skipped self.now) × (result.0 ≡ Good → result.1 ≡ budgets self.now) }
     {
+        let mut sum: u32 = 0;
         for (j, project) in self.project[..usize::from(self.projects)]
             .iter()
             .enumerate()
         {
             if !project.in_range(self.cards, self.frame, skipped == Some(j)) {
-                return Answer::at_project(4, j as u8);
+                return (Answer::at_project(4, j as u8), sum);
             }
+            sum += u32::from(project.budget);
         }
-        Answer::Good
+        (Answer::Good, sum)
     }
 
     // 5/6, at the first such kind.
@@ -132,35 +153,6 @@ impl Plan {
             let Answer::Good = answer else {
                 return answer;
             };
-        }
-        Answer::Good
-    }
-
-    fn budgets(&self) -> u32
-        requires { self.now.projects ≤ 8 }
-        ensures { result ≡ budgets self.now }
-    {
-        self.project[..usize::from(self.projects)]
-            .iter()
-            .map(|project| u32::from(project.budget))
-            .sum()
-    }
-
-    // 4, 5/6, 7.
-    fn ranges(&self) -> Answer
-        requires { (self.now.projects ≤ 8) × (self.now.kinds ≤ 16) }
-        ensures { result ≡ ranges self.now }
-    {
-        let projects = self.projects_in_range(None);
-        let Answer::Good = projects else {
-            return projects;
-        };
-        let kinds = self.kinds_in_range();
-        let Answer::Good = kinds else {
-            return kinds;
-        };
-        if u32::from(self.cards) * u32::from(self.frame) < self.budgets() {
-            return Answer::bare(7);
         }
         Answer::Good
     }
@@ -178,6 +170,17 @@ impl Plan {
         let Answer::Good = unused else {
             return unused;
         };
-        self.ranges()
+        let (projects, budgets) = self.projects_in_range(None);
+        let Answer::Good = projects else {
+            return projects;
+        };
+        let kinds = self.kinds_in_range();
+        let Answer::Good = kinds else {
+            return kinds;
+        };
+        if u32::from(self.cards) * u32::from(self.frame) < budgets {
+            return Answer::bare(7);
+        }
+        Answer::Good
     }
 }

@@ -110,6 +110,10 @@ empty_place j n e true q t = rw (← q) (go (ltb j n))
     go false = refl
 empty_place j n e false q t = absurd (true≢false t)
 
+pub full_place : (j used n : ℕ) (e r : Bool) → used ≡ n → used ≤ j → r ≡ e → not r ≡ true → (ltb j n || e) ≡ false
+full_place j used n e true q l p t = absurd (true≢false (sym t))
+full_place j used n e false q l p t = rw (le-ltb j n (omega arith), ← p)
+
 -- a place that holds zeros, used or not
 pub kept_empty : (j n : ℕ) (e : Bool) → e ≡ true → (ltb j n || e) ≡ true
 kept_empty j n e q = empty_place j n e true (sym q) refl

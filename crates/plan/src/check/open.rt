@@ -25,7 +25,7 @@ impl Plan {
         let Answer::Good = there else {
             return there;
         };
-        let projects = self.projects_in_range(Some(project));
+        let (projects, _) = self.projects_in_range(Some(project));
         let Answer::Good = projects else {
             return projects;
         };

@@ -9,9 +9,6 @@ pub returns-in_default : goal.returns-in_default
 unfolding checked_open
 returns-in_default c = search (opened_no, opened_on)
 
-pub unused-unused-requires : goal.unused-unused-requires
-unused-unused-requires c = (search projects_opened, search kinds_opened)
-
 pub returns-in_default-unused : goal.returns-in_default-unused
 unfolding checked_open
 returns-in_default-unused c = search (opened_no, opened_on)
